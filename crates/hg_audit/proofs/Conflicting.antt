@@ -37,7 +37,8 @@ stores_cons j x r s lines = go (is_of j x s) (stored s)
         same true = refl
         same false = refl
 
-    go : (b : Bool) (o : Option Write) → is_some (image_in r (filter_map stored (cond b (s ∷ filter (is_of j x) lines) (filter (is_of j x) lines)))) ≡ (is_some (image_in r (filter_map stored (cond b (s ∷ []) []))) || stores j x r lines)
+    go : (b : Bool) (o : Option Write) → is_some (image_in r (filter_map stored (cond b (s ∷ filter (is_of j x) lines) (filter (is_of j x) lines)))) ≡
+        (is_some (image_in r (filter_map stored (cond b (s ∷ []) []))) || stores j x r lines)
     go true o = here (stored s)
     go false o = refl
 
@@ -69,7 +70,8 @@ numbers_cons P j x s lines h = go (is_of j x s) h
     here None k = (tt, k)
     here (Some n) k = ((k.0, tt), k.1)
 
-    go : (b : Bool) → Each P (filter_map committed (cond b (s ∷ filter (is_of j x) lines) (filter (is_of j x) lines))) → Each P (filter_map committed (cond b (s ∷ []) [])) × Each P (numbers_in j x lines)
+    go : (b : Bool) → Each P (filter_map committed (cond b (s ∷ filter (is_of j x) lines) (filter (is_of j x) lines))) → Each P (filter_map committed (cond b (s ∷ []) [])) ×
+        Each P (numbers_in j x lines)
     go true k = here (committed s) k
     go false k = (tt, k)
 
@@ -102,8 +104,10 @@ onto_numbers P j x (s ∷ xs) es h k =
 pub some_stored : (own : List (Spot × Image)) (lines : List Said) (j x : ℕ) (r : Rid) → AreOwn own lines → is_some (own_at own j x r) ≡ stores j x r lines
 some_stored own lines j x r is = ap is_some (is j x r)
 
-pub open_shown : (own : List (Spot × Image)) (all : List Said) (session at : ℕ) (r : Rid) (w : Writer) (b n : Bool) → AreOwn own (onto all []) → (w.session == session) ≡ false → b ≡ is_some (own_at own w.session w.transaction r) → b ≡ true →
-    Decides n (Each (λ c. at < c) (numbers_in w.session w.transaction (onto all []))) → Decides n (ShowsOpen (stored_in w.session w.transaction all) (numbers_in w.session w.transaction all) session at r w)
+pub open_shown : (own : List (Spot × Image)) (all : List Said) (session at : ℕ) (r : Rid) (w : Writer) (b n : Bool) → AreOwn own (onto all []) → (w.session == session) ≡ false →
+    b ≡ is_some (own_at own w.session w.transaction r) → b ≡ true →
+    Decides n (Each (λ c. at < c) (numbers_in w.session w.transaction (onto all []))) →
+    Decides n (ShowsOpen (stored_in w.session w.transaction all) (numbers_in w.session w.transaction all) session at r w)
 open_shown own all session at r w b n is other e f d = (
   λ t. record {
     other = other;
@@ -113,7 +117,8 @@ open_shown own all session at r w b n is other e f d = (
   λ s. d.1 (onto_numbers (λ c. at < c) w.session w.transaction all [] s.after tt),
 )
 
-pub not_stored : (own : List (Spot × Image)) (all : List Said) (session at : ℕ) (r : Rid) (w : Writer) (b : Bool) → AreOwn own (onto all []) → b ≡ is_some (own_at own w.session w.transaction r) → b ≡ false → ShowsOpen (stored_in w.session w.transaction all) (numbers_in w.session w.transaction all) session at r w → ⊥
+pub not_stored : (own : List (Spot × Image)) (all : List Said) (session at : ℕ) (r : Rid) (w : Writer) (b : Bool) → AreOwn own (onto all []) →
+    b ≡ is_some (own_at own w.session w.transaction r) → b ≡ false → ShowsOpen (stored_in w.session w.transaction all) (numbers_in w.session w.transaction all) session at r w → ⊥
 not_stored own all session at r w b is e f s = false_true (sym f ∙ e ∙ some_stored own (onto all []) w.session w.transaction r is ∙ stores_all w.session w.transaction r all ∙ s.does)
 
 -- ---- what earlier lines store
@@ -125,13 +130,15 @@ or_more false b c h e = h e
 pub stores_front : (j x : ℕ) (r : Rid) (k : ℕ) (lines : List Said) → stores j x r (take k lines) ≡ true → stores j x r lines ≡ true
 stores_front j x r zero lines e = absurd (false_true e)
 stores_front j x r (suc k) [] e = e
-stores_front j x r (suc k) (s ∷ lines) e = stores_cons j x r s lines ∙ or_more (stores j x r (s ∷ [])) (stores j x r (take k lines)) (stores j x r lines) (stores_front j x r k lines) (sym (stores_cons j x r s (take k lines)) ∙ e)
+stores_front j x r (suc k) (s ∷ lines) e = stores_cons j x r s lines ∙ or_more (stores j x r (s ∷ [])) (stores j x r (take k lines)) (stores j x r lines)
+    (stores_front j x r k lines) (sym (stores_cons j x r s (take k lines)) ∙ e)
 
 pub part_at : (lines : List Said) (k : ℕ) → IsPart (earlier_at lines k) lines
 part_at lines k j x r e = stores_front j x r k lines (sym (stores_all j x r (take k lines)) ∙ e)
 
 pub still_shown : (all earlier : List Said) (session at : ℕ) (r : Rid) (w : Writer) (n : Bool) → IsPart earlier all → (w.session == session) ≡ false → IsStillOpen earlier r w →
-    Decides n (Each (λ c. at < c) (numbers_in w.session w.transaction (onto all []))) → Decides n (ShowsOpen (stored_in w.session w.transaction all) (numbers_in w.session w.transaction all) session at r w × IsStillOpen earlier r w)
+    Decides n (Each (λ c. at < c) (numbers_in w.session w.transaction (onto all []))) →
+    Decides n (ShowsOpen (stored_in w.session w.transaction all) (numbers_in w.session w.transaction all) session at r w × IsStillOpen earlier r w)
 still_shown all earlier session at r w n part other still d = (
   λ t. (
     record {
@@ -145,7 +152,8 @@ still_shown all earlier session at r w n part other still d = (
 )
 
 -- of what is kept of open transactions alone, whether a write is open still
-pub open_still : (own : List (Spot × Image)) (earlier : List Said) (r : Rid) (w : Writer) (b : Bool) → AreOpenOwn own earlier → ForgetsOver own earlier → b ≡ is_some (own_at own w.session w.transaction r) → Decides b (IsStillOpen earlier r w)
+pub open_still : (own : List (Spot × Image)) (earlier : List Said) (r : Rid) (w : Writer) (b : Bool) → AreOpenOwn own earlier → ForgetsOver own earlier →
+    b ≡ is_some (own_at own w.session w.transaction r) → Decides b (IsStillOpen earlier r w)
 open_still own earlier r w b is over e = (
   λ t. go (is_over w.session w.transaction earlier) refl (sym e ∙ t),
   λ s. e ∙ ap is_some (is w.session w.transaction s.opened r) ∙ s.does,
@@ -176,11 +184,13 @@ module _ (mode : Mode) (h : History) (all earlier : List Said) (now : Said) (r :
   pub open_own : (w : Writer) → b ≡ true → Decides false (ShowsCause mode h all earlier now r (OpenBy w))
   open_own w f = (λ t. absurd (false_true t), λ s. absurd (false_true (sym s.0 ∙ sym its ∙ f)))
 
-  pub open_run : (command : Command) (w : Writer) (d : Bool) → command ≡ Run → IsOf command mode → b ≡ false → Decides d (ShowsOpen (stored_in w.session w.transaction all) (numbers_in w.session w.transaction all) now.session now.at r w) → Decides d (ShowsCause mode h all earlier now r (OpenBy w))
+  pub open_run : (command : Command) (w : Writer) (d : Bool) → command ≡ Run → IsOf command mode → b ≡ false →
+      Decides d (ShowsOpen (stored_in w.session w.transaction all) (numbers_in w.session w.transaction all) now.session now.at r w) → Decides d (ShowsCause mode h all earlier now r (OpenBy w))
   open_run command w d e o f is = (λ t. (sym its ∙ f, is.0 t, on_run command mode e o (IsStillOpen earlier r w)), λ s. is.1 s.1)
 
   pub open_replay : (command : Command) (w : Writer) (d : Bool) → command ≡ Replay → IsOf command mode → b ≡ false →
-      Decides d (ShowsOpen (stored_in w.session w.transaction all) (numbers_in w.session w.transaction all) now.session now.at r w × IsStillOpen earlier r w) → Decides d (ShowsCause mode h all earlier now r (OpenBy w))
+      Decides d (ShowsOpen (stored_in w.session w.transaction all) (numbers_in w.session w.transaction all) now.session now.at r w × IsStillOpen earlier r w) →
+      Decides d (ShowsCause mode h all earlier now r (OpenBy w))
   open_replay command w d e o f is = (
     λ t. let both = is.0 t in (sym its ∙ f, both.0, on_replay mode (IsStillOpen earlier r w) both.1),
     λ s. is.1 (s.1, off_replay command mode e o (IsStillOpen earlier r w) s.2),

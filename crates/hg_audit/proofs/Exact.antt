@@ -47,7 +47,8 @@ finds_sound mode script printed Sound s f = refl
 finds_sound mode script printed (Unsound line why) s f = absurd (no_fault mode script printed f.0 s f.1)
 
 -- the verdict on what was printed, where no other value has the text
-pub of_text : (script : Script) (bytes : List ℕ) (printed : Printed) (verdict : Verdict) → IsTextOf script bytes printed → ((other : Printed) → IsTextOf script bytes other → other ≡ printed) → IsVerdict script printed verdict → (verdict ≡ Sound) ↔ IsSoundText script bytes
+pub of_text : (script : Script) (bytes : List ℕ) (printed : Printed) (verdict : Verdict) → IsTextOf script bytes printed →
+    ((other : Printed) → IsTextOf script bytes other → other ≡ printed) → IsVerdict script printed verdict → (verdict ≡ Sound) ↔ IsSoundText script bytes
 of_text script bytes printed verdict text only (mode, judged, finding) = (
   λ e. (printed, mode, text, judged, subst (IsFinding mode script printed) e finding),
   λ t. let same : t.0 ≡ printed = only t.0 t.2 in

@@ -22,9 +22,11 @@ if_ok_keeps (Err e) P Q f h = h
 abbrev pub Finds : Mode → Script → Printed → Found → Type 0
 Finds mode script printed found = IsFound mode (in_order mode script.records) printed.lines printed.totals found
 
-pub found_here : (mode : Mode) (script : Script) (printed : Printed) (records : List Record) (lines : List Line) (found same : Found) → IsFound mode records lines printed.totals found → found ≡ same → records ≡ in_order mode script.records → lines ≡ printed.lines → Finds mode script printed same
+pub found_here : (mode : Mode) (script : Script) (printed : Printed) (records : List Record) (lines : List Line) (found same : Found) →
+    IsFound mode records lines printed.totals found → found ≡ same → records ≡ in_order mode script.records → lines ≡ printed.lines → Finds mode script printed same
 found_here mode script printed records lines found same h e f g =
-    subst (λ ls. IsFound mode (in_order mode script.records) ls printed.totals same) g (subst (λ rs. IsFound mode rs lines printed.totals same) f (subst (IsFound mode records lines printed.totals) e h))
+    subst (λ ls. IsFound mode (in_order mode script.records) ls printed.totals same) g
+    (subst (λ rs. IsFound mode rs lines printed.totals same) f (subst (IsFound mode records lines printed.totals) e h))
 
 module _ (mode : Mode) (script : Script) (printed : Printed) (verdict : Verdict) where
   pub shape_found : (k : ℕ) → Finds mode script printed (what.Shape k) → verdict ≡ Unsound (first_record script printed k) whys.Shape → IsFinding mode script printed verdict

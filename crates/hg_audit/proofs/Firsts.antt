@@ -11,7 +11,8 @@ use Rattle.hg_audit.specs.Found.{IsFirst}
 use Rattle.hg_known.specs.declared.said.Said as kept
 use Rattle.hg_known.specs.Lines.{HasRest}
 
-pub first_without : (P : List Said → Said → Type 0) (earlier xs : List Said) (k : ℕ) (now : Said) → k < length xs → now ≡ get_or xs k now → EachAfter P earlier (take k xs) → (P (onto (take k xs) earlier) now → ⊥) → FirstWithout P earlier xs k
+pub first_without : (P : List Said → Said → Type 0) (earlier xs : List Said) (k : ℕ) (now : Said) → k < length xs → now ≡ get_or xs k now → EachAfter P earlier (take k xs) →
+    (P (onto (take k xs) earlier) now → ⊥) → FirstWithout P earlier xs k
 first_without P earlier [] k now less e h f = absurd (omega (arith, less))
 first_without P earlier (x ∷ xs) zero now less e h f = λ p. f (subst (P earlier) (sym e) p)
 first_without P earlier (x ∷ xs) (suc k) now less e h f = let more : k < length xs = omega (arith, less) in (h.0, first_without P (x ∷ earlier) xs k now more e h.1 f)
@@ -20,7 +21,8 @@ first_without P earlier (x ∷ xs) (suc k) now less e h f = let more : k < lengt
 abbrev pub SoFar : (List Said → Said → Type 0) → List Said → ℕ → Option ℕ → Type 0
 SoFar P xs k found = MatchOption found (EachAfter P [] (take k xs)) (λ i. FirstWithout P [] xs i)
 
-pub so_far : (P : List Said → Said → Type 0) (xs : List Said) (k : ℕ) (now : Said) (found result : Option ℕ) (right : Bool) → k < length xs → now ≡ get_or xs k now → AtLine xs k now → SoFar P xs k found → Decides right (P (earlier_at xs k) now) →
+pub so_far : (P : List Said → Said → Type 0) (xs : List Said) (k : ℕ) (now : Said) (found result : Option ℕ) (right : Bool) → k < length xs → now ≡ get_or xs k now →
+    AtLine xs k now → SoFar P xs k found → Decides right (P (earlier_at xs k) now) →
     result ≡ cond (is_some found || right) found (Some k) → SoFar P xs (k + 1) result
 so_far P xs k now (Some i) result right less is at h d e = subst (SoFar P xs (k + 1)) (sym e) h
 so_far P xs k now None result true less is at h d e = subst (SoFar P xs (k + 1)) (sym e) (each_more P xs k now at h (d.0 refl))

@@ -30,7 +30,8 @@ pub gone : (r : Rid) (xs : List Rid) → is_among r (filter (λ other. not (same
 gone r [] = refl
 gone r (x ∷ xs) = go (same_rid x r) refl (gone r xs)
   where
-    go : (b : Bool) → same_rid x r ≡ b → is_among r (filter (λ other. not (same_rid other r)) xs) ≡ false → is_among r (cond (not b) (x ∷ filter (λ other. not (same_rid other r)) xs) (filter (λ other. not (same_rid other r)) xs)) ≡ false
+    go : (b : Bool) → same_rid x r ≡ b → is_among r (filter (λ other. not (same_rid other r)) xs) ≡ false →
+        is_among r (cond (not b) (x ∷ filter (λ other. not (same_rid other r)) xs) (filter (λ other. not (same_rid other r)) xs)) ≡ false
     go true e k = k
     go false e k = neither (same_rid r x) (is_among r (filter (λ other. not (same_rid other r)) xs)) (same_back r x ∙ e) k
 
@@ -99,7 +100,8 @@ in_history first (g ∷ gs) r n s = any_append (same_rid r) (group_rids g) (flat
     or_later true b e = refl
     or_later false b e = e
 
-    go : (b : Bool) → IsSome (group_image r (cond b g (group_from (suc first) gs n))) → (IsSome (group_image r (group_from (suc first) gs n)) → is_among r (flat_map group_rids gs) ≡ true) → (is_among r (group_rids g) || is_among r (flat_map group_rids gs)) ≡ true
+    go : (b : Bool) → IsSome (group_image r (cond b g (group_from (suc first) gs n))) →
+        (IsSome (group_image r (group_from (suc first) gs n)) → is_among r (flat_map group_rids gs) ≡ true) → (is_among r (group_rids g) || is_among r (flat_map group_rids gs)) ≡ true
     go true s more = or_first (is_among r (group_rids g)) (is_among r (flat_map group_rids gs)) (in_group r g ∙ s)
     go false s more = or_later (is_among r (group_rids g)) (is_among r (flat_map group_rids gs)) (more s)
 
@@ -136,24 +138,28 @@ filter_apart a b r same (x ∷ xs) e =
     (λ i. cond (same x out.0 i) (x ∷ filter_apart a b r same xs out.1 i) (filter_apart a b r same xs out.1 i))
 
 -- a test that changes at one record alone
-pub one_counted : (a b : Rid → Bool) (r : Rid) → ((q : Rid) → same_rid r q ≡ false → b q ≡ a q) → a r ≡ false → (xs : List Rid) → NoneTwice xs → is_among r xs ≡ true → length (filter b xs) ≡ length (filter a xs) + cond (b r) 1 0
+pub one_counted : (a b : Rid → Bool) (r : Rid) → ((q : Rid) → same_rid r q ≡ false → b q ≡ a q) → a r ≡ false → (xs : List Rid) → NoneTwice xs → is_among r xs ≡ true →
+    length (filter b xs) ≡ length (filter a xs) + cond (b r) 1 0
 one_counted a b r same was [] t m = absurd (false_true m)
 one_counted a b r same was (x ∷ xs) t m = go (same_rid r x) refl m (one_counted a b r same was xs t.1)
   where
-    go : (v : Bool) → same_rid r x ≡ v → (v || is_among r xs) ≡ true → (is_among r xs ≡ true → length (filter b xs) ≡ length (filter a xs) + cond (b r) 1 0) → length (filter b (x ∷ xs)) ≡ length (filter a (x ∷ xs)) + cond (b r) 1 0
+    go : (v : Bool) → same_rid r x ≡ v → (v || is_among r xs) ≡ true → (is_among r xs ≡ true → length (filter b xs) ≡ length (filter a xs) + cond (b r) 1 0) →
+        length (filter b (x ∷ xs)) ≡ length (filter a (x ∷ xs)) + cond (b r) 1 0
     go true e m more =
         let is : r ≡ x = same_rid_equal r x e in
         let rest : length (filter b xs) ≡ length (filter a xs) = ap length (filter_apart a b r same xs (ap (λ q. is_among q xs) is ∙ t.0)) in
         let new : cond (b x) 1 0 ≡ cond (b r) 1 0 = ap (λ q. cond (b q) 1 0) (sym is) in
         let old : cond (a x) 1 0 ≡ 0 = ap (λ q. cond (a q) 1 0) (sym is) ∙ ap (λ v. cond v 1 0) was in
-        sum (length (filter b (x ∷ xs))) (length (filter a (x ∷ xs))) (cond (b x) 1 0) (cond (a x) 1 0) (cond (b r) 1 0) (length (filter b xs)) (length (filter a xs)) (count_cons b x xs) (count_cons a x xs) rest new old
+        sum (length (filter b (x ∷ xs))) (length (filter a (x ∷ xs))) (cond (b x) 1 0) (cond (a x) 1 0) (cond (b r) 1 0) (length (filter b xs)) (length (filter a xs))
+        (count_cons b x xs) (count_cons a x xs) rest new old
       where
         sum : (lb la bx ax br rb ra : ℕ) → lb ≡ bx + rb → la ≡ ax + ra → rb ≡ ra → bx ≡ br → ax ≡ 0 → lb ≡ la + br
         sum lb la bx ax br rb ra e f g h k = omega (arith, e, f, g, h, k)
     go false e m more =
         let rest : length (filter b xs) ≡ length (filter a xs) + cond (b r) 1 0 = more m in
         let alike : cond (b x) 1 0 ≡ cond (a x) 1 0 = ap (λ v. cond v 1 0) (same x e) in
-        sum (length (filter b (x ∷ xs))) (length (filter a (x ∷ xs))) (cond (b x) 1 0) (cond (a x) 1 0) (cond (b r) 1 0) (length (filter b xs)) (length (filter a xs)) (count_cons b x xs) (count_cons a x xs) rest alike
+        sum (length (filter b (x ∷ xs))) (length (filter a (x ∷ xs))) (cond (b x) 1 0) (cond (a x) 1 0) (cond (b r) 1 0) (length (filter b xs)) (length (filter a xs))
+        (count_cons b x xs) (count_cons a x xs) rest alike
       where
         sum : (lb la bx ax br rb ra : ℕ) → lb ≡ bx + rb → la ≡ ax + ra → rb ≡ ra + br → bx ≡ ax → lb ≡ la + br
         sum lb la bx ax br rb ra e f g h = omega (arith, e, f, g, h)
@@ -162,7 +168,8 @@ pub fewer : (p b : Rid → Bool) (xs : List Rid) → length (filter (λ r. p r &
 fewer p b [] = omega arith
 fewer p b (x ∷ xs) = go (p x) (b x) (fewer p b xs)
   where
-    go : (u v : Bool) → length (filter (λ r. p r && b r) xs) ≤ length (filter p xs) → length (cond (u && v) (x ∷ filter (λ r. p r && b r) xs) (filter (λ r. p r && b r) xs)) ≤ length (cond u (x ∷ filter p xs) (filter p xs))
+    go : (u v : Bool) → length (filter (λ r. p r && b r) xs) ≤ length (filter p xs) →
+        length (cond (u && v) (x ∷ filter (λ r. p r && b r) xs) (filter (λ r. p r && b r) xs)) ≤ length (cond u (x ∷ filter p xs) (filter p xs))
     go true true h = omega (arith, h)
     go true false h = omega (arith, h)
     go false v h = h
@@ -212,7 +219,8 @@ pub over_rid : (r q : Rid) (n m : ℕ) → rid_cmp r q ≡ Less → IsOver (slot
 over_rid r q n m e = ap (λ o. ordering_then o (nat_cmp n m)) e
 
 -- what comes before the next is not written
-pub none_before : (writes : List (Slot × Image)) (r : Rid) (n : ℕ) (found : Option Rid) → IsNextRid writes r n found → (q : Rid) (m : ℕ) → before found q ≡ true → IsOver (slot r n) (slot q m) → image_at writes q m ≡ None
+pub none_before : (writes : List (Slot × Image)) (r : Rid) (n : ℕ) (found : Option Rid) → IsNextRid writes r n found → (q : Rid) (m : ℕ) → before found q ≡ true →
+    IsOver (slot r n) (slot q m) → image_at writes q m ≡ None
 none_before writes r n None next q m e over = next q m over
 none_before writes r n (Some s) next q m e over =
     none_if (image_at writes q m) (λ there. not_before (rid_cmp q s) e (ap is_gt (sym (rids_total.antisymm s q)) ∙ gt_then (rid_cmp s q) (nat_cmp next.0 m) (next.3 q m over there)))
@@ -268,7 +276,8 @@ module _ (h : History) (writes : List (Slot × Image)) (shows : IsOfHistory h wr
     where
       go : (q : Rid) (b : Bool) → before found q ≡ b → (is_row h q && before found q) ≡ false
       go q false e = and_no (is_row h q) (before found q) e
-      go q true e = no_and (is_row h q) (before found q) (not_row q (λ m. none_if (image_at writes q m) (λ s. false_true (subst IsSome (none_before writes least_rid 0 found next q m e (over_least q m (within q m s).0)) s))))
+      go q true e = no_and (is_row h q) (before found q) (not_row q
+          (λ m. none_if (image_at writes q m) (λ s. false_true (subst IsSome (none_before writes least_rid 0 found next q m e (over_least q m (within q m s).0)) s))))
 
   pub rid_rises : (r s : Rid) → IsNextRid writes r (length h) (Some s) → rid_cmp r s ≡ Less
   rid_rises r s next = then_less (rid_cmp r s) (nat_cmp (length h) next.0) next.1 (number_under (length h) next.0 (within s next.0 next.2).1)
@@ -284,7 +293,8 @@ module _ (h : History) (writes : List (Slot × Image)) (shows : IsOfHistory h wr
 
   pub next_met : (r : Rid) (found : Option Rid) → IsWritten writes r → IsNextRid writes r (length h) found → met h found ≡ met h (Some r) + cond (is_row h r) 1 0
   next_met r found there next =
-      one_counted (λ q. is_row h q && before (Some r) q) (λ q. is_row h q && before found q) r (λ q other. same q (rid_cmp r q) refl other) old (rids h) (once_twice (flat_map group_rids h)) (among_rids r there)
+      one_counted (λ q. is_row h q && before (Some r) q) (λ q. is_row h q && before found q) r (λ q other. same q (rid_cmp r q) refl other) old (rids h)
+      (once_twice (flat_map group_rids h)) (among_rids r there)
       ∙ ap (λ b. met h (Some r) + cond b 1 0) (and_yes (is_row h r) (before found r) (before_that r found next r not_itself))
     where
       not_itself : rid_cmp r r ≡ Less → ⊥

@@ -55,7 +55,8 @@ module _ (h : History) (earlier : List Said) (now : Said) (own : List (Spot × I
       ap (λ o. (unwrap_or o (visible h (record_at table key) now.at)).row) (sym (is (record_at table key)))
       ∙ go (own_at own now.session now.transaction (record_at table key)) (a key low high) (b key low high)
     where
-      go : (o : Option Image) → (unwrap_or o nothing).row ≡ None → (cond (is_some o) nothing (visible h (record_at table key) now.at)).row ≡ None → (unwrap_or o (visible h (record_at table key) now.at)).row ≡ None
+      go : (o : Option Image) → (unwrap_or o nothing).row ≡ None → (cond (is_some o) nothing (visible h (record_at table key) now.at)).row ≡ None →
+          (unwrap_or o (visible h (record_at table key) now.at)).row ≡ None
       go None e f = f
       go (Some i) e f = e
 
@@ -116,7 +117,8 @@ passed_all look first from to passed rest k low high = cases (nat_lt k from) (λ
 abbrev pub PassedDown : (ℕ → Image) → ℕ → ℕ → Type 0
 PassedDown look to last = (key : ℕ) → to < key → key ≤ last → (look key).row ≡ None
 
-pub down_more : (look : ℕ → Image) (to last key low : ℕ) → PassedDown look to last → ((k : ℕ) → key < k → k ≤ to → (look k).row ≡ None) → (look key).row ≡ None → key ≤ low + 1 → PassedDown look low last
+pub down_more : (look : ℕ → Image) (to last key low : ℕ) → PassedDown look to last → ((k : ℕ) → key < k → k ≤ to → (look k).row ≡ None) → (look key).row ≡ None → key ≤ low + 1 →
+    PassedDown look low last
 down_more look to last key low passed between here less k over within =
     cases (nat_lt to k)
     (λ e. passed k (ltb-true to k e) within)
@@ -126,14 +128,16 @@ down_more look to last key low passed between here less k over within =
 
 pub from_here : (look : ℕ → Image) (key to : ℕ) → ((k : ℕ) → key < k → k ≤ to → (look k).row ≡ None) → (look key).row ≡ None → (k : ℕ) → key ≤ k → k ≤ to → (look k).row ≡ None
 from_here look key to over here k low high =
-    cases (nat_lt key k) (λ e. over k (ltb-true key k e) high) (λ e. let most : k ≤ key = ltb-false key k e in let same : key ≡ k = omega (arith, low, most) in subst (λ n. (look n).row ≡ None) same here)
+    cases (nat_lt key k) (λ e. over k (ltb-true key k e) high) (λ e. let most : k ≤ key = ltb-false key k e in let same : key ≡ k = omega (arith, low, most) in
+    subst (λ n. (look n).row ≡ None) same here)
 
 pub down_all : (look : ℕ → Image) (from to last : ℕ) → PassedDown look to last → ((k : ℕ) → from ≤ k → k ≤ to → (look k).row ≡ None) → NoneSeen look from last
 down_all look from to last passed rest k low high = cases (nat_lt to k) (λ e. passed k (ltb-true to k e) high) (λ e. rest k low (ltb-false to k e))
 
 -- ---- whether something was stored
 
-pub wrote_is : (own : List (Spot × Image)) (j x : ℕ) (earlier : List Said) (found : Option Rid) → IsNextOwn own j x (record { table = record { 0 = 0 }; key = 0 }) found → ((r : Rid) → IsOwn own earlier j x r) → is_some found ≡ is_written (stored_in j x earlier)
+pub wrote_is : (own : List (Spot × Image)) (j x : ℕ) (earlier : List Said) (found : Option Rid) → IsNextOwn own j x (record { table = record { 0 = 0 }; key = 0 }) found →
+    ((r : Rid) → IsOwn own earlier j x r) → is_some found ≡ is_written (stored_in j x earlier)
 wrote_is own j x earlier None next is = sym (none (stored_in j x earlier) (λ r. sym (is r) ∙ next r (from_least r)))
   where
     none : (ws : List Write) → ((r : Rid) → image_in r ws ≡ None) → is_written ws ≡ false

@@ -79,7 +79,8 @@ module _ (earlier : List Said) (held : List Told) where
       ∙ sym (open_next earlier j ∙ ap (λ o. open_up_to earlier j ++ cons_option o []) e)
 
   pub held_split : (told j : ℕ) (t : Told) → AtLine held told t → SameUpTo told j → pairs held ≡ open_up_to earlier j ++ (t.session, t.number) ∷ pairs (drop (told + 1) held)
-  held_split told j t at same = ap pairs at.all ∙ map-append (λ (t : Told). (t.session, t.number)) (take told held) (t ∷ drop (told + 1) held) ∙ ap (λ ps. ps ++ (t.session, t.number) ∷ pairs (drop (told + 1) held)) same
+  held_split told j t at same = ap pairs at.all ∙ map-append (λ (t : Told). (t.session, t.number)) (take told held) (t ∷ drop (told + 1) held) ∙
+      ap (λ ps. ps ++ (t.session, t.number) ∷ pairs (drop (told + 1) held)) same
 
   module _ (most : ℕ) (top : most ≡ greatest (map (λ (s : Said). s.session) earlier)) where
     -- a session is open, and nothing more is held
@@ -89,10 +90,12 @@ module _ (earlier : List Said) (held : List Told) where
         longer (open_up_to earlier j) split.0 (j + 1, at) (sym same ∙ ap pairs (take_all held told over) ∙ all ∙ sym (all_open earlier most top) ∙ split.1)
 
     -- another is held than is open
-    pub another : (told j at : ℕ) (t : Told) → AtLine held told t → SameUpTo told j → j < most → open_at earlier (j + 1) ≡ Some (j + 1, at) → pairs held ≡ open_snapshots earlier → (t.session ≡ j + 1) × (t.number ≡ at)
+    pub another : (told j at : ℕ) (t : Told) → AtLine held told t → SameUpTo told j → j < most → open_at earlier (j + 1) ≡ Some (j + 1, at) → pairs held ≡ open_snapshots earlier →
+        (t.session ≡ j + 1) × (t.number ≡ at)
     another told j at t here same less e all =
         let split = open_split earlier j most (j + 1, at) less e in
-        let same_pair = heads (open_up_to earlier j) (pairs (drop (told + 1) held)) split.0 (t.session, t.number) (j + 1, at) (sym (held_split told j t here same) ∙ all ∙ sym (all_open earlier most top) ∙ split.1) in
+        let same_pair = heads (open_up_to earlier j) (pairs (drop (told + 1) held)) split.0 (t.session, t.number) (j + 1, at) (sym (held_split told j t here same) ∙ all ∙
+        sym (all_open earlier most top) ∙ split.1) in
         (ap (λ (p : ℕ × ℕ). p.0) same_pair, ap (λ (p : ℕ × ℕ). p.1) same_pair)
 
     -- all is held

@@ -13,7 +13,8 @@ use Rattle.hg_base.proofs.ListFacts.{append_nil, cases}
 use Rattle.hg_audit.specs.Verdict.{last_record}
 use Rattle.hg_known.proofs.Walking.{AtLine, take_all}
 
-pub records_next : (tables : List Declaration) (xs : List Line) (k : ℕ) (line : Line) → AtLine xs k line → length (flat_map (line_records tables) (take (k + 1) xs)) ≡ length (flat_map (line_records tables) (take k xs)) + length (line_records tables line)
+pub records_next : (tables : List Declaration) (xs : List Line) (k : ℕ) (line : Line) → AtLine xs k line →
+    length (flat_map (line_records tables) (take (k + 1) xs)) ≡ length (flat_map (line_records tables) (take k xs)) + length (line_records tables line)
 records_next tables xs k line at =
     ap (λ ys. length (flat_map (line_records tables) ys)) at.up_to
     ∙ ap length (flat_map-append (line_records tables) (take k xs) (line ∷ []))
@@ -27,7 +28,8 @@ same_before xs k many h f = cases (nat_lt k (length xs))
     (λ e. let over : length xs ≤ k = ltb-false k (length xs) e in
     take_all xs k over ∙ sym (take_all xs many (omega (arith, over, h))))
 
-pub last_is : (script : Script) (printed : Printed) (lines : List Line) (before at : ℕ) → printed.lines ≡ lines → before ≡ length (flat_map (line_records script.tables) (take (length lines) lines)) → at ≡ before + 6 → at ≡ last_record script printed
+pub last_is : (script : Script) (printed : Printed) (lines : List Line) (before at : ℕ) → printed.lines ≡ lines →
+    before ≡ length (flat_map (line_records script.tables) (take (length lines) lines)) → at ≡ before + 6 → at ≡ last_record script printed
 last_is script printed lines before at same e f =
     let all = ap (λ ys. length (flat_map (line_records script.tables) ys)) (take_all lines (length lines) (omega arith)) in
     let here = ap (λ ys. length (flat_map (line_records script.tables) ys)) same in

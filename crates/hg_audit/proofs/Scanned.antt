@@ -114,7 +114,8 @@ module _ (look : ℕ → Image) (low high : ℕ) where
   below_all [] first key k h = tt
   below_all (p ∷ ps) first key k h = let l : p.0 < first = h.0 in (omega (arith, k, l), below_all ps first key k h.1)
 
-  pub scan_more : (rows : Rows) (first key : ℕ) (row : List Value) (from : Option ℕ) → Scanning rows (Some first) → first ≤ key → key ≤ high → (look key).row ≡ Some row → ((k : ℕ) → first ≤ k → k < key → (look k).row ≡ None) → SomeIff from (key + 1 < 18446744073709551616) (key + 1) → high < 18446744073709551616 → Scanning (rows ++ (key, row) ∷ []) from
+  pub scan_more : (rows : Rows) (first key : ℕ) (row : List Value) (from : Option ℕ) → Scanning rows (Some first) → first ≤ key → key ≤ high → (look key).row ≡ Some row →
+      ((k : ℕ) → first ≤ k → k < key → (look k).row ≡ None) → SomeIff from (key + 1 < 18446744073709551616) (key + 1) → high < 18446744073709551616 → Scanning (rows ++ (key, row) ∷ []) from
   scan_more rows first key row from h over within seen gap next small = record {
     ascend = ascends_push rows (key, row) h.ascend below;
     each = each_snoc IsRow rows (key, row) h.each (low_key, within, seen);
@@ -132,7 +133,8 @@ module _ (look : ℕ → Image) (low high : ℕ) where
       last_of k b = (each_right (λ (p : ℕ × List Value). p.0 < k) rows ((key, row) ∷ []) b).0
 
       is_next : (from : Option ℕ) → SomeIff from (key + 1 < 18446744073709551616) (key + 1) → IsNext low (rows ++ (key, row) ∷ []) from
-      is_next None none = λ k j b. let l = last_of k b in cases (nat_lt k 18446744073709551616) (λ e. absurd (let m : k < 18446744073709551616 = ltb-true k 18446744073709551616 e in none (omega (arith, l, m)))) (λ e. ltb-false k 18446744073709551616 e)
+      is_next None none = λ k j b. let l = last_of k b in cases (nat_lt k 18446744073709551616)
+          (λ e. absurd (let m : k < 18446744073709551616 = ltb-true k 18446744073709551616 e in none (omega (arith, l, m)))) (λ e. ltb-false k 18446744073709551616 e)
       is_next (Some n) (fits, is) = (
         omega (arith, is, low_key),
         each_snoc (λ p. p.0 < n) rows (key, row) (below_all rows key n (omega (arith, is)) below) (omega (arith, is)),
@@ -141,7 +143,8 @@ module _ (look : ℕ → Image) (low high : ℕ) where
 
       upto : (from : Option ℕ) → SomeIff from (key + 1 < 18446744073709551616) (key + 1) → (k : ℕ) → k ≤ high → IsPassed from k → (k ≤ key) ⊎ (18446744073709551616 ≤ k)
       upto None none k l passed = cases (nat_lt key k)
-          (λ e. inr (let m : key < k = ltb-true key k e in cases (nat_lt k 18446744073709551616) (λ f. absurd (let n : k < 18446744073709551616 = ltb-true k 18446744073709551616 f in none (omega (arith, m, n)))) (λ f. ltb-false k 18446744073709551616 f)))
+          (λ e. inr (let m : key < k = ltb-true key k e in cases (nat_lt k 18446744073709551616)
+          (λ f. absurd (let n : k < 18446744073709551616 = ltb-true k 18446744073709551616 f in none (omega (arith, m, n)))) (λ f. ltb-false k 18446744073709551616 f)))
           (λ e. inl (ltb-false key k e))
       upto (Some n) (fits, is) k l passed = inl (omega (arith, is, passed))
 
@@ -202,5 +205,6 @@ module _ (look : ℕ → Image) (low high : ℕ) where
       high_k = let top : q.0 ≤ high = (its_row rows rest q are).1 in omega (arith, below, top)
 
       go : IsTold (rows ++ q ∷ rest) k → (look k).row ≡ None
-      go (inl e) = absurd (none_here k (rows ++ q ∷ rest) (each_both (λ p. p.0 ≡ k → ⊥) rows (q ∷ rest) (not_below k first rows j h.next.1) (λ e. omega (arith, e, below), not_above k q.0 rest below (ascends_split rows rest q are.ascend).1)) e)
+      go (inl e) = absurd (none_here k (rows ++ q ∷ rest) (each_both (λ p. p.0 ≡ k → ⊥) rows (q ∷ rest) (not_below k first rows j h.next.1)
+          (λ e. omega (arith, e, below), not_above k q.0 rest below (ascends_split rows rest q are.ascend).1)) e)
       go (inr e) = e

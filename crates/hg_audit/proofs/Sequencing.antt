@@ -38,10 +38,12 @@ out_of_shape (r ∷ rs) [] k f h = h
 out_of_shape (r ∷ rs) (line ∷ lines) zero f h = f h.0
 out_of_shape (r ∷ rs) (line ∷ lines) (suc k) f h = out_of_shape rs lines k f.1 h.1
 
-pub not_in_shape : (records : List Record) (lines : List Line) (found : Option ℕ) → is_some found ≡ true → MatchOption found (HasShape records lines) (FirstOutOfShape records lines) → HasShape records lines → ⊥
+pub not_in_shape : (records : List Record) (lines : List Line) (found : Option ℕ) → is_some found ≡ true →
+    MatchOption found (HasShape records lines) (FirstOutOfShape records lines) → HasShape records lines → ⊥
 not_in_shape records lines None e f h = false_true e
 not_in_shape records lines (Some k) e f h = out_of_shape records lines k f h
 
-pub in_its_shape : (records : List Record) (lines : List Line) (found : Option ℕ) → is_some found ≡ false → MatchOption found (HasShape records lines) (FirstOutOfShape records lines) → HasShape records lines
+pub in_its_shape : (records : List Record) (lines : List Line) (found : Option ℕ) → is_some found ≡ false →
+    MatchOption found (HasShape records lines) (FirstOutOfShape records lines) → HasShape records lines
 in_its_shape records lines None e f = f
 in_its_shape records lines (Some k) e f = absurd (false_true (sym e))

@@ -10,7 +10,8 @@ use Rattle.hg_decide.specs.Audit.{IsRightReply, IsKnown}
 use Rattle.hg_audit.specs.declared.fault.Found.TheVariants.{Right}
 use Rattle.hg_audit.specs.Found.{IsFound}
 
-pub each_after_two : (P Q R : List Said → Said → Type 0) → ((earlier : List Said) (now : Said) → P earlier now → Q earlier now → R earlier now) → (earlier xs : List Said) → EachAfter P earlier xs → EachAfter Q earlier xs → EachAfter R earlier xs
+pub each_after_two : (P Q R : List Said → Said → Type 0) → ((earlier : List Said) (now : Said) → P earlier now → Q earlier now → R earlier now) → (earlier xs : List Said) →
+    EachAfter P earlier xs → EachAfter Q earlier xs → EachAfter R earlier xs
 each_after_two P Q R f earlier [] p q = tt
 each_after_two P Q R f earlier (x ∷ xs) p q = (f earlier x p.0 q.0, each_after_two P Q R f (x ∷ earlier) xs p.1 q.1)
 
@@ -23,7 +24,8 @@ sound_of mode script printed (shape, history, judged) =
         right = record {
           whole = history.0;
           kept = history.1;
-          lines = each_after_two (IsRightReply mode all) (IsKnown mode all) (IsRight mode (history_of all) all) (λ earlier now a k. record { reply = a.0; conflict = a.1; fresh = k }) [] all judged.0 judged.1;
+          lines = each_after_two (IsRightReply mode all) (IsKnown mode all) (IsRight mode (history_of all) all)
+              (λ earlier now a k. record { reply = a.0; conflict = a.1; fresh = k }) [] all judged.0 judged.1;
         };
       };
       totals = judged.2;

@@ -30,10 +30,15 @@ use Rattle.hg_backup.proofs.Quiet.{IsCollecting, IsSilent, reader_silent, rounds
 
 -- ---- the whole
 
-replies_said : (P : Reply → Type 0) (earlier : List Said) (rs : List Record) (lines : List Line) → Each (λ (line : Line). P line.reply) lines → Each (λ (s : Said). P s.reply) (said_from earlier rs lines)
+replies_said : (P : Reply → Type 0) (earlier : List Said) (rs : List Record) (lines : List Line) → Each (λ (line : Line). P line.reply) lines →
+    Each (λ (s : Said). P s.reply) (said_from earlier rs lines)
 replies_said P earlier [] lines h = tt
 replies_said P earlier (r ∷ rs) [] h = tt
-replies_said P earlier (r ∷ rs) (line ∷ lines) h = (subst P (sym (said_says (last_of r.session earlier) r line.reply r.statement).2) h.0, replies_said P (said earlier r line.reply ∷ earlier) rs lines h.1)
+replies_said P earlier (r ∷ rs) (line ∷ lines) h = (
+  subst P (sym (said_says (last_of r.session earlier) r line.reply r.statement).2) h.0,
+  replies_said P
+      (said earlier r line.reply ∷ earlier) rs lines h.1,
+)
 
 module _ (rounds : ℕ) (script : Script) (ats : List ℕ) (printed : Printed) (s : IsSoundWith rounds script ats printed) where
   abbrev j : ℕ
@@ -70,7 +75,8 @@ module _ (rounds : ℕ) (script : Script) (ats : List ℕ) (printed : Printed) (
   both_is = said_with rounds script ats lines shape
 
   all_is : xs ++ zs ≡ all
-  all_is = sym (said_alone rounds script ats lines shape ∙ ap (λ l. xs ++ l) (rounds_same (onto xs []) (onto ys (onto xs [])) (all_rounds rounds) (drop (session_lines script) lines) (each_round rounds)))
+  all_is = sym (said_alone rounds script ats lines shape ∙ ap (λ l. xs ++ l)
+      (rounds_same (onto xs []) (onto ys (onto xs [])) (all_rounds rounds) (drop (session_lines script) lines) (each_round rounds)))
 
   same : history_of both ≡ history_of all
   same = history_alone rounds script ats lines shape
@@ -103,7 +109,8 @@ module _ (rounds : ℕ) (script : Script) (ats : List ℕ) (printed : Printed) (
 abbrev NoHold : Script → Reply → Type 0
 NoHold script reply = IfSome (report_of reply) (λ (sweep : Sweep). Each (IsOfOther script) sweep.held)
 
-all_held : (script : Script) (ats : List ℕ) (said_all : List Said) (held : List Told) → Each (IsOfOther script) held → Each (λ (told : Told). IsHeld said_all told ⊎ IsReaders script ats told) held → Each (IsHeld said_all) held
+all_held : (script : Script) (ats : List ℕ) (said_all : List Said) (held : List Told) → Each (IsOfOther script) held →
+    Each (λ (told : Told). IsHeld said_all told ⊎ IsReaders script ats told) held → Each (IsHeld said_all) held
 all_held script ats said_all [] n q = tt
 all_held script ats said_all (told ∷ held) n q = (go q.0, all_held script ats said_all held n.1 q.1)
   where
@@ -111,25 +118,39 @@ all_held script ats said_all (told ∷ held) n q = (go q.0, all_held script ats 
     go (inl k) = k
     go (inr k) = absurd (true_false (sym ((Decides-eqb told.session (reader_of script)).1 k.session) ∙ n.0))
 
-all_reported : (script : Script) (ats : List ℕ) (h : History) (said_all earlier : List Said) (o : Option Sweep) → IfSome o (λ (sweep : Sweep). Each (IsOfOther script) sweep.held) → IfSome o (IsReportedBut script ats h said_all earlier) → IfSome o (IsReported h said_all earlier)
+all_reported : (script : Script) (ats : List ℕ) (h : History) (said_all earlier : List Said) (o : Option Sweep) → IfSome o (λ (sweep : Sweep). Each (IsOfOther script) sweep.held) →
+    IfSome o (IsReportedBut script ats h said_all earlier) → IfSome o (IsReported h said_all earlier)
 all_reported script ats h said_all earlier None n q = tt
-all_reported script ats h said_all earlier (Some sweep) n q = record { rising = q.rising; horizon = q.horizon; mark = q.mark; sessions = q.sessions; held = all_held script ats said_all sweep.held n q.held }
+all_reported script ats h said_all earlier (Some sweep) n q = record {
+  rising = q.rising;
+  horizon = q.horizon;
+  mark = q.mark;
+  sessions = q.sessions;
+  held = all_held script ats said_all sweep.held n q.held;
+}
 
-all_right : (rounds : ℕ) (script : Script) (ats : List ℕ) (h : History) (said_all earlier some : List Said) → Each (λ (x : Said). NoHold script x.reply) some → EachAfter (IsRightBut rounds script ats h said_all) earlier some → EachAfter (IsRight (run rounds) h said_all) earlier some
+all_right : (rounds : ℕ) (script : Script) (ats : List ℕ) (h : History) (said_all earlier some : List Said) → Each (λ (x : Said). NoHold script x.reply) some →
+    EachAfter (IsRightBut rounds script ats h said_all) earlier some → EachAfter (IsRight (run rounds) h said_all) earlier some
 all_right rounds script ats h said_all earlier [] n r = tt
 all_right rounds script ats h said_all earlier (x ∷ some) n r = (
   record { reply = r.0.reply; conflict = r.0.conflict; fresh = record { rising = r.0.rising; exact = tt; report = all_reported script ats h said_all earlier (report_of x.reply) n.0 r.0.report } },
   all_right rounds script ats h said_all (x ∷ earlier) some n.1 r.1,
 )
 
-pub sound_alone : (rounds : ℕ) (script : Script) (ats : List ℕ) (printed : Printed) → IsSoundWith rounds script ats printed → Each (λ (line : Line). NoHold script line.reply) printed.lines → IsSound (run rounds) script printed
+pub sound_alone : (rounds : ℕ) (script : Script) (ats : List ℕ) (printed : Printed) → IsSoundWith rounds script ats printed →
+    Each (λ (line : Line). NoHold script line.reply) printed.lines → IsSound (run rounds) script printed
 sound_alone rounds script ats printed s none =
     let but = sound_but rounds script ats printed s in
     let all : List Said = all_said (run rounds) script printed.lines in
     record {
       lines = record {
         shape = but.shape;
-        right = record { whole = but.whole; kept = but.kept; lines = all_right rounds script ats (history_of all) all [] all (replies_said (NoHold script) [] (in_order (run rounds) script.records) printed.lines none) but.lines };
+        right = record {
+          whole = but.whole;
+          kept = but.kept;
+          lines = all_right rounds script ats (history_of all) all [] all
+              (replies_said (NoHold script) [] (in_order (run rounds) script.records) printed.lines none) but.lines;
+        };
       };
       totals = but.totals;
     }

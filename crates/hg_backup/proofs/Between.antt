@@ -77,7 +77,8 @@ module _ (rounds : ℕ) (script : Script) (ats : List ℕ) (h : History) (xs ys 
   held_same : (told : Told) → (told.session == j) ≡ false → IsHeld with_it told → IsHeld without told
   held_same told n q = record {
     printed = sym (any_between (prints told) xs ys zs (others_none told ys (other_session told n))) ∙ q.printed;
-    declared = match_keeps told.moved (λ m. sym (any_between (λ (s : Said). prints told s && is_declared s.scope) xs ys zs (others_print told (λ s. is_declared s.scope) ys (other_session told n))) ∙ m) q.declared;
+    declared = match_keeps told.moved (λ m. sym (any_between (λ (s : Said). prints told s && is_declared s.scope) xs ys zs
+        (others_print told (λ s. is_declared s.scope) ys (other_session told n))) ∙ m) q.declared;
   }
 
   -- what is held is held by a session of the script, or the reader's
@@ -108,9 +109,11 @@ module _ (rounds : ℕ) (script : Script) (ats : List ℕ) (h : History) (xs ys 
   first_right : Own → (earlier : List Said) (now : Said) → IsRight (run rounds) h with_it earlier now → IsBut earlier now
   first_right own earlier now r = record {
     reply = r.reply;
-    conflict = if_some_keeps (target now.statement) (λ q. ShowsCause (run rounds) h with_it earlier now q now.reply.answer) (λ q. ShowsCause (run rounds) h without earlier now q now.reply.answer) (λ q m. cause_same earlier now q now.reply.answer m) r.conflict;
+    conflict = if_some_keeps (target now.statement) (λ q. ShowsCause (run rounds) h with_it earlier now q now.reply.answer)
+        (λ q. ShowsCause (run rounds) h without earlier now q now.reply.answer) (λ q m. cause_same earlier now q now.reply.answer m) r.conflict;
     rising = r.fresh.rising;
-    report = if_some_keeps (report_of now.reply) (IsReported h with_it earlier) (IsReportedBut script ats h without earlier) (λ sweep q. report_same own earlier earlier sweep (λ kind. refl) q) r.fresh.report;
+    report = if_some_keeps (report_of now.reply) (IsReported h with_it earlier) (IsReportedBut script ats h without earlier)
+        (λ sweep q. report_same own earlier earlier sweep (λ kind. refl) q) r.fresh.report;
   }
 
   firsts_right : Own → (earlier some : List Said) → EachAfter (IsRight (run rounds) h with_it) earlier some → EachAfter IsBut earlier some
@@ -135,7 +138,8 @@ module _ (rounds : ℕ) (script : Script) (ats : List ℕ) (h : History) (xs ys 
   known_more : (a b : List Said) (now : Said) → known 0 a ≡ known 0 b → known 0 (now ∷ a) ≡ known 0 (now ∷ b)
   known_more a b now k = go (now.session == 0)
     where
-      go : (t : Bool) → flat_map numbers_of (cond t (now ∷ filter (λ (s : Said). s.session == 0) a) (filter (λ (s : Said). s.session == 0) a)) ≡ flat_map numbers_of (cond t (now ∷ filter (λ (s : Said). s.session == 0) b) (filter (λ (s : Said). s.session == 0) b))
+      go : (t : Bool) → flat_map numbers_of (cond t (now ∷ filter (λ (s : Said). s.session == 0) a) (filter (λ (s : Said). s.session == 0) a)) ≡ flat_map numbers_of
+          (cond t (now ∷ filter (λ (s : Said). s.session == 0) b) (filter (λ (s : Said). s.session == 0) b))
       go true = ap (λ l. numbers_of now ++ l) k
       go false = k
 
@@ -174,7 +178,8 @@ module _ (rounds : ℕ) (script : Script) (ats : List ℕ) (h : History) (xs ys 
 
   firsts_append : (earlier cs bs : List Said) → first_writes_from earlier (cs ++ bs) ≡ first_writes_from earlier cs ++ first_writes_from (onto cs earlier) bs
   firsts_append earlier [] bs = refl
-  firsts_append earlier (x ∷ cs) bs = ap (cons_option (first_write earlier x)) (firsts_append (x ∷ earlier) cs bs) ∙ cons_option_append (first_write earlier x) (first_writes_from (x ∷ earlier) cs) (first_writes_from (onto cs (x ∷ earlier)) bs)
+  firsts_append earlier (x ∷ cs) bs = ap (cons_option (first_write earlier x)) (firsts_append (x ∷ earlier) cs bs) ∙
+      cons_option_append (first_write earlier x) (first_writes_from (x ∷ earlier) cs) (first_writes_from (onto cs (x ∷ earlier)) bs)
 
   firsts_none : (earlier some : List Said) → Each (λ s. stored s ≡ None) some → first_writes_from earlier some ≡ []
   firsts_none earlier [] e = refl
@@ -203,7 +208,8 @@ module _ (rounds : ℕ) (script : Script) (ats : List ℕ) (h : History) (xs ys 
       let a = sum_by-append (removed_by kind) xs (ys ++ zs) in
       let b = sum_by-append (removed_by kind) ys zs in
       let c = sum_by-append (removed_by kind) xs zs in
-      let none = sum_none (removed_by kind) ys (each_keeps (IsSilent j) (λ s. removed_by kind s ≡ 0) (λ y s. ap (λ o. option_map_or (λ (sweep : Sweep). if same_kind sweep.kind kind then sweep.removed else 0) o 0) s.reports) ys silent) in
+      let none = sum_none (removed_by kind) ys (each_keeps (IsSilent j) (λ s. removed_by kind s ≡ 0)
+      (λ y s. ap (λ o. option_map_or (λ (sweep : Sweep). if same_kind sweep.kind kind then sweep.removed else 0) o 0) s.reports) ys silent) in
       omega (arith, a, b, c, none)
 
   pub totals_without : (k : History) (totals : Totals) → AreTotals with_it k totals → AreTotals without k totals

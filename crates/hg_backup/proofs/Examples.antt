@@ -49,7 +49,8 @@ none j = []
 
 -- session 1 at a place puts 7
 one_put : (place : ℕ) → Next 1 2 history none (asked place 1 (Put five (Number (pos 7) ∷ [])) ∷ []) (line place 1 (Some 0) Stored (Some 1) ∷ []) 1 None 1 [] 1 0
-one_put place = replayed_commits 1 2 [] none [] [] (asked place 1 (Put five (Number (pos 7) ∷ []))) Stored (record { rid = five; image = image 7 }) (replayed_opened 1 2 (omega arith)) (record { some = omega arith; most = omega arith }) refl refl (tt, tt)
+one_put place = replayed_commits 1 2 [] none [] [] (asked place 1 (Put five (Number (pos 7) ∷ []))) Stored (record { rid = five; image = image 7 })
+    (replayed_opened 1 2 (omega arith)) (record { some = omega arith; most = omega arith }) refl refl (tt, tt)
 
 -- ---- the run
 
@@ -127,7 +128,8 @@ undone = let two : undos every (more 2) ≡ 0 = ap (undos every) reader_empty in
 
 pub held_sound : IsSoundWith 1 script (1 ∷ []) (printed 1 false)
 held_sound =
-    sound_with 1 history logs logs 1 script (1 ∷ []) session_lines (report kinds.Group ∷ []) (report kinds.Table ∷ []) (holding 1 false ∷ []) (printed 1 false).totals ran_with (λ j. inl (closed j, refl))
+    sound_with 1 history logs logs 1 script (1 ∷ []) session_lines (report kinds.Group ∷ []) (report kinds.Table ∷ []) (holding 1 false ∷ []) (printed 1 false).totals ran_with
+    (λ j. inl (closed j, refl))
     (record { made = sym made; undone = sym undone; group = refl; table = omega arith; interval = refl; left = refl; balance = refl })
 
 -- ---- what is refused
@@ -158,7 +160,8 @@ are_rows = record {
       where
         some_row : Some (Number (pos 7) ∷ []) ≡ Some kept.row → (Number (pos 7) ∷ []) ≡ kept.row
         some_row q = cc
-    shown kept false e is = absurd (none_some (sym (ap (λ b. (last_image (filter (λ (w : ℕ × Image). nat_le w.0 1) (cons_option (option_map (λ image. (1, image)) (option_or (if b then Some (image 7) else None) None)) []))).row) e) ∙ is))
+    shown kept false e is = absurd (none_some (sym (ap (λ b. (last_image
+        (filter (λ (w : ℕ × Image). nat_le w.0 1) (cons_option (option_map (λ image. (1, image)) (option_or (if b then Some (image 7) else None) None)) []))).row) e) ∙ is))
       where
         none_some : None ≡ Some kept.row → ⊥
         none_some q = cc
@@ -167,4 +170,5 @@ pub dump_rows : rows_at script.tables history 1 ≡ rows
 dump_rows = sym ((is_the_list script.tables history 1 rows).0 are_rows)
 
 pub dump_replayed : LinesAreSound replay (dump_of script history 1) replayed
-dump_replayed = subst (λ (kept : List Kept). LinesAreSound replay (putting script kept) replayed) (sym dump_rows) (replay_sound 1 2 1 history (one_put 3).more (putting script rows) replayed (one_put 3).replayed)
+dump_replayed = subst (λ (kept : List Kept). LinesAreSound replay (putting script kept) replayed) (sym dump_rows)
+    (replay_sound 1 2 1 history (one_put 3).more (putting script rows) replayed (one_put 3).replayed)

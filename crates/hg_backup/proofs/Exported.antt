@@ -58,7 +58,8 @@ logged_goes buckets v h logs g later = record { answers = g.replied; later = lat
 -- ---- the last one
 
 -- a reading after all other sessions ended is at the end of the history
-pub at_the_end : (buckets j n : ℕ) (h : History) (logs : ℕ → List LogEntry) (ats : List ℕ) → Logged buckets h logs → HasReadAll (ats ++ n ∷ []) (logs j) → ((k : ℕ) → (k ≡ j → ⊥) → UpTo n (logs k)) → n ≡ length h
+pub at_the_end : (buckets j n : ℕ) (h : History) (logs : ℕ → List LogEntry) (ats : List ℕ) → Logged buckets h logs → HasReadAll (ats ++ n ∷ []) (logs j) →
+    ((k : ℕ) → (k ≡ j → ⊥) → UpTo n (logs k)) → n ≡ length h
 at_the_end buckets j n h logs ats g r others =
     let l : List LogEntry = Over ∷ Began n All ∷ log_at ats [] in
     let is : without_looks (logs j) ≡ l = r ∙ last_at ats n [] in
@@ -70,11 +71,13 @@ at_the_end buckets j n h logs ats g r others =
 
 -- ---- what it wrote
 
-module _ (buckets : ℕ) (h : History) (logs : ℕ → List LogEntry) (rounds : ℕ) (script : Script) (ats : List ℕ) (lines : ℕ → List Line) (group table interval : List Report) (v : View) (s : ℕ) (before after : List ℕ) where
+module _ (buckets : ℕ) (h : History) (logs : ℕ → List LogEntry) (rounds : ℕ) (script : Script) (ats : List ℕ) (lines : ℕ → List Line) (group table interval : List Report)
+    (v : View) (s : ℕ) (before after : List ℕ) where
   abbrev printed : History
   printed = history_of (all_said (run rounds) script (run_lines script.records lines group table interval))
 
   pub export_printed : HasRunWith buckets h logs rounds script ats lines group table interval → EndsWith (logs (number v)) (session v).log
-      → ((k : History) (more : ℕ → List LogEntry) → GoesOn buckets v k more → after ≡ before ++ dump_text script (rows_at script.tables k s)) → after ≡ before ++ dump_text script (rows_at script.tables printed s)
+      → ((k : History) (more : ℕ → List LogEntry) → GoesOn buckets v k more → after ≡ before ++ dump_text script (rows_at script.tables k s)) →
+      after ≡ before ++ dump_text script (rows_at script.tables printed s)
   export_printed r later text =
       text h logs (logged_goes buckets v h logs r.logged later) ∙ ap (λ rows. before ++ dump_text script rows) (rows_same buckets h logs rounds script ats lines group table interval r s)

@@ -156,7 +156,8 @@ module _ (rounds : ℕ) (script : Script) (ats : List ℕ) (printed : Printed) (
   within_alone =
       let here = (after_append (IsRight (run rounds) h all) (onto first_said []) own_said last_said (after_append (IsRight (run rounds) h all) [] first_said (own_said ++ last_said) right).1).0 in
       subst (λ (k : History). Each (λ at. at ≤ length k) ats) (history_alone rounds script ats lines shape)
-      (reads_within (length h) j ats (onto first_said []) (each_of_after (IsRight (run rounds) h all) (λ (x : Said). x.at ≤ length h) (λ earlier x r. r.reply.snapshot) (onto first_said []) own_said here))
+      (reads_within (length h) j ats (onto first_said []) (each_of_after (IsRight (run rounds) h all) (λ (x : Said). x.at ≤ length h) (λ earlier x r. r.reply.snapshot)
+      (onto first_said []) own_said here))
 
   -- ---- what is held
 
@@ -166,7 +167,8 @@ module _ (rounds : ℕ) (script : Script) (ats : List ℕ) (printed : Printed) (
         sessions_said (λ k. (k == told.session) ≡ false) [] (all_records script) (take (session_lines script) lines)
         (flat_least (λ (r : Record). (r.session == told.session) ≡ false) script.records
         (λ k. same_picked (λ (r : Record). (r.session == told.session) ≡ false) k script.records
-        (each_keeps (λ (r : Record). r.session ≤ top script) (λ (r : Record). (r.session == told.session) ≡ false) (λ r most. below r.session (top script) told.session most same) script.records (session_most (top script) script.records (omega arith))))
+        (each_keeps (λ (r : Record). r.session ≤ top script) (λ (r : Record). (r.session == told.session) ≡ false)
+        (λ r most. below r.session (top script) told.session most same) script.records (session_most (top script) script.records (omega arith))))
         (sessions_of script.records))
       where
         below : (k m t : ℕ) → k ≤ m → t ≡ suc (max 1 m) → (k == t) ≡ false
@@ -182,14 +184,16 @@ module _ (rounds : ℕ) (script : Script) (ats : List ℕ) (printed : Printed) (
 
     held_here : IsHeld all told → IsTrue (list_any (λ at. at == told.number) ats) × IsFalse told.moved
     held_here q = (
-      reads_printed told j ats (onto first_said []) (sym (middle (prints told) first_said own_said last_said (others_none told first_said others_first) (others_none told last_said others_last)) ∙ sym (ap (list_any (prints told)) parted) ∙ q.printed),
+      reads_printed told j ats (onto first_said []) (sym (middle (prints told) first_said own_said last_said (others_none told first_said others_first)
+          (others_none told last_said others_last)) ∙ sym (ap (list_any (prints told)) parted) ∙ q.printed),
       go told.moved q.declared,
     )
       where
         none : list_any (λ (x : Said). prints told x && is_declared x.scope) all ≡ false
         none =
             ap (list_any (λ (x : Said). prints told x && is_declared x.scope)) parted
-            ∙ middle (λ (x : Said). prints told x && is_declared x.scope) first_said own_said last_said (others_print told (λ x. is_declared x.scope) first_said others_first) (others_print told (λ x. is_declared x.scope) last_said others_last)
+            ∙ middle (λ (x : Said). prints told x && is_declared x.scope) first_said own_said last_said (others_print told (λ x. is_declared x.scope) first_said others_first)
+            (others_print told (λ x. is_declared x.scope) last_said others_last)
             ∙ none_declared told j ats (onto first_said [])
 
         go : (b : Bool) → MatchBool b (IsTrue (list_any (λ (x : Said). prints told x && is_declared x.scope) all)) ⊤ → IsFalse b
@@ -212,7 +216,8 @@ module _ (rounds : ℕ) (script : Script) (ats : List ℕ) (printed : Printed) (
   held_alone =
       let said_right : Each (λ (x : Said). HoldsRight x.reply) all =
       each_of_after (IsRight (run rounds) h all) (λ (x : Said). HoldsRight x.reply)
-      (λ earlier x r. if_some_keeps (report_of x.reply) (IsReported h all earlier) (λ (sweep : Sweep). Each (IsHeldAt script ats) sweep.held) (λ sweep k. each_keeps (IsHeld all) (IsHeldAt script ats) held_at sweep.held k.held) r.fresh.report)
+      (λ earlier x r. if_some_keeps (report_of x.reply) (IsReported h all earlier) (λ (sweep : Sweep). Each (IsHeldAt script ats) sweep.held)
+      (λ sweep k. each_keeps (IsHeld all) (IsHeldAt script ats) held_at sweep.held k.held) r.fresh.report)
       [] all s.lines.right.lines in
       let lines_right : Each (λ (line : Line). HoldsRight line.reply) (lines_with script ats lines) =
       each_said (λ k reply. HoldsRight reply) [] (in_order (run rounds) (with_reader script ats).records) (lines_with script ats lines) said_right s.lines.shape in

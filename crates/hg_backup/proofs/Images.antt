@@ -64,12 +64,14 @@ module _ (r : Rid) (image : Image) where
       go (Some w) f k = (f, k)
 
   commit_fits : (earlier : List Said) (now : Said) → Each FitsSaid (now ∷ earlier) → FitsCommit (commit_by earlier now)
-  commit_fits earlier now h = each_last Fits (own_writes (now ∷ earlier) now) (picked_fit (filter (is_of now.session now.transaction) (now ∷ earlier)) (each_filter FitsSaid (is_of now.session now.transaction) (now ∷ earlier) h))
+  commit_fits earlier now h = each_last Fits (own_writes (now ∷ earlier) now)
+      (picked_fit (filter (is_of now.session now.transaction) (now ∷ earlier)) (each_filter FitsSaid (is_of now.session now.transaction) (now ∷ earlier) h))
 
   abbrev FitsPair : ℕ × Commit → Type 0
   FitsPair p = FitsCommit p.1
 
-  pub commits_fit : (place : ℕ) (rows : List Kept) (lines : List Line) (earlier : List Said) → Each FitsRow rows → Each FitsSaid earlier → Each FitsPair (commits_from earlier (said_from earlier (numbered place (map put_of rows)) lines))
+  pub commits_fit : (place : ℕ) (rows : List Kept) (lines : List Line) (earlier : List Said) → Each FitsRow rows → Each FitsSaid earlier →
+      Each FitsPair (commits_from earlier (said_from earlier (numbered place (map put_of rows)) lines))
   commits_fit place [] lines earlier f h = tt
   commits_fit place (kept ∷ rows) [] earlier f h = tt
   commits_fit place (kept ∷ rows) (line ∷ lines) earlier f h =

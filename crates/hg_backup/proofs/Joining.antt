@@ -23,7 +23,8 @@ shape_split (r ∷ rs) more (line ∷ lines) later e h = let rest = shape_split 
 
 -- ---- lines after lines
 
-pub said_append : (earlier : List Said) (rs more : List Record) (lines later : List Line) → HasShape rs lines → said_from earlier (rs ++ more) (lines ++ later) ≡ said_from earlier rs lines ++ said_from (onto (said_from earlier rs lines) earlier) more later
+pub said_append : (earlier : List Said) (rs more : List Record) (lines later : List Line) → HasShape rs lines →
+    said_from earlier (rs ++ more) (lines ++ later) ≡ said_from earlier rs lines ++ said_from (onto (said_from earlier rs lines) earlier) more later
 said_append earlier [] more [] later h = refl
 said_append earlier [] more (line ∷ lines) later h = absurd h
 said_append earlier (r ∷ rs) more [] later h = absurd h
@@ -35,12 +36,14 @@ after_append P earlier (x ∷ xs) ys h = let rest = after_append P (x ∷ earlie
 
 pub commits_append : (earlier xs ys : List Said) → commits_from earlier (xs ++ ys) ≡ commits_from earlier xs ++ commits_from (onto xs earlier) ys
 commits_append earlier [] ys = refl
-commits_append earlier (x ∷ xs) ys = ap (cons_option (commit_of earlier x)) (commits_append (x ∷ earlier) xs ys) ∙ cons_option_append (commit_of earlier x) (commits_from (x ∷ earlier) xs) (commits_from (onto xs (x ∷ earlier)) ys)
+commits_append earlier (x ∷ xs) ys = ap (cons_option (commit_of earlier x)) (commits_append (x ∷ earlier) xs ys) ∙
+    cons_option_append (commit_of earlier x) (commits_from (x ∷ earlier) xs) (commits_from (onto xs (x ∷ earlier)) ys)
 
 -- ---- what is said of each line
 
 -- of the record's session and the reply
-pub each_said : (P : ℕ → Reply → Type 0) (earlier : List Said) (rs : List Record) (lines : List Line) → Each (λ (s : Said). P s.session s.reply) (said_from earlier rs lines) → HasShape rs lines → Each (λ (line : Line). P line.session line.reply) lines
+pub each_said : (P : ℕ → Reply → Type 0) (earlier : List Said) (rs : List Record) (lines : List Line) → Each (λ (s : Said). P s.session s.reply) (said_from earlier rs lines) →
+    HasShape rs lines → Each (λ (line : Line). P line.session line.reply) lines
 each_said P earlier [] [] h k = tt
 each_said P earlier [] (line ∷ lines) h k = absurd k
 each_said P earlier (r ∷ rs) [] h k = absurd k
@@ -48,10 +51,15 @@ each_said P earlier (r ∷ rs) (line ∷ lines) h k =
     let is = said_says (last_of r.session earlier) r line.reply r.statement in
     (subst (λ j. P j line.reply) (is.0 ∙ sym k.0.session) (subst (λ reply. P (said earlier r line.reply).session reply) is.2 h.0), each_said P (said earlier r line.reply ∷ earlier) rs lines h.1 k.1)
 
-pub sessions_said : (P : ℕ → Type 0) (earlier : List Said) (rs : List Record) (lines : List Line) → Each (λ (r : Record). P r.session) rs → Each (λ (s : Said). P s.session) (said_from earlier rs lines)
+pub sessions_said : (P : ℕ → Type 0) (earlier : List Said) (rs : List Record) (lines : List Line) → Each (λ (r : Record). P r.session) rs →
+    Each (λ (s : Said). P s.session) (said_from earlier rs lines)
 sessions_said P earlier [] lines h = tt
 sessions_said P earlier (r ∷ rs) [] h = tt
-sessions_said P earlier (r ∷ rs) (line ∷ lines) h = (subst P (sym (said_says (last_of r.session earlier) r line.reply r.statement).0) h.0, sessions_said P (said earlier r line.reply ∷ earlier) rs lines h.1)
+sessions_said P earlier (r ∷ rs) (line ∷ lines) h = (
+  subst P (sym (said_says (last_of r.session earlier) r line.reply r.statement).0) h.0,
+  sessions_said P
+      (said earlier r line.reply ∷ earlier) rs lines h.1,
+)
 
 -- ---- the history is that of the commits
 

@@ -222,7 +222,8 @@ first_ones Q k (at ∷ later) l q = k at l (first_ones Q k later (Over ∷ Began
 
 -- ---- a log in the place of another
 
-logged_put : (buckets j : ℕ) (h : History) (logs : ℕ → List LogEntry) (l : List LogEntry) → Logged buckets h logs → Judged h l → AreReplied buckets h logs j l → UpTo (length h) l → ((n k : ℕ) → published n k l ≡ published n k (logs j))
+logged_put : (buckets j : ℕ) (h : History) (logs : ℕ → List LogEntry) (l : List LogEntry) → Logged buckets h logs → Judged h l → AreReplied buckets h logs j l → UpTo (length h) l →
+    ((n k : ℕ) → published n k l ≡ published n k (logs j))
     → ((x : ℕ) → writes_in x l ≡ writes_in x (logs j)) → ((x : ℕ) → numbers_in x l ≡ numbers_in x (logs j)) → Logged buckets h (put logs j l)
 logged_put buckets j h logs l g judged_is replied_is within_is publishes_is writes_is numbers_is = record {
   some = g.some;
@@ -240,13 +241,15 @@ logged_put buckets j h logs l g judged_is replied_is within_is publishes_is writ
 pub logged_without : (buckets j : ℕ) (h : History) (logs : ℕ → List LogEntry) → Logged buckets h logs → Logged buckets h (put logs j (without_looks (logs j)))
 logged_without buckets j h logs g =
     let l : List LogEntry = logs j in
-    logged_put buckets j h logs (without_looks l) g (judged h l (g.judged j)) (replied buckets h logs j l (g.replied j)) (up_to (length h) l (g.within j)) (λ n k. publishes n k l) (λ x. writing x l) (λ x. numbering x l)
+    logged_put buckets j h logs (without_looks l) g (judged h l (g.judged j)) (replied buckets h logs j l (g.replied j)) (up_to (length h) l (g.within j)) (λ n k. publishes n k l)
+    (λ x. writing x l) (λ x. numbering x l)
 
 -- what the whole log is, and what is left of it
 pub read_as : {X : Type 0} (f : List LogEntry → X) → Passes f → Skips f → (ats : List ℕ) (l : List LogEntry) → HasReadAll ats l → f l ≡ f []
 read_as f p s ats l r = sym (p l) ∙ ap f r ∙ skipped f s ats []
 
-pub logged_read : (buckets j : ℕ) (h : History) (logs : ℕ → List LogEntry) (ats later : List ℕ) → Logged buckets h logs → HasReadAll (ats ++ later) (logs j) → Logged buckets h (put logs j (log_at ats []))
+pub logged_read : (buckets j : ℕ) (h : History) (logs : ℕ → List LogEntry) (ats later : List ℕ) → Logged buckets h logs → HasReadAll (ats ++ later) (logs j) →
+    Logged buckets h (put logs j (log_at ats []))
 logged_read buckets j h logs ats later g r =
     let l : List LogEntry = logs j in
     let is : without_looks l ≡ log_at later (log_at ats []) = r ∙ log_more ats later [] in

@@ -105,7 +105,8 @@ module _ (rounds : ℕ) (script : Script) (ats : List ℕ) (lines : List Line) (
   commits_with =
       commits_append [] first_said (own_said ++ last_said)
       ∙ ap (λ xs. commits first_said ++ xs)
-      (commits_append (onto first_said []) own_said last_said ∙ (λ i. reader_silent (onto first_said []) j ats i ++ rounds_silent (onto own_said (onto first_said [])) (onto own_said (onto first_said [])) of_rounds last (each_round rounds) i))
+      (commits_append (onto first_said []) own_said last_said ∙
+      (λ i. reader_silent (onto first_said []) j ats i ++ rounds_silent (onto own_said (onto first_said [])) (onto own_said (onto first_said [])) of_rounds last (each_round rounds) i))
       ∙ append_nil (commits first_said)
 
   commits_alone : commits (first_said ++ said_from (onto first_said []) of_rounds last) ≡ commits first_said
@@ -116,7 +117,8 @@ module _ (rounds : ℕ) (script : Script) (ats : List ℕ) (lines : List Line) (
 
   pub history_alone : history_of (all_said (run rounds) (with_reader script ats) (lines_with script ats lines)) ≡ history_of (all_said (run rounds) script lines)
   history_alone =
-      ap history_of said_with ∙ history_same (first_said ++ (own_said ++ last_said)) (first_said ++ said_from (onto first_said []) of_rounds last) (commits_with ∙ sym commits_alone) ∙ ap history_of (sym said_alone)
+      ap history_of said_with ∙ history_same (first_said ++ (own_said ++ last_said)) (first_said ++ said_from (onto first_said []) of_rounds last) (commits_with ∙
+      sym commits_alone) ∙ ap history_of (sym said_alone)
 
   pub commits_same : commits (all_said (run rounds) (with_reader script ats) (lines_with script ats lines)) ≡ commits (all_said (run rounds) script lines)
   commits_same = ap commits said_with ∙ commits_with ∙ sym commits_alone ∙ ap commits (sym said_alone)

@@ -42,7 +42,8 @@ module _ {X Y : Type 0} where
   pub picked_between : (f : X → Option Y) (p : X → Bool) (xs ys zs : List X) → Each (λ y. f y ≡ None) ys → filter_map f (filter p (xs ++ (ys ++ zs))) ≡ filter_map f (filter p (xs ++ zs))
   picked_between f p xs ys zs h =
       ap (filter_map f) (filter-append p xs (ys ++ zs)) ∙ filter_map-append f (filter p xs) (filter p (ys ++ zs))
-      ∙ ap (λ l. filter_map f (filter p xs) ++ l) (ap (filter_map f) (filter-append p ys zs) ∙ filter_map-append f (filter p ys) (filter p zs) ∙ ap (λ l. l ++ filter_map f (filter p zs)) (picked_none f p ys h))
+      ∙ ap (λ l. filter_map f (filter p xs) ++ l) (ap (filter_map f) (filter-append p ys zs) ∙ filter_map-append f (filter p ys) (filter p zs) ∙
+      ap (λ l. l ++ filter_map f (filter p zs)) (picked_none f p ys h))
       ∙ sym (ap (filter_map f) (filter-append p xs zs) ∙ filter_map-append f (filter p xs) (filter p zs))
 
 -- ---- the reader's lines, and the collectors'

@@ -27,7 +27,8 @@ use Rattle.hg_backup.specs.Reader.{answered, asked, log_at, read_lines, read_rec
 abbrev pub Leaves : Record → Line → Type 0
 Leaves r line = LeavesGc r.statement line.reply.answer
 
-pub reader_tells : (buckets j : ℕ) (ats : List ℕ) (log : List LogEntry) (left : Option Rest) → current log ≡ None → Tells buckets Leaves log left (read_records j ats) (read_lines j ats) (log_at ats log)
+pub reader_tells : (buckets j : ℕ) (ats : List ℕ) (log : List LogEntry) (left : Option Rest) → current log ≡ None →
+    Tells buckets Leaves log left (read_records j ats) (read_lines j ats) (log_at ats log)
 reader_tells buckets j [] log left none = refl
 reader_tells buckets j (at ∷ ats) log left none =
     let out : is_alone (current log) (Begin All) ≡ false = not_alone (current log) (Begin All) refl in
@@ -61,12 +62,14 @@ pub own_records : (j : ℕ) (ats : List ℕ) → of_session j (read_records j at
 own_records j [] = refl
 own_records j (at ∷ ats) =
     let here : (j == j) ≡ true = same_number j in
-    (λ i. cond (here i) (asked j (Begin All) ∷ cond (here i) (asked j CommitIt ∷ own_records j ats i) (own_records j ats i)) (cond (here i) (asked j CommitIt ∷ own_records j ats i) (own_records j ats i)))
+    (λ i. cond (here i) (asked j (Begin All) ∷ cond (here i) (asked j CommitIt ∷ own_records j ats i) (own_records j ats i))
+    (cond (here i) (asked j CommitIt ∷ own_records j ats i) (own_records j ats i)))
 
 pub no_records : (j k : ℕ) (ats : List ℕ) → (j == k) ≡ false → of_session k (read_records j ats) ≡ []
 no_records j k [] e = refl
 no_records j k (at ∷ ats) e =
-    (λ i. cond (e i) (asked j (Begin All) ∷ cond (e i) (asked j CommitIt ∷ no_records j k ats e i) (no_records j k ats e i)) (cond (e i) (asked j CommitIt ∷ no_records j k ats e i) (no_records j k ats e i)))
+    (λ i. cond (e i) (asked j (Begin All) ∷ cond (e i) (asked j CommitIt ∷ no_records j k ats e i) (no_records j k ats e i))
+    (cond (e i) (asked j CommitIt ∷ no_records j k ats e i) (no_records j k ats e i)))
 
 pub each_read : (P : Record → Type 0) (j : ℕ) (ats : List ℕ) → P (asked j (Begin All)) → P (asked j CommitIt) → Each P (read_records j ats)
 each_read P j [] p q = tt

@@ -15,7 +15,8 @@ use Rattle.hg_base.specs.Lists.{Each}
 use Rattle.hg_base.specs.Script.{Script, replay}
 use Rattle.hg_base.specs.Shape.{HasShape}
 use Rattle.hg_base.specs.Sound.{LinesAreSound, all_said}
-use Rattle.hg_base.specs.Transcript.{Said, commit_by, commits, commits_from, committed, greatest_commit, group_of, history_of, is_of, last_images, last_of, next_after, own_writes, said, said_from, standing, stored}
+use Rattle.hg_base.specs.Transcript.{Said, commit_by, commits, commits_from, committed, greatest_commit, group_of, history_of, is_of, last_images, last_of, next_after, own_writes, said}
+use Rattle.hg_base.specs.Transcript.{said_from, standing, stored}
 use Rattle.hg_base.proofs.Growth.{commits_below}
 use Rattle.hg_base.proofs.HistoryFacts.{same_rid_equal, same_rid_itself}
 use Rattle.hg_base.proofs.ListFacts.{each_at, each_keeps}
@@ -76,7 +77,8 @@ module _ (r : Rid) where
       let now : Said = said earlier (put_at place kept) line.reply in
       let is : now ≡ standing None (next_after last) (put_at place kept) line.reply = ap (λ o. standing o (next_after last) (put_at place kept) line.reply) (none_opened 1 earlier alone) in
       let more : List (ℕ × Commit) = commits_from (now ∷ earlier) (said_from (now ∷ earlier) (numbered (place + 1) (map put_of rows)) lines) in
-      let both = has_commit earlier (next_after last) place kept line.reply.at line.reply.answer line.reply.number more stored.0.0 stored.0.1 (subst (λ (x : Said). Each Without (cons_option (option_map (λ c. (c, commit_by earlier x)) (committed x)) more)) is h) in
+      let both = has_commit earlier (next_after last) place kept line.reply.at line.reply.answer line.reply.number more stored.0.0 stored.0.1
+      (subst (λ (x : Said). Each Without (cons_option (option_map (λ c. (c, commit_by earlier x)) (committed x)) more)) is h) in
       (both.0, none_kept (place + 1) rows lines (now ∷ earlier) (ap (λ (x : Said). x.alone) is, alone) shape.1 stored.1 both.1)
 
 -- ---- the whole
@@ -102,9 +104,11 @@ module _ (script : Script) (h : History) (s : ℕ) (lines : List Line) (is : Lin
 
   -- each write of a record has the image that it was given
   one_image : (r : Rid) (image : Image) → Each (FitsRow r image) rows → (visible restored r (length restored) ≡ image) ⊎ (from_group (commits all) r 1 (greatest_commit all) ≡ [])
-  one_image r image f = go (last_only r image (from_group (commits all) r 1 (greatest_commit all)) (writes_only r image (commits all) 1 (greatest_commit all) (commits_fit r image place rows lines [] f tt)))
+  one_image r image f = go (last_only r image (from_group (commits all) r 1 (greatest_commit all))
+      (writes_only r image (commits all) 1 (greatest_commit all) (commits_fit r image place rows lines [] f tt)))
     where
-      go : (last_image (from_group (commits all) r 1 (greatest_commit all)) ≡ image) ⊎ (from_group (commits all) r 1 (greatest_commit all) ≡ []) → (visible restored r (length restored) ≡ image) ⊎ (from_group (commits all) r 1 (greatest_commit all) ≡ [])
+      go : (last_image (from_group (commits all) r 1 (greatest_commit all)) ≡ image) ⊎ (from_group (commits all) r 1 (greatest_commit all) ≡ []) →
+          (visible restored r (length restored) ≡ image) ⊎ (from_group (commits all) r 1 (greatest_commit all) ≡ [])
       go (inl e) = inl (at_end restored r ∙ e)
       go (inr e) = inr e
 
@@ -115,8 +119,10 @@ module _ (script : Script) (h : History) (s : ℕ) (lines : List Line) (is : Lin
   not_written : (r : Rid) (kept : Kept) → Contains rows kept → same_rid kept.rid r ≡ true → from_group (commits all) r 1 (greatest_commit all) ≡ [] → ⊥
   not_written r kept there same e =
       let top : ℕ = greatest_commit all in
-      let ranges : Each (λ (p : ℕ × Commit). (1 ≤ p.0) × (p.0 < suc top)) (commits all) = each_pairs (λ (p : ℕ × Commit). 1 ≤ p.0) (λ p. p.0 < suc top) (commits all) is.right.whole.numbers (commits_below [] all) in
-      let none : Each (Without r) (commits all) = in_groups (λ c. image_in r c.images ≡ None) (λ n. (1 ≤ n) × (n < suc top)) (commits all) (λ n i. no_images r (group_of (commits all) n) (no_writes (commits all) r 1 top e n i.0 (let most = i.1 in omega (arith, most)))) ranges in
+      let ranges : Each (λ (p : ℕ × Commit). (1 ≤ p.0) × (p.0 < suc top)) (commits all) = each_pairs (λ (p : ℕ × Commit). 1 ≤ p.0) (λ p. p.0 < suc top)
+      (commits all) is.right.whole.numbers (commits_below [] all) in
+      let none : Each (Without r) (commits all) = in_groups (λ c. image_in r c.images ≡ None) (λ n. (1 ≤ n) × (n < suc top)) (commits all)
+      (λ n i. no_images r (group_of (commits all) n) (no_writes (commits all) r 1 top e n i.0 (let most = i.1 in omega (arith, most)))) ranges in
       each_at (IsOther r) rows kept (none_kept r place rows lines [] tt is.shape stored_all none) there same
 
   row_fits : (r : Rid) → Each (FitsRow r (visible h r s)) rows
@@ -125,13 +131,15 @@ module _ (script : Script) (h : History) (s : ℕ) (lines : List Line) (is : Lin
   pub shown_again : (r : Rid) → IsTrue (is_declared script.tables r) → visible restored r (length restored) ≡ visible h r s
   shown_again r declared = go (visible h r s).row refl (one_image r (visible h r s) (row_fits r))
     where
-      go : (o : Option (List Value)) → (visible h r s).row ≡ o → (visible restored r (length restored) ≡ visible h r s) ⊎ (from_group (commits all) r 1 (greatest_commit all) ≡ []) → visible restored r (length restored) ≡ visible h r s
+      go : (o : Option (List Value)) → (visible h r s).row ≡ o → (visible restored r (length restored) ≡ visible h r s) ⊎ (from_group (commits all) r 1 (greatest_commit all) ≡ [])
+          → visible restored r (length restored) ≡ visible h r s
       go o e (inl k) = k
       go None e (inr k) = none_shown r k ∙ sym (ap (λ o. record { row = o }) e)
       go (Some row) e (inr k) = absurd (not_written r (record { rid = r; row = row }) (are_rows.every (record { rid = r; row = row }) declared e) (same_rid_itself r) k)
 
   pub nothing_else : (r : Rid) → IsFalse (is_declared script.tables r) → visible restored r (length restored) ≡ nothing
-  nothing_else r out = go (one_image r nothing (each_keeps _ (FitsRow r nothing) (λ kept k same. absurd (true_false (sym k.0 ∙ ap (is_declared script.tables) (same_rid_equal kept.rid r same) ∙ out))) rows are_rows.each))
+  nothing_else r out = go (one_image r nothing (each_keeps _ (FitsRow r nothing)
+      (λ kept k same. absurd (true_false (sym k.0 ∙ ap (is_declared script.tables) (same_rid_equal kept.rid r same) ∙ out))) rows are_rows.each))
     where
       go : (visible restored r (length restored) ≡ nothing) ⊎ (from_group (commits all) r 1 (greatest_commit all) ≡ []) → visible restored r (length restored) ≡ nothing
       go (inl k) = k
@@ -151,8 +159,10 @@ module _ (script : Script) (h : History) (s : ℕ) (lines : List Line) (is : Lin
 -- ---- as a text
 
 pub text_again : (script : Script) (h : History) (s : ℕ) (lines : List Line) → IsLawful script → IsReadable script (rows_at script.tables h s)
-    → let read : Script = script_of (rows_of (dump_text script (rows_at script.tables h s))) in LinesAreSound replay read lines → let restored : History = history_of (all_said replay read lines) in rows_at script.tables restored (length restored) ≡ rows_at script.tables h s
+    → let read : Script = script_of (rows_of (dump_text script (rows_at script.tables h s))) in
+    LinesAreSound replay read lines → let restored : History = history_of (all_said replay read lines) in rows_at script.tables restored (length restored) ≡ rows_at script.tables h s
 text_again script h s lines lawful readable sound =
     let read : Script = script_of (rows_of (dump_text script (rows_at script.tables h s))) in
     let is : read ≡ dump_of script h s = same script (rows_at script.tables h s) lawful readable in
-    ap (λ d. rows_at script.tables (history_of (all_said replay d lines)) (length (history_of (all_said replay d lines)))) is ∙ rows_again script h s lines (subst (λ d. LinesAreSound replay d lines) is sound)
+    ap (λ d. rows_at script.tables (history_of (all_said replay d lines)) (length (history_of (all_said replay d lines)))) is ∙
+    rows_again script h s lines (subst (λ d. LinesAreSound replay d lines) is sound)

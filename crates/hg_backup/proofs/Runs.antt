@@ -48,16 +48,28 @@ use Rattle.hg_backup.proofs.Sessions.{all_records, lines_flat, session_else, ses
 module _ (h : History) (logs : ℕ → List LogEntry) (j : ℕ) (ats : List ℕ) (before : List LogEntry) (read : HasReadAll ats before) where
   -- a begin is in the log with its looks as it is without
   begins_same : (d : Bool) (n k : ℕ) → began_at d n (put logs j before k) ≡ began_at d n (put logs j (log_at ats []) k)
-  begins_same d n k = by_number j (λ i b. began_at d n (if b then before else logs i) ≡ began_at d n (if b then log_at ats [] else logs i)) (sym (beginning d n before) ∙ ap (began_at d n) read) (λ i e. refl) k
+  begins_same d n k = by_number j (λ i b. began_at d n (if b then before else logs i) ≡ began_at d n (if b then log_at ats [] else logs i)) (sym (beginning d n before) ∙
+      ap (began_at d n) read) (λ i e. refl) k
 
   met_same : (e : Entry) → WasMet (put logs j before) e → WasMet (put logs j (log_at ats [])) e
   met_same e m = (subst (λ b. IsTrue b) (begins_same (is_declared e.scope) e.number e.session) m.0, m.1)
 
   report_same : (kind : Kind) (r : Report) → IsPassReport h (put logs j before) kind r → IsPassReport h (put logs j (log_at ats [])) kind r
-  report_same kind r p = record { kind = p.kind; horizon = p.horizon; mark = p.mark; order = p.order; met = each_keeps (WasMet (put logs j before)) (WasMet (put logs j (log_at ats []))) met_same r.entries.list p.met }
+  report_same kind r p = record {
+    kind = p.kind;
+    horizon = p.horizon;
+    mark = p.mark;
+    order = p.order;
+    met = each_keeps (WasMet (put logs j before)) (WasMet (put logs j (log_at ats []))) met_same r.entries.list p.met;
+  }
 
   pub reports_same : (kind : Kind) (rounds : ℕ) (reports : List Report) → AreReports h (put logs j before) kind rounds reports → AreReports h (put logs j (log_at ats [])) kind rounds reports
-  reports_same kind rounds reports a = record { count = a.count; each = each_keeps (IsPassReport h (put logs j before) kind) (IsPassReport h (put logs j (log_at ats [])) kind) (report_same kind) reports a.each; rising = a.rising }
+  reports_same kind rounds reports a = record {
+    count = a.count;
+    each = each_keeps (IsPassReport h (put logs j before) kind) (IsPassReport h (put logs j (log_at ats [])) kind)
+        (report_same kind) reports a.each;
+    rising = a.rising;
+  }
 
 -- ---- lines
 
@@ -97,7 +109,8 @@ closed_same : (l c : List LogEntry) → current l ≡ None → Closes l c → c 
 closed_same l c none (inl e) = e.1
 closed_same l c none (inr e) = absurd (true≢false (sym e.0 ∙ ap is_some none))
 
-module _ (buckets : ℕ) (h : History) (logs : ℕ → List LogEntry) (rounds : ℕ) (script : Script) (at : ℕ) (ats : List ℕ) (lines : ℕ → List Line) (group table interval : List Report) (r : HasRunWith buckets h logs rounds script (at ∷ ats) lines group table interval) where
+module _ (buckets : ℕ) (h : History) (logs : ℕ → List LogEntry) (rounds : ℕ) (script : Script) (at : ℕ) (ats : List ℕ) (lines : ℕ → List Line) (group table interval : List Report)
+    (r : HasRunWith buckets h logs rounds script (at ∷ ats) lines group table interval) where
   abbrev j : ℕ
   j = reader_of script
 
@@ -121,8 +134,10 @@ module _ (buckets : ℕ) (h : History) (logs : ℕ → List LogEntry) (rounds : 
 
   shape : (k : ℕ) → HasShape (of_session k asked) (lines_of k)
   shape k = at_index j (λ i. HasShape (of_session i asked) (lines_of i))
-      (subst (λ rs. HasShape rs (lines_of j)) (sym (session_here script read)) (subst (λ ls. HasShape (read_records j read) ls) (sym lines_here) (reader_shape j read (reader_not_zero (max 1 (top script))))))
-      (λ i e. subst (λ rs. HasShape rs (lines_of i)) (sym (session_else script read i (not_same j i e))) (subst (λ ls. HasShape (of_session i script.records) ls) (sym (put_else lines j i (read_lines j read) e)) (r.shape i))) k
+      (subst (λ rs. HasShape rs (lines_of j)) (sym (session_here script read))
+      (subst (λ ls. HasShape (read_records j read) ls) (sym lines_here) (reader_shape j read (reader_not_zero (max 1 (top script))))))
+      (λ i e. subst (λ rs. HasShape rs (lines_of i)) (sym (session_else script read i (not_same j i e)))
+      (subst (λ ls. HasShape (of_session i script.records) ls) (sym (put_else lines j i (read_lines j read) e)) (r.shape i))) k
 
   tells : (k : ℕ) → Tells buckets Leaves [] None (of_session k asked) (lines_of k) (logs_with k)
   tells k = at_index j (λ i. Tells buckets Leaves [] None (of_session i asked) (lines_of i) (logs_with i))
@@ -166,7 +181,8 @@ module _ (buckets : ℕ) (h : History) (logs : ℕ → List LogEntry) (rounds : 
 
   told_with : (kind : Kind) → told_removed kind (run_lines asked lines_of group table interval) ≡ told_removed kind printed
   told_with kind =
-      let is : told_removed kind (run_lines asked lines_of group table interval) ≡ told_removed kind ((flat ++ read_lines j read) ++ reports) = ap (λ ls. told_removed kind (ls ++ reports)) flat_with in
+      let is : told_removed kind (run_lines asked lines_of group table interval) ≡ told_removed kind ((flat ++ read_lines j read) ++ reports) = ap
+      (λ ls. told_removed kind (ls ++ reports)) flat_with in
       let a = sum_by-append (told_by kind) (flat ++ read_lines j read) reports in
       let b = sum_by-append (told_by kind) flat (read_lines j read) in
       let c = sum_by-append (told_by kind) flat reports in
@@ -180,7 +196,8 @@ module _ (buckets : ℕ) (h : History) (logs : ℕ → List LogEntry) (rounds : 
     closed_with = put closed j (log_at read [])
 
     closes_with : (k : ℕ) → Closes (logs_with k) (closed_with k)
-    closes_with k = by_number j (λ i b. Closes (if b then log_at read [] else logs i) (if b then log_at read [] else closed i)) (inl (read_closed read (log_at read []) (without_none read []), refl)) (λ i e. closes i) k
+    closes_with k = by_number j (λ i b. Closes (if b then log_at read [] else logs i) (if b then log_at read [] else closed i))
+        (inl (read_closed read (log_at read []) (without_none read []), refl)) (λ i e. closes i) k
 
     reader_closed : closed j ≡ logs j
     reader_closed = closed_same (logs j) (closed j) (read_closed (read ++ r.later) (logs j) r.ended) (closes j)
@@ -188,7 +205,8 @@ module _ (buckets : ℕ) (h : History) (logs : ℕ → List LogEntry) (rounds : 
     made_same : made_in j closed_with ≡ made_in j closed
     made_same = sum_same j (λ k. first_writes every (closed k)) (λ k. first_writes every (closed_with k))
         (λ k w. by_number j (λ i b. first_writes every (if b then log_at read [] else closed i) ≡ first_writes every (closed i))
-        (skipped (first_writes every) (λ n m. refl) read [] ∙ sym (ap (first_writes every) reader_closed ∙ read_as (first_writes every) (made every) (λ n m. refl) (read ++ r.later) (logs j) r.ended)) (λ i e. refl) k)
+        (skipped (first_writes every) (λ n m. refl) read [] ∙ sym (ap (first_writes every) reader_closed ∙
+        read_as (first_writes every) (made every) (λ n m. refl) (read ++ r.later) (logs j) r.ended)) (λ i e. refl) k)
 
     undone_same : undone_in j closed_with ≡ undone_in j closed
     undone_same = sum_same j (λ k. undos every (closed k)) (λ k. undos every (closed_with k))
@@ -201,7 +219,8 @@ module _ (buckets : ℕ) (h : History) (logs : ℕ → List LogEntry) (rounds : 
         (subst (λ rs. HasShape rs (run_lines asked lines_of group table interval)) (sym (in_order_is rounds asked)) (run_shape buckets h logs_with rounds asked lines_of group table interval ran_with))
         ∙ told_with kind
 
-    counted_with : (totals : Totals) → AreTotalsBy j h closed (λ kind. told_removed kind printed) totals → IsCounted j h closed_with (said_from [] (in_order (run rounds) asked) (run_lines asked lines_of group table interval)) totals
+    counted_with : (totals : Totals) → AreTotalsBy j h closed (λ kind. told_removed kind printed) totals →
+        IsCounted j h closed_with (said_from [] (in_order (run rounds) asked) (run_lines asked lines_of group table interval)) totals
     counted_with totals t = record {
       made = t.made ∙ sym made_same;
       undone = t.undone ∙ sym undone_same;
@@ -214,11 +233,13 @@ module _ (buckets : ℕ) (h : History) (logs : ℕ → List LogEntry) (rounds : 
 
     pub sound_some : (totals : Totals) → AreTotalsBy j h closed (λ kind. told_removed kind printed) totals → IsSoundWith rounds script read (record { lines = printed; totals = totals })
     sound_some totals t =
-        let within : Each (λ (q : Record). q.session ≤ j) asked = each_append (λ (q : Record). q.session ≤ j) script.records (read_records j read) (within_top j script.records (omega arith)) (each_read (λ (q : Record). q.session ≤ j) j read (omega arith) (omega arith)) in
+        let within : Each (λ (q : Record). q.session ≤ j) asked = each_append (λ (q : Record). q.session ≤ j) script.records (read_records j read)
+        (within_top j script.records (omega arith)) (each_read (λ (q : Record). q.session ≤ j) j read (omega arith) (omega arith)) in
         subst (λ (ls : List Line). IsSound (run rounds) (with_reader script read) (record { lines = ls; totals = totals })) printed_with
         (run_whole buckets j h logs_with closed_with rounds (with_reader script read) lines_of group table interval totals ran_with within closes_with (counted_with totals t))
 
-pub sound_with : (buckets : ℕ) (h : History) (logs closed : ℕ → List LogEntry) (rounds : ℕ) (script : Script) (ats : List ℕ) (lines : ℕ → List Line) (group table interval : List Report) (totals : Totals) → HasRunWith buckets h logs rounds script ats lines group table interval → ((j : ℕ) → Closes (logs j) (closed j)) →
+pub sound_with : (buckets : ℕ) (h : History) (logs closed : ℕ → List LogEntry) (rounds : ℕ) (script : Script) (ats : List ℕ) (lines : ℕ → List Line)
+    (group table interval : List Report) (totals : Totals) → HasRunWith buckets h logs rounds script ats lines group table interval → ((j : ℕ) → Closes (logs j) (closed j)) →
     let shown : List Line = run_lines script.records lines group table interval in
     AreTotalsBy (reader_of script) h closed (λ kind. told_removed kind shown) totals → IsSoundWith rounds script ats (record { lines = shown; totals = totals })
 sound_with buckets h logs closed rounds script [] lines group table interval totals r c t = absurd (let some : 0 < 0 = r.some in omega (arith, some))

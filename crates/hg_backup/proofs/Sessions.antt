@@ -36,7 +36,8 @@ module _ {X : Type 0} where
   flat_same f g i (suc many) e = (λ k. e i (omega arith) k ++ flat_same f g (suc i) many (λ j less. e j (omega (arith, less))) k)
 
   -- those of sessions 1, 2, .., of which the first ones are as they were, and then those of the last one
-  pub one_further : (f old : ℕ → List X) (g : ℕ) → (g ≡ 0 → old 1 ≡ []) → ((j : ℕ) → j < suc (max 1 g) → f j ≡ old j) → flat_map f (numbers_from 1 (suc (max 1 g))) ≡ flat_map old (numbers_from 1 g) ++ f (suc (max 1 g))
+  pub one_further : (f old : ℕ → List X) (g : ℕ) → (g ≡ 0 → old 1 ≡ []) → ((j : ℕ) → j < suc (max 1 g) → f j ≡ old j) →
+      flat_map f (numbers_from 1 (suc (max 1 g))) ≡ flat_map old (numbers_from 1 g) ++ f (suc (max 1 g))
   one_further f old g e same =
       flat_snoc f (max 1 g) ∙ ap (λ xs. xs ++ f (suc (max 1 g))) (flat_same f old 1 (max 1 g) (λ j less. same j (omega (arith, less))) ∙ one_least old g e)
 
@@ -95,7 +96,8 @@ module _ (script : Script) where
   records_with [] = ap (λ rs. flat_map (λ j. of_session j rs) (sessions_of rs)) (append_nil records) ∙ sym (append_nil all_records)
   records_with (at ∷ ats) =
       ap (λ n. flat_map (λ j. of_session j (with_reader script (at ∷ ats)).records) (numbers_from 1 n)) (greatest_with at ats)
-      ∙ one_further (λ j. of_session j (with_reader script (at ∷ ats)).records) (λ j. of_session j records) top (λ zero_is. none_over records 1 (omega (arith, zero_is))) (λ j less. session_else (at ∷ ats) j (other_number j less))
+      ∙ one_further (λ j. of_session j (with_reader script (at ∷ ats)).records) (λ j. of_session j records) top (λ zero_is. none_over records 1 (omega (arith, zero_is)))
+      (λ j less. session_else (at ∷ ats) j (other_number j less))
       ∙ ap (λ l. all_records ++ l) (session_here (at ∷ ats))
 
   -- the lines of sessions, with the reader's

@@ -44,19 +44,22 @@ same_rows tables h k s e = (is_the_list tables k s (rows_at tables h s)).0 (rows
 
 -- ---- a run
 
-run_same : (buckets : ℕ) (h : History) (logs : ℕ → List LogEntry) (rounds : ℕ) (script : Script) (lines : ℕ → List Line) (group table interval : List Report) → HasRun buckets h logs rounds script.records lines group table interval
+run_same : (buckets : ℕ) (h : History) (logs : ℕ → List LogEntry) (rounds : ℕ) (script : Script) (lines : ℕ → List Line) (group table interval : List Report) →
+    HasRun buckets h logs rounds script.records lines group table interval
     → SameGroups h (history_of (all_said (run rounds) script (run_lines script.records lines group table interval)))
 run_same buckets h logs rounds script lines group table interval ran =
     let asked : List Record = in_order (run rounds) script.records in
     let printed : List Line = run_lines script.records lines group table interval in
     let all : List Said = said_from [] asked printed in
-    let told = lines_told (run rounds) buckets h (history_of all) logs all (RunsGc rounds) (λ j l. ⊤) (λ j x l q. tt) (places_of buckets ran.logged.some) (λ ls q line m. m) asked printed (λ j. []) logs []
+    let told = lines_told (run rounds) buckets h (history_of all) logs all (RunsGc rounds) (λ j l. ⊤) (λ j x l q. tt) (places_of buckets ran.logged.some)
+    (λ ls q line m. m) asked printed (λ j. []) logs []
     (λ j. ties_nothing j) (λ j. None) (λ j. left_nothing j) (run_follows buckets h logs rounds script.records lines group table interval ran) ran.logged.judged ran.logged.replied (λ j. tt) in
     same_printed h all ran.logged.history (matches_all buckets h logs all ran.logged told.1)
 
 -- ---- with a reader
 
-with_same : (buckets : ℕ) (h : History) (logs : ℕ → List LogEntry) (rounds : ℕ) (script : Script) (ats : List ℕ) (lines : ℕ → List Line) (group table interval : List Report) → HasRunWith buckets h logs rounds script ats lines group table interval
+with_same : (buckets : ℕ) (h : History) (logs : ℕ → List LogEntry) (rounds : ℕ) (script : Script) (ats : List ℕ) (lines : ℕ → List Line) (group table interval : List Report) →
+    HasRunWith buckets h logs rounds script ats lines group table interval
     → SameGroups h (history_of (all_said (run rounds) script (run_lines script.records lines group table interval)))
 with_same buckets h logs rounds script [] lines group table interval r = absurd (let some : 0 < 0 = r.some in omega (arith, some))
 with_same buckets h logs rounds script (at ∷ ats) lines group table interval r =
@@ -67,11 +70,13 @@ with_same buckets h logs rounds script (at ∷ ats) lines group table interval r
     let printed : List Line = run_lines script.records lines group table interval in
     let shape : HasShape (in_order (run rounds) asked) (lines_with script (at ∷ ats) printed) =
     subst (λ ls. HasShape (in_order (run rounds) asked) ls) is
-    (subst (λ rs. HasShape rs (run_lines asked of_all group table interval)) (sym (in_order_is rounds asked)) (run_shape buckets h (logs_with buckets h logs rounds script at ats lines group table interval r) rounds asked of_all group table interval ran)) in
+    (subst (λ rs. HasShape rs (run_lines asked of_all group table interval)) (sym (in_order_is rounds asked))
+    (run_shape buckets h (logs_with buckets h logs rounds script at ats lines group table interval r) rounds asked of_all group table interval ran)) in
     subst (λ (k : History). SameGroups h k) (ap (λ ls. history_of (all_said (run rounds) (with_reader script (at ∷ ats)) ls)) is ∙ history_alone rounds script (at ∷ ats) printed shape)
     (run_same buckets h (logs_with buckets h logs rounds script at ats lines group table interval r) rounds (with_reader script (at ∷ ats)) of_all group table interval ran)
 
-module _ (buckets : ℕ) (h : History) (logs : ℕ → List LogEntry) (rounds : ℕ) (script : Script) (ats : List ℕ) (lines : ℕ → List Line) (group table interval : List Report) (r : HasRunWith buckets h logs rounds script ats lines group table interval) where
+module _ (buckets : ℕ) (h : History) (logs : ℕ → List LogEntry) (rounds : ℕ) (script : Script) (ats : List ℕ) (lines : ℕ → List Line) (group table interval : List Report)
+    (r : HasRunWith buckets h logs rounds script ats lines group table interval) where
   abbrev printed : History
   printed = history_of (all_said (run rounds) script (run_lines script.records lines group table interval))
 

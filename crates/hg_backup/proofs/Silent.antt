@@ -31,7 +31,8 @@ reader_silent earlier j (at ∷ ats) =
     let first : Said = said earlier (asked j (Begin All)) (answered j (Begun at)).reply in
     let second : Said = said (first ∷ earlier) (asked j CommitIt) (answered j Ended).reply in
     let last : Option Said = last_of j (first ∷ earlier) in
-    no_commit (first ∷ earlier) second (commits_from (second ∷ first ∷ earlier) (said_from (second ∷ first ∷ earlier) (read_records j ats) (read_lines j ats))) (ended_none (open_after last) (next_after last) (asked j CommitIt) j refl)
+    no_commit (first ∷ earlier) second (commits_from (second ∷ first ∷ earlier) (said_from (second ∷ first ∷ earlier) (read_records j ats) (read_lines j ats)))
+    (ended_none (open_after last) (next_after last) (asked j CommitIt) j refl)
     ∙ reader_silent (second ∷ first ∷ earlier) j ats
 
 -- a collector's round

@@ -52,7 +52,8 @@ none_open : (x j : ℕ) (r : Rid) (earlier : List Said) → Each IsAlone earlier
 none_open x j r [] h some = absurd (true_false (sym some))
 none_open x j r (s ∷ earlier) h some = go (is_of j x s) some (none_open x j r earlier h.1)
   where
-    go : (b : Bool) → IsSome (image_in r (filter_map stored (cond b (s ∷ filter (is_of j x) earlier) (filter (is_of j x) earlier)))) → (IsSome (image_in r (stored_in j x earlier)) → IsTrue (list_any ends (filter (is_of j x) earlier)))
+    go : (b : Bool) → IsSome (image_in r (filter_map stored (cond b (s ∷ filter (is_of j x) earlier) (filter (is_of j x) earlier)))) →
+        (IsSome (image_in r (stored_in j x earlier)) → IsTrue (list_any ends (filter (is_of j x) earlier)))
         → IsTrue (list_any ends (cond b (s ∷ filter (is_of j x) earlier) (filter (is_of j x) earlier)))
     go true some later = ap (λ b. (b || is_end s.statement) || list_any ends (filter (is_of j x) earlier)) h.0
     go false some later = later some
@@ -68,10 +69,12 @@ module _ (k : History) (all earlier : List Said) (next place : ℕ) (r : Rid) (r
   asked = record { place = place; session = 1; statement = Put r row }
 
   -- the reply to a put outside a transaction
-  one_stored : (at : Option ℕ) (answer : Answer) (number : Option ℕ) → let reply : Reply = record { at = at; answer = answer; number = number } in IsRight replay k all earlier (standing None next asked reply) → (answer ≡ Stored) × (is_some number ≡ true)
+  one_stored : (at : Option ℕ) (answer : Answer) (number : Option ℕ) → let reply : Reply = record { at = at; answer = answer; number = number } in
+      IsRight replay k all earlier (standing None next asked reply) → (answer ≡ Stored) × (is_some number ≡ true)
   one_stored at answer number is = go at answer is is.reply.at (within (has (only (Some r.table)) r.table) (IsPut answer) (IsUndeclared r.table answer) (has_only r.table) is.reply.answer)
     where
-      go : (at : Option ℕ) (answer : Answer) → let reply : Reply = record { at = at; answer = answer; number = number } in IsRight replay k all earlier (standing None next asked reply) → is_some at ≡ true → IsPut answer → (answer ≡ Stored) × (is_some number ≡ true)
+      go : (at : Option ℕ) (answer : Answer) → let reply : Reply = record { at = at; answer = answer; number = number } in
+          IsRight replay k all earlier (standing None next asked reply) → is_some at ≡ true → IsPut answer → (answer ≡ Stored) × (is_some number ≡ true)
       go at Stored is some p = (refl, is.reply.number)
       go (Some a) (Newer c) is some p =
           let over = is.conflict.1.over in
@@ -87,14 +90,16 @@ module _ (k : History) (all earlier : List Said) (next place : ℕ) (r : Rid) (r
 abbrev pub HasStored : Line → Type 0
 HasStored line = (line.reply.answer ≡ Stored) × IsSome line.reply.number
 
-pub all_stored : (k : History) (all earlier : List Said) (place : ℕ) (rows : List Kept) (lines : List Line) → Each IsAlone earlier → EachAfter (IsRight replay k all) earlier (said_from earlier (numbered place (map put_of rows)) lines) → HasShape (numbered place (map put_of rows)) lines → Each HasStored lines
+pub all_stored : (k : History) (all earlier : List Said) (place : ℕ) (rows : List Kept) (lines : List Line) → Each IsAlone earlier →
+    EachAfter (IsRight replay k all) earlier (said_from earlier (numbered place (map put_of rows)) lines) → HasShape (numbered place (map put_of rows)) lines → Each HasStored lines
 all_stored k all earlier place [] [] alone right shape = tt
 all_stored k all earlier place [] (line ∷ lines) alone right shape = absurd shape
 all_stored k all earlier place (kept ∷ rows) [] alone right shape = absurd shape
 all_stored k all earlier place (kept ∷ rows) (line ∷ lines) alone right shape =
     let r : Record = record { place = place; session = 1; statement = Put kept.rid kept.row } in
     let last : Option Said = last_of 1 earlier in
-    let is : standing (open_after last) (next_after last) r line.reply ≡ standing None (next_after last) r line.reply = ap (λ o. standing o (next_after last) r line.reply) (none_opened 1 earlier alone) in (
+    let is : standing (open_after last) (next_after last) r line.reply ≡ standing None (next_after last) r line.reply = ap (λ o. standing o (next_after last) r line.reply)
+    (none_opened 1 earlier alone) in (
       one_stored k all earlier (next_after last) place kept.rid kept.row alone line.reply.at line.reply.answer line.reply.number (subst (IsRight replay k all earlier) is right.0),
       all_stored k all (said earlier r line.reply ∷ earlier) (place + 1) rows lines (ap (λ (s : Said). s.alone) is, alone) right.1 shape.1,
     )

@@ -42,5 +42,6 @@ pub record IsSoundBut (rounds : ℕ) (script : Script) (ats : List ℕ) (printed
   pub shape : HasShape (in_order (run rounds) script.records) printed.lines
   pub whole : IsWhole (all_said (run rounds) script printed.lines)
   pub kept : NoLostUpdate (history_of (all_said (run rounds) script printed.lines))
-  pub lines : EachAfter (IsRightBut rounds script ats (history_of (all_said (run rounds) script printed.lines)) (all_said (run rounds) script printed.lines)) [] (all_said (run rounds) script printed.lines)
+  pub lines : EachAfter (IsRightBut rounds script ats (history_of (all_said (run rounds) script printed.lines)) (all_said (run rounds) script printed.lines)) []
+      (all_said (run rounds) script printed.lines)
   pub totals : AreTotals (all_said (run rounds) script printed.lines) (history_of (all_said (run rounds) script printed.lines)) printed.totals

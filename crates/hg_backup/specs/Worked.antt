@@ -19,7 +19,13 @@ script = record { version = 2; tables = record { name = codes "t"; kinds = colum
 
 -- a report that session 2 held a snapshot
 abbrev pub holding : ℕ → Bool → Report
-holding number moved = record { kind = kinds.Interval; mark = 1; horizon = 1; removed = 0; entries = record { list = record { session = 2; number = number; scope = All; moved = moved } ∷ []; room = 1 } }
+holding number moved = record {
+  kind = kinds.Interval;
+  mark = 1;
+  horizon = 1;
+  removed = 0;
+  entries = record { list = record { session = 2; number = number; scope = All; moved = moved } ∷ []; room = 1 };
+}
 
 -- what is printed where the interval collector made that report
 abbrev pub printed : ℕ → Bool → Printed

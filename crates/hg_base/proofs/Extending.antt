@@ -39,7 +39,8 @@ pub extends_snoc : (h : History) (g : Group) → Extends h (h ++ g ∷ [])
 extends_snoc h g = record {
   longer = snoc_longer h g;
   sees = λ own at k. sym (seen_stays h g own at k);
-  does = λ n r e. ap (list_any (λ (w : ℕ × Image). w.0 == n)) (writes_from_snoc 1 h g r) ∙ any_more (λ w. w.0 == n) (writes h r) (cons_option (option_map (λ image. (1 + length h, image)) (group_image r g)) []) e;
+  does = λ n r e. ap (list_any (λ (w : ℕ × Image). w.0 == n)) (writes_from_snoc 1 h g r) ∙
+      any_more (λ w. w.0 == n) (writes h r) (cons_option (option_map (λ image. (1 + length h, image)) (group_image r g)) []) e;
 }
 
 -- ---- a line's reply
@@ -79,19 +80,25 @@ numbers_in_append j x xs ys = ap (filter_map committed) (filter-append (is_of j 
 pub late_numbers : (n at : ℕ) (j x : ℕ) (new : Said) → IsLate n new → at ≤ n → Each (λ c. at < c) (numbers_in j x (new ∷ []))
 late_numbers n at j x new late b = each_picked (λ c. at < c) committed (is_of j x new) new (λ c e. let k : n < c = late c e in omega (arith, b, k))
 
-pub open_stays : (n : ℕ) (all : List Said) (new : Said) (session at : ℕ) (r : Rid) (w : Writer) → IsLate n new → at ≤ n → ShowsOpen (stored_in w.session w.transaction all) (numbers_in w.session w.transaction all) session at r w → ShowsOpen (stored_in w.session w.transaction (all ++ new ∷ [])) (numbers_in w.session w.transaction (all ++ new ∷ [])) session at r w
+pub open_stays : (n : ℕ) (all : List Said) (new : Said) (session at : ℕ) (r : Rid) (w : Writer) → IsLate n new → at ≤ n →
+    ShowsOpen (stored_in w.session w.transaction all) (numbers_in w.session w.transaction all) session at r w →
+    ShowsOpen (stored_in w.session w.transaction (all ++ new ∷ [])) (numbers_in w.session w.transaction (all ++ new ∷ [])) session at r w
 open_stays n all new session at r w late b s = record {
   other = s.other;
-  does = subst (λ ws. IsSome (image_in r ws)) (sym (stored_in_append w.session w.transaction all (new ∷ []))) (still_written r (stored_in w.session w.transaction all) (stored_in w.session w.transaction (new ∷ [])) s.does);
-  after = subst (Each (λ c. at < c)) (sym (numbers_in_append w.session w.transaction all (new ∷ []))) (each_append (λ c. at < c) (numbers_in w.session w.transaction all) (numbers_in w.session w.transaction (new ∷ [])) s.after (late_numbers n at w.session w.transaction new late b));
+  does = subst (λ ws. IsSome (image_in r ws)) (sym (stored_in_append w.session w.transaction all (new ∷ [])))
+      (still_written r (stored_in w.session w.transaction all) (stored_in w.session w.transaction (new ∷ [])) s.does);
+  after = subst (Each (λ c. at < c)) (sym (numbers_in_append w.session w.transaction all (new ∷ [])))
+      (each_append (λ c. at < c) (numbers_in w.session w.transaction all) (numbers_in w.session w.transaction (new ∷ [])) s.after (late_numbers n at w.session w.transaction new late b));
 }
 
-pub cause_stays : (mode : Mode) (h k : History) (all earlier : List Said) (now new : Said) (r : Rid) (a : Answer) → Extends h k → IsLate (length h) new → now.at ≤ length h → ShowsCause mode h all earlier now r a → ShowsCause mode k (all ++ new ∷ []) earlier now r a
+pub cause_stays : (mode : Mode) (h k : History) (all earlier : List Said) (now new : Said) (r : Rid) (a : Answer) → Extends h k → IsLate (length h) new → now.at ≤ length h →
+    ShowsCause mode h all earlier now r a → ShowsCause mode k (all ++ new ∷ []) earlier now r a
 cause_stays mode h k all earlier now new r (Newer c) x late b s = (s.0, newer_stays h k now.at r c x s.1)
 cause_stays mode h k all earlier now new r (OpenBy w) x late b s = (s.0, open_stays (length h) all new now.session now.at r w late b s.1, s.2)
 cause_stays mode h k all earlier now new r _ x late b s = tt
 
-pub conflict_stays : (mode : Mode) (h k : History) (all earlier : List Said) (now new : Said) → Extends h k → IsLate (length h) new → now.at ≤ length h → ShowsConflict mode h all earlier now → ShowsConflict mode k (all ++ new ∷ []) earlier now
+pub conflict_stays : (mode : Mode) (h k : History) (all earlier : List Said) (now new : Said) → Extends h k → IsLate (length h) new → now.at ≤ length h →
+    ShowsConflict mode h all earlier now → ShowsConflict mode k (all ++ new ∷ []) earlier now
 conflict_stays mode h k all earlier now new x late b s = if_some_keeps (target now.statement) _ _ (λ r. cause_stays mode h k all earlier now new r now.reply.answer x late b) s
 
 -- ---- what was known
@@ -109,11 +116,16 @@ reported_stays h k all earlier new sweep x s = record {
 }
 
 pub fresh_stays : (mode : Mode) (h k : History) (all earlier : List Said) (now new : Said) → Extends h k → IsFresh mode h all earlier now → IsFresh mode k (all ++ new ∷ []) earlier now
-fresh_stays mode h k all earlier now new x s = record { rising = s.rising; exact = s.exact; report = if_some_keeps (report_of now.reply) _ _ (λ sweep. reported_stays h k all earlier new sweep x) s.report }
+fresh_stays mode h k all earlier now new x s = record {
+  rising = s.rising;
+  exact = s.exact;
+  report = if_some_keeps (report_of now.reply) _ _ (λ sweep. reported_stays h k all earlier new sweep x) s.report;
+}
 
 -- ---- a line
 
-pub line_stays : (mode : Mode) (h k : History) (all : List Said) (new : Said) → Extends h k → IsLate (length h) new → (earlier : List Said) (now : Said) → IsRight mode h all earlier now → IsRight mode k (all ++ new ∷ []) earlier now
+pub line_stays : (mode : Mode) (h k : History) (all : List Said) (new : Said) → Extends h k → IsLate (length h) new → (earlier : List Said) (now : Said) →
+    IsRight mode h all earlier now → IsRight mode k (all ++ new ∷ []) earlier now
 line_stays mode h k all new x late earlier now s = record {
   reply = reply_stays mode h k earlier now x s.reply;
   conflict = conflict_stays mode h k all earlier now new x late s.reply.snapshot s.conflict;
@@ -121,5 +133,6 @@ line_stays mode h k all new x late earlier now s = record {
 }
 
 -- every line so far is right, and the new one: so every line is
-pub lines_step : (mode : Mode) (h k : History) (all : List Said) (new : Said) → Extends h k → IsLate (length h) new → EachAfter (IsRight mode h all) [] all → IsRight mode k (all ++ new ∷ []) (onto all []) new → EachAfter (IsRight mode k (all ++ new ∷ [])) [] (all ++ new ∷ [])
+pub lines_step : (mode : Mode) (h k : History) (all : List Said) (new : Said) → Extends h k → IsLate (length h) new → EachAfter (IsRight mode h all) [] all →
+    IsRight mode k (all ++ new ∷ []) (onto all []) new → EachAfter (IsRight mode k (all ++ new ∷ [])) [] (all ++ new ∷ [])
 lines_step mode h k all new x late s now = each_after_snoc _ [] all new (each_after_keeps _ _ (line_stays mode h k all new x late) [] all s) now

@@ -19,7 +19,8 @@ use Rattle.hg_base.proofs.Extending.{extends_itself, extends_snoc, lines_step}
 
 pub commits_from_snoc : (earlier xs : List Said) (now : Said) → commits_from earlier (xs ++ now ∷ []) ≡ commits_from earlier xs ++ cons_option (commit_of (onto xs earlier) now) []
 commits_from_snoc earlier [] now = refl
-commits_from_snoc earlier (x ∷ xs) now = ap (cons_option (commit_of earlier x)) (commits_from_snoc (x ∷ earlier) xs now) ∙ cons_option_append (commit_of earlier x) (commits_from (x ∷ earlier) xs) (cons_option (commit_of (onto xs (x ∷ earlier)) now) [])
+commits_from_snoc earlier (x ∷ xs) now = ap (cons_option (commit_of earlier x)) (commits_from_snoc (x ∷ earlier) xs now) ∙
+    cons_option_append (commit_of earlier x) (commits_from (x ∷ earlier) xs) (cons_option (commit_of (onto xs (x ∷ earlier)) now) [])
 
 -- ---- the greatest number
 
@@ -46,7 +47,8 @@ pub below_max_right : (a c m : ℕ) → a < suc m → a < suc (max c m)
 below_max_right a c m h = omega (arith, h)
 
 -- with one number more, if there is one
-pub below_one_more : (o : Option ℕ) (commit : Commit) (most : ℕ) (ns : List ℕ) → greatest ns ≡ most → (ps : List (ℕ × Commit)) → Each (λ p. p.0 < suc most) ps → Each (λ p. p.0 < suc (greatest (cons_option o ns))) (cons_option (option_map (λ c. (c, commit)) o) ps)
+pub below_one_more : (o : Option ℕ) (commit : Commit) (most : ℕ) (ns : List ℕ) → greatest ns ≡ most → (ps : List (ℕ × Commit)) → Each (λ p. p.0 < suc most) ps →
+    Each (λ p. p.0 < suc (greatest (cons_option o ns))) (cons_option (option_map (λ c. (c, commit)) o) ps)
 below_one_more None commit most ns e ps h = subst (λ m. Each (λ (p : ℕ × Commit). p.0 < suc m) ps) (sym e) h
 below_one_more (Some c) commit most ns e ps h = (
   below_max_left c (greatest ns),
@@ -56,7 +58,8 @@ below_one_more (Some c) commit most ns e ps h = (
 -- every printed number is at most the greatest
 pub commits_below : (earlier all : List Said) → Each (λ p. p.0 < suc (greatest (filter_map committed all))) (commits_from earlier all)
 commits_below earlier [] = tt
-commits_below earlier (now ∷ later) = below_one_more (committed now) (commit_by earlier now) (greatest (filter_map committed later)) (filter_map committed later) refl (commits_from (now ∷ earlier) later) (commits_below (now ∷ earlier) later)
+commits_below earlier (now ∷ later) = below_one_more (committed now) (commit_by earlier now) (greatest (filter_map committed later)) (filter_map committed later) refl
+    (commits_from (now ∷ earlier) later) (commits_below (now ∷ earlier) later)
 
 -- ---- the history
 
@@ -115,7 +118,8 @@ greatest_same all new e = ap greatest (filter_map-append committed all (new ∷ 
 pub history_same : (all : List Said) (new : Said) → committed new ≡ None → history_of (all ++ new ∷ []) ≡ history_of all
 history_same all new e = λ i. map (group_of (commits_same all new e i)) (numbers_from 1 (greatest_same all new e i))
 
-pub plain_stays : (mode : Mode) (all : List Said) (new : Said) → AreRight mode all → committed new ≡ None → IsRight mode (history_of all) (all ++ new ∷ []) (onto all []) new → AreRight mode (all ++ new ∷ [])
+pub plain_stays : (mode : Mode) (all : List Said) (new : Said) → AreRight mode all → committed new ≡ None → IsRight mode (history_of all) (all ++ new ∷ []) (onto all []) new →
+    AreRight mode (all ++ new ∷ [])
 plain_stays mode all new s e line =
     let back : history_of all ≡ history_of (all ++ new ∷ []) = sym (history_same all new e) in
     record {
@@ -151,10 +155,12 @@ kept_snoc h c s l =
     each_group_snoc _ 1 h (c ∷ [])
     (each_group_keeps _ _ 1 h (λ n g k. each_keeps _ _ (λ d. each_keeps _ _ (λ w t.
     let P : List (ℕ × Image) → Type 0 = Each (λ other. (other.0 ≤ d.at) ⊎ (n ≤ other.0)) in
-    subst P (sym (writes_from_snoc 1 h (c ∷ []) w.rid)) (each_append (λ other. (other.0 ≤ d.at) ⊎ (n ≤ other.0)) (writes h w.rid) _ t (new_number n (λ m. m ≤ d.at) (1 + length h) (group_image w.rid (c ∷ [])) (below_at_most n (1 + length h) k)))) d.images) g) s) (
+    subst P (sym (writes_from_snoc 1 h (c ∷ []) w.rid)) (each_append (λ other. (other.0 ≤ d.at) ⊎ (n ≤ other.0)) (writes h w.rid) _ t
+    (new_number n (λ m. m ≤ d.at) (1 + length h) (group_image w.rid (c ∷ [])) (below_at_most n (1 + length h) k)))) d.images) g) s) (
       each_keeps _ _ (λ w t.
           let P : List (ℕ × Image) → Type 0 = Each (λ other. (other.0 ≤ c.at) ⊎ (1 + length h ≤ other.0)) in
-          subst P (sym (writes_from_snoc 1 h (c ∷ []) w.rid)) (each_append (λ other. (other.0 ≤ c.at) ⊎ (1 + length h ≤ other.0)) (writes h w.rid) _ (each_keeps _ _ (λ other k. inl k) (writes h w.rid) t) (new_number (1 + length h) (λ m. m ≤ c.at) (1 + length h) (group_image w.rid (c ∷ [])) (omega arith)))) c.images l,
+          subst P (sym (writes_from_snoc 1 h (c ∷ []) w.rid)) (each_append (λ other. (other.0 ≤ c.at) ⊎ (1 + length h ≤ other.0)) (writes h w.rid) _
+          (each_keeps _ _ (λ other k. inl k) (writes h w.rid) t) (new_number (1 + length h) (λ m. m ≤ c.at) (1 + length h) (group_image w.rid (c ∷ [])) (omega arith)))) c.images l,
       tt,
     )
 
@@ -166,7 +172,8 @@ pub commits_next : (all : List Said) (new : Said) (n : ℕ) → committed new �
 commits_next all new n e = commits_from_snoc [] all new ∙ ap (λ o. commits all ++ cons_option (option_map (λ c. (c, commit_by (onto all []) new)) o) []) e
 
 pub greatest_next : (all : List Said) (new : Said) → committed new ≡ Some (suc (greatest_commit all)) → greatest_commit (all ++ new ∷ []) ≡ suc (greatest_commit all)
-greatest_next all new e = ap greatest (filter_map-append committed all (new ∷ []) ∙ ap (λ o. filter_map committed all ++ cons_option o []) e) ∙ greatest_snoc (filter_map committed all) (suc (greatest_commit all)) (omega arith)
+greatest_next all new e = ap greatest (filter_map-append committed all (new ∷ []) ∙ ap (λ o. filter_map committed all ++ cons_option o []) e) ∙
+    greatest_snoc (filter_map committed all) (suc (greatest_commit all)) (omega arith)
 
 pub history_next_of : (all : List Said) (new : Said) → committed new ≡ Some (suc (greatest_commit all)) → history_of (all ++ new ∷ []) ≡ history_of all ++ (commit_by (onto all []) new ∷ []) ∷ []
 history_next_of all new e =
@@ -179,7 +186,8 @@ next_number all new e = e ∙ ap (λ n. Some (suc n)) (as_many all)
 pub history_next : (all : List Said) (new : Said) → committed new ≡ Some (suc (length (history_of all))) → history_of (all ++ new ∷ []) ≡ history_of all ++ (commit_by (onto all []) new ∷ []) ∷ []
 history_next all new e = history_next_of all new (next_number all new e)
 
-pub commit_stays : (mode : Mode) (all : List Said) (new : Said) → AreRight mode all → committed new ≡ Some (suc (length (history_of all))) → IsGroup (suc (length (history_of all))) (commit_by (onto all []) new ∷ []) → LosesNothing (history_of all) (commit_by (onto all []) new) →
+pub commit_stays : (mode : Mode) (all : List Said) (new : Said) → AreRight mode all → committed new ≡ Some (suc (length (history_of all))) →
+    IsGroup (suc (length (history_of all))) (commit_by (onto all []) new ∷ []) → LosesNothing (history_of all) (commit_by (onto all []) new) →
     IsRight mode (history_of all ++ (commit_by (onto all []) new ∷ []) ∷ []) (all ++ new ∷ []) (onto all []) new → AreRight mode (all ++ new ∷ [])
 commit_stays mode all new s e group loses line =
     let h = history_of all in

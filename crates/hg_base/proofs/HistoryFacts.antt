@@ -9,7 +9,8 @@ use Rattle.std.proofs.lemmas.Bool.{le-leb}
 use Rattle.hg_base.specs.declared.rid.Rid.{Rid}
 use Rattle.hg_base.specs.declared.image.Image.{Image}
 use Rattle.hg_base.specs.Lists.{Each}
-use Rattle.hg_base.specs.History.{Write, Commit, Group, History, EachGroup, group_from, group_at, same_rid, image_in, group_image, writes_from, writes, last_image, nothing, visible, seen, NoLostUpdate}
+use Rattle.hg_base.specs.History.{Write, Commit, Group, History, EachGroup, group_from, group_at, same_rid, image_in, group_image, writes_from, writes, last_image, nothing, visible, seen}
+use Rattle.hg_base.specs.History.{NoLostUpdate}
 use Rattle.hg_base.proofs.ListFacts.{cases, false_true, each_at, each_of_option, cons_option_append, append_nil, not_at_most}
 
 -- ---- records
@@ -42,7 +43,8 @@ pub each_group_at : (P : ℕ → Group → Type 0) (first : ℕ) (h : History) (
 each_group_at P first [] n c s (k, within, e) = absurd (omega (arith, within))
 each_group_at P first (g ∷ gs) n c s m = go (first == n) refl (each_group_at P (suc first) gs n c s.1) m
   where
-    go : (b : Bool) → (first == n) ≡ b → (Contains (group_from (suc first) gs n) c → P n (group_from (suc first) gs n)) → Contains (cond b g (group_from (suc first) gs n)) c → P n (cond b g (group_from (suc first) gs n))
+    go : (b : Bool) → (first == n) ≡ b → (Contains (group_from (suc first) gs n) c → P n (group_from (suc first) gs n)) → Contains (cond b g (group_from (suc first) gs n)) c →
+        P n (cond b g (group_from (suc first) gs n))
     go true e later m = subst (λ k. P k g) ((Decides-eqb first n).0 e) s.0
     go false e later m = later m
 
@@ -64,10 +66,12 @@ first_number Q n None rest s h = absurd (false_true s)
 first_number Q n (Some image) rest s h = h.0
 
 -- what holds of every number whose group writes r holds of a commit's that writes r
-pub number_of_write : (Q : ℕ → Type 0) (first : ℕ) (h : History) (m : ℕ) (c : Commit) (r : Rid) → Contains (group_from first h m) c → IsSome (image_in r c.images) → Each (λ w. Q w.0) (writes_from first h r) → Q m
+pub number_of_write : (Q : ℕ → Type 0) (first : ℕ) (h : History) (m : ℕ) (c : Commit) (r : Rid) → Contains (group_from first h m) c → IsSome (image_in r c.images) →
+    Each (λ w. Q w.0) (writes_from first h r) → Q m
 number_of_write Q first [] m c r (k, within, e) s q = absurd (omega (arith, within))
 number_of_write Q first (g ∷ gs) m c r at s q =
-    go (first == m) refl (λ later. number_of_write Q (suc first) gs m c r later s (each_of_option (λ (w : ℕ × Image). Q w.0) (option_map (λ image. (first, image)) (group_image r g)) (writes_from (suc first) gs r) q)) at
+    go (first == m) refl (λ later. number_of_write Q (suc first) gs m c r later s
+    (each_of_option (λ (w : ℕ × Image). Q w.0) (option_map (λ image. (first, image)) (group_image r g)) (writes_from (suc first) gs r) q)) at
   where
     go : (b : Bool) → (first == m) ≡ b → (Contains (group_from (suc first) gs m) c → Q m) → Contains (cond b g (group_from (suc first) gs m)) c → Q m
     go true e later at = subst Q ((Decides-eqb first m).0 e) (first_number Q first (group_image r g) (writes_from (suc first) gs r) (group_writes r g c at s) q)
@@ -78,7 +82,8 @@ at_most_or_later m n at h (inl k) = k
 at_most_or_later m n at h (inr k) = absurd (omega (arith, h, k))
 
 -- of two commits that write one record, the later one read at or over the earlier one's number
-pub update_kept : (h : History) (m n : ℕ) (c d : Commit) (r : Rid) → NoLostUpdate h → Contains (group_at h m) c → Contains (group_at h n) d → IsSome (image_in r c.images) → IsSome (image_in r d.images) → m < n → m ≤ d.at
+pub update_kept : (h : History) (m n : ℕ) (c d : Commit) (r : Rid) → NoLostUpdate h → Contains (group_at h m) c → Contains (group_at h n) d → IsSome (image_in r c.images) →
+    IsSome (image_in r d.images) → m < n → m ≤ d.at
 update_kept h m n c d r kept in_m in_n c_writes d_writes less =
     let Q : Rid → Type 0 = λ q. Each (λ other. (other.0 ≤ d.at) ⊎ (n ≤ other.0)) (writes h q) in
     let group = each_group_at (λ n group. Each (λ c. Each (λ w. Each (λ other. (other.0 ≤ c.at) ⊎ (n ≤ other.0)) (writes h w.rid)) c.images) group) 1 h n d kept in_n in
@@ -99,7 +104,8 @@ last_of_more [] w = refl
 last_of_more (x ∷ []) w = refl
 last_of_more (x ∷ y ∷ more) w = last_of_more (y ∷ more) w
 
-pub last_visible : (h : History) (r : Rid) (s n : ℕ) (image : Image) (before after : List (ℕ × Image)) → writes h r ≡ before ++ (n, image) ∷ after → n ≤ s → Each (λ w. s < w.0) after → visible h r s ≡ image
+pub last_visible : (h : History) (r : Rid) (s n : ℕ) (image : Image) (before after : List (ℕ × Image)) → writes h r ≡ before ++ (n, image) ∷ after → n ≤ s →
+    Each (λ w. s < w.0) after → visible h r s ≡ image
 last_visible h r s n image before after e within late =
     let p : ℕ × Image → Bool = λ w. nat_le w.0 s in
     ap last_image (ap (filter p) e ∙ filter-append p before ((n, image) ∷ after)
@@ -110,7 +116,8 @@ pub writes_from_snoc : (n : ℕ) (h : History) (g : Group) (r : Rid) → writes_
 writes_from_snoc n [] g r = let e : n ≡ n + zero = omega arith in ap (λ m. cons_option (option_map (λ image. (m, image)) (group_image r g)) []) e
 writes_from_snoc n (f ∷ fs) g r =
     let e : suc n + length fs ≡ n + suc (length fs) = omega arith in
-    ap (cons_option (option_map (λ image. (n, image)) (group_image r f))) (writes_from_snoc (suc n) fs g r ∙ ap (λ m. writes_from (suc n) fs r ++ cons_option (option_map (λ image. (m, image)) (group_image r g)) []) e)
+    ap (cons_option (option_map (λ image. (n, image)) (group_image r f))) (writes_from_snoc (suc n) fs g r ∙
+    ap (λ m. writes_from (suc n) fs r ++ cons_option (option_map (λ image. (m, image)) (group_image r g)) []) e)
     ∙ cons_option_append (option_map (λ image. (n, image)) (group_image r f)) (writes_from (suc n) fs r) (cons_option (option_map (λ image. (n + suc (length fs), image)) (group_image r g)) [])
 
 -- a later group is not seen at a snapshot below its number

@@ -49,7 +49,8 @@ last_by j earlier now b mine e =
     ap (λ c. cond (c && nat_lt 0 now.transaction) (Some now) (last_of j earlier)) session ∙ ap (λ c. cond c (Some now) (last_of j earlier)) e
 
 -- the first line of a transaction
-left_first : (j : ℕ) (earlier : List Said) (now : Said) (left : Option Rest) → now.session ≡ j → nat_lt 0 now.transaction ≡ true → left ≡ rest_in j now.transaction (now ∷ earlier) → ShowsRest j (now ∷ earlier) left
+left_first : (j : ℕ) (earlier : List Said) (now : Said) (left : Option Rest) → now.session ≡ j → nat_lt 0 now.transaction ≡ true → left ≡ rest_in j now.transaction (now ∷ earlier)
+    → ShowsRest j (now ∷ earlier) left
 left_first j earlier now left mine some is = λ opened o. go (ends now) refl opened (sym (ap open_after (last_by j earlier now true mine some)) ∙ o)
   where
     go : (b : Bool) → ends now ≡ b → (opened : Said) → (if b then None else Some now) ≡ Some opened → left ≡ rest_in j opened.transaction (now ∷ earlier)
@@ -64,13 +65,15 @@ next_some (Some s) = over s.transaction
     over n = grind (arith, nat_tests)
 
 -- a line that stands in the open transaction, or is one of its own
-left_stands : (j : ℕ) (earlier : List Said) (r : Record) (reply : Reply) (left : Option Rest) (q : Option Said) → r.session ≡ j → open_of j earlier ≡ q → ShowsRest j earlier left → ShowsRest j (standing q (next_after (last_of j earlier)) r reply ∷ earlier) (rest_after r.statement reply.answer left)
+left_stands : (j : ℕ) (earlier : List Said) (r : Record) (reply : Reply) (left : Option Rest) (q : Option Said) → r.session ≡ j → open_of j earlier ≡ q → ShowsRest j earlier left →
+    ShowsRest j (standing q (next_after (last_of j earlier)) r reply ∷ earlier) (rest_after r.statement reply.answer left)
 left_stands j earlier r reply left None mine was h =
     let now : Said = standing None (next_after (last_of j earlier)) r reply in
     λ opened o. absurd (none_is_not_some opened (sym (ap open_after (last_by j earlier now true mine (next_some (last_of j earlier)))) ∙ o))
 left_stands j earlier r reply left (Some was_open) mine was h =
     let now : Said = standing (Some was_open) (next_after (last_of j earlier)) r reply in
-    let here : rest_after r.statement reply.answer left ≡ rest_in j was_open.transaction (now ∷ earlier) = ap (rest_after r.statement reply.answer) (h was_open was) ∙ sym (rest_here j was_open.transaction earlier now mine refl) in
+    let here : rest_after r.statement reply.answer left ≡ rest_in j was_open.transaction (now ∷ earlier) = ap (rest_after r.statement reply.answer) (h was_open was) ∙
+    sym (rest_here j was_open.transaction earlier now mine refl) in
     cases (nat_lt 0 was_open.transaction)
     (λ t. left_first j earlier now (rest_after r.statement reply.answer left) mine t here)
     (λ f. λ opened o.
@@ -78,7 +81,8 @@ left_stands j earlier r reply left (Some was_open) mine was h =
     subst (λ (s : Said). rest_after r.statement reply.answer left ≡ rest_in j s.transaction (now ∷ earlier)) same here)
 
 -- a line of the session itself
-pub left_own : (earlier : List Said) (place j : ℕ) (reply : Reply) (s : Statement) (left : Option Rest) → ShowsRest j earlier left → ShowsRest j (said earlier (record_of place j s) reply ∷ earlier) (rest_after s reply.answer left)
+pub left_own : (earlier : List Said) (place j : ℕ) (reply : Reply) (s : Statement) (left : Option Rest) → ShowsRest j earlier left →
+    ShowsRest j (said earlier (record_of place j s) reply ∷ earlier) (rest_after s reply.answer left)
 left_own earlier place j reply (Begin scope) left h =
     let now : Said = said earlier (record_of place j (Begin scope)) reply in
     left_first j earlier now None refl (next_some (last_of j earlier)) (sym (rest_here j now.transaction earlier now refl refl))

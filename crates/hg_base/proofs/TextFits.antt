@@ -13,7 +13,8 @@ use Rattle.hg_base.specs.declared.line.Reply.{Reply}
 use Rattle.hg_base.specs.Lists.{Each}
 use Rattle.hg_base.specs.Script.{Declaration}
 use Rattle.hg_base.specs.Transcript.{table_of}
-use Rattle.hg_base.specs.Text.{Fits64, Fits32, FitsRow, FitsRefusal, FitsBegin, FitsGet, FitsPut, FitsDel, FitsScan, FitsFetch, FitsClose, FitsCommit, FitsRollback, FitsSweep, FitsReport, FitsGc, FitsAnswer, FitsReply, IsReport, is_write}
+use Rattle.hg_base.specs.Text.{Fits64, Fits32, FitsRow, FitsRefusal, FitsBegin, FitsGet, FitsPut, FitsDel, FitsScan, FitsFetch, FitsClose, FitsCommit, FitsRollback, FitsSweep, FitsReport}
+use Rattle.hg_base.specs.Text.{FitsGc, FitsAnswer, FitsReply, IsReport, is_write}
 
 -- an answer to a statement of that table
 abbrev pub IsPlain : List Declaration → TableId → Answer → Type 0
@@ -94,7 +95,8 @@ abbrev pub named : Option TableId → Option Statement → TableId
 named cursor None = record { 0 = 0 }
 named cursor (Some statement) = unwrap_or (option_or (table_of statement) cursor) (record { 0 = 0 })
 
-plain_answer : (tables : List Declaration) (cursor : Option TableId) (statement : Statement) (answer : Answer) → FitsAnswer tables cursor statement answer → IsPlain tables (named cursor (Some statement)) answer
+plain_answer : (tables : List Declaration) (cursor : Option TableId) (statement : Statement) (answer : Answer) → FitsAnswer tables cursor statement answer →
+    IsPlain tables (named cursor (Some statement)) answer
 plain_answer tables cursor (Begin scope) answer h = plain_begin tables _ answer h
 plain_answer tables cursor (Get r) answer h = plain_get tables r.table answer h
 plain_answer tables cursor (Put r row) answer h = plain_put tables r.table answer h
@@ -116,7 +118,8 @@ none_holds P None h = tt
 none_holds P (Some n) h = absurd (false≢true h)
 
 -- so every reply that fits is plain
-pub plain_reply : (tables : List Declaration) (alone : Bool) (cursor : Option TableId) (asked : Option Statement) (reply : Reply) → MatchBool alone (IsReport reply) (MatchOption asked ⊥ (λ statement. FitsReply tables cursor statement reply)) → IsPlainReply tables (named cursor asked) reply
+pub plain_reply : (tables : List Declaration) (alone : Bool) (cursor : Option TableId) (asked : Option Statement) (reply : Reply) →
+    MatchBool alone (IsReport reply) (MatchOption asked ⊥ (λ statement. FitsReply tables cursor statement reply)) → IsPlainReply tables (named cursor asked) reply
 plain_reply tables true cursor asked reply h = record { at = none_holds Fits64 reply.at h.at; answer = plain_report tables _ reply.answer h.answer; number = none_holds _ reply.number h.number }
 plain_reply tables false cursor None reply h = absurd h
 plain_reply tables false cursor (Some statement) reply h = record { at = wide_at reply.at _ h.at; answer = plain_answer tables cursor statement reply.answer h.answer; number = h.number }

@@ -37,18 +37,24 @@ module _ (script : Script) where
           number_read line.place fit.place,
           at_read (answer_of line) (number_of_commit line) (answer_begins script.tables line.reply.answer (number_of_commit line)).0 line.reply.at reply.at,
           answer_left,
-          answer_read script.tables (named (cursor_before script.records line.session line.place) (asked script.records line)) line rest end line.reply.answer line.reply.number reply.answer reply.number,
+          answer_read script.tables (named (cursor_before script.records line.session line.place) (asked script.records line)) line rest end line.reply.answer line.reply.number
+              reply.answer reply.number,
           commit_read script.tables line.reply.answer line.reply.number reply.number,
         )
 
     line_left : after_line (line_records script.tables line ++ rest) ≡ rest
-    line_left = rw (answer_left, records_left script.tables (named (cursor_before script.records line.session line.place) (asked script.records line)) line rest end line.reply.answer (number_of_commit line) (plain line fit).answer)
+    line_left = rw (
+      answer_left,
+      records_left script.tables (named (cursor_before script.records line.session line.place) (asked script.records line)) line rest end
+          line.reply.answer (number_of_commit line) (plain line fit).answer,
+    )
 
   abbrev records_of : List Line → Totals → List (List Field)
   records_of lines totals = flat_map (line_records script.tables) lines ++ totals_records totals
 
   line_begins : (line : Line) (rest : List (List Field)) → begins_held (line_records script.tables line ++ rest) ≡ false
-  line_begins line rest = behind_at (decimal line.session) (decimal line.place) (answer_of line) (number_of_commit line) line.reply.at (answer_begins script.tables line.reply.answer (number_of_commit line)).1
+  line_begins line rest = behind_at (decimal line.session) (decimal line.place) (answer_of line) (number_of_commit line) line.reply.at
+      (answer_begins script.tables line.reply.answer (number_of_commit line)).1
 
   -- the records of a text do not begin with a held snapshot
   begins : (lines : List Line) (totals : Totals) → FitTotals totals → begins_held (records_of lines totals) ≡ false
@@ -64,7 +70,8 @@ module _ (script : Script) where
       omega (arith, digit, same)
 
   -- line by line, and then the totals
-  lines_told : (ls ms : List Line) (t u : Totals) → Each (Fits script) ls → Each (Fits script) ms → FitTotals t → FitTotals u → records_of ls t ≡ records_of ms u → (ls ≡ ms) × (totals_records t ≡ totals_records u)
+  lines_told : (ls ms : List Line) (t u : Totals) → Each (Fits script) ls → Each (Fits script) ms → FitTotals t → FitTotals u → records_of ls t ≡ records_of ms u → (ls ≡ ms) ×
+      (totals_records t ≡ totals_records u)
   lines_told [] [] t u p q h k e = (refl, e)
   lines_told [] (b ∷ ms) t u p q h k e = absurd (total_is_no_line b ms t u q.0 e)
   lines_told (a ∷ ls) [] t u p q h k e = absurd (total_is_no_line a ls u t p.0 (sym e))

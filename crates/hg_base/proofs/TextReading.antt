@@ -121,7 +121,11 @@ blank session place = record { session = session; place = place; reply = record 
 
 -- the line whose reply may hold a table, which is that of the statement
 abbrev pub line_at : List Declaration → List Record → ℕ → ℕ → List Field → List (List Field) → Line
-line_at tables records session place fields more = record { session = session; place = place; reply = reply_in tables (named (cursor_before records session place) (asked records (blank session place))) fields more }
+line_at tables records session place fields more = record {
+  session = session;
+  place = place;
+  reply = reply_in tables (named (cursor_before records session place) (asked records (blank session place))) fields more;
+}
 
 -- the first line, and the records after it
 abbrev pub line_in : List Declaration → List Record → List (List Field) → Line

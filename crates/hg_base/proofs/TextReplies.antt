@@ -40,7 +40,8 @@ row_read kinds line p h =
     let values : values_in kinds (map value_field p.1) ≡ p.1 = ap (values_in kinds) (sym (append-nil (map value_field p.1))) ∙ values_read kinds p.1 [] h.1 in
     rw (number_read p.0 h.0, values)
 
-rows_read : (kinds : List Column) (line : Line) (rows : List (ℕ × List Value)) → Each (λ p. Fits64 p.0 × FitsColumns kinds p.1) rows → map (row_in kinds) (map (of_line line) (map row_fields rows)) ≡ rows
+rows_read : (kinds : List Column) (line : Line) (rows : List (ℕ × List Value)) → Each (λ p. Fits64 p.0 × FitsColumns kinds p.1) rows →
+    map (row_in kinds) (map (of_line line) (map row_fields rows)) ≡ rows
 rows_read kinds line [] h = refl
 rows_read kinds line (p ∷ ps) h = rw (row_read kinds line p h.0, rows_read kinds line ps h.1)
 
@@ -53,7 +54,8 @@ told_read line told h =
     let session : told.session < 2 ^ 64 = omega (arith, h.0) in
     rw (number_read told.session session, number_read told.number h.1, moved_read told.moved)
 
-held_read : (line : Line) (held : List Told) (rest : List (List Field)) → Each (λ told. Fits32 told.session × Fits64 told.number) held → begins_held rest ≡ false → held_in (map (of_line line) (map held_fields held) ++ rest) ≡ held
+held_read : (line : Line) (held : List Told) (rest : List (List Field)) → Each (λ told. Fits32 told.session × Fits64 told.number) held → begins_held rest ≡ false →
+    held_in (map (of_line line) (map held_fields held) ++ rest) ≡ held
 held_read line [] [] h e = refl
 held_read line [] (fields ∷ more) h e = rw e
 held_read line (told ∷ others) rest h e = rw (told_read line told h.0, held_read line others rest h.1 e)
@@ -89,10 +91,12 @@ module _ (kinds : List Column) (line : Line) (rows : List (ℕ × List Value)) (
   rows_left : drop (number_of (decimal (length rows))) (row_records line rows ++ rest) ≡ rest
   rows_left = ap (λ n. drop n (row_records line rows ++ rest)) many_read ∙ drop-append_seam (row_records line rows) rest
 
-sweep_read : (line : Line) (sweep : Sweep) (tail : List Field) (rest : List (List Field)) → FitsSweep sweep → begins_held rest ≡ false → sweep_in (codes "swept" ∷ kind_word sweep.kind ∷ decimal sweep.mark ∷ decimal sweep.horizon ∷ decimal sweep.removed ∷ tail) (map (of_line line) (map held_fields sweep.held) ++ rest) ≡ Swept sweep
+sweep_read : (line : Line) (sweep : Sweep) (tail : List Field) (rest : List (List Field)) → FitsSweep sweep → begins_held rest ≡ false →
+    sweep_in (codes "swept" ∷ kind_word sweep.kind ∷ decimal sweep.mark ∷ decimal sweep.horizon ∷ decimal sweep.removed ∷ tail) (map (of_line line) (map held_fields sweep.held) ++ rest) ≡ Swept sweep
 sweep_read line sweep tail rest h e = rw (kind_read sweep.kind, number_read sweep.mark h.0, number_read sweep.horizon h.1, number_read sweep.removed h.2, held_read line sweep.held rest h.3 e)
 
-writer_read : (writer : Writer) → Fits32 writer.session × Fits64 writer.transaction → OpenBy (record { session = number_of (decimal writer.session); transaction = number_of (decimal writer.transaction) }) ≡ OpenBy writer
+writer_read : (writer : Writer) → Fits32 writer.session × Fits64 writer.transaction →
+    OpenBy (record { session = number_of (decimal writer.session); transaction = number_of (decimal writer.transaction) }) ≡ OpenBy writer
 writer_read writer h =
     let session : writer.session < 2 ^ 64 = omega (arith, h.0) in
     rw (number_read writer.session session, number_read writer.transaction h.1)
@@ -102,7 +106,8 @@ table_read table other h = ap (λ n. Undeclared (record { 0 = n })) (sym h)
 
 -- every answer is read, where a commit number stands only behind a stored write
 module _ (tables : List Declaration) (table : TableId) (line : Line) (rest : List (List Field)) (end : begins_held rest ≡ false) where
-  pub answer_read : (answer : Answer) (number : Option ℕ) → IsPlain tables table answer → IfSome number (λ c. Fits64 c × IsTrue (is_write answer)) → answer_in tables table (answer_fields tables answer ++ told_as (codes "committed") number) (map (of_line line) (more_fields answer) ++ rest) ≡ answer
+  pub answer_read : (answer : Answer) (number : Option ℕ) → IsPlain tables table answer → IfSome number (λ c. Fits64 c × IsTrue (is_write answer)) →
+      answer_in tables table (answer_fields tables answer ++ told_as (codes "committed") number) (map (of_line line) (more_fields answer) ++ rest) ≡ answer
   answer_read (Begun s) number h k = ap Begun (number_read s h)
   answer_read (Found row) None h k = ap Found (values_read (kinds_of tables table) row [] h)
   answer_read (Found row) (Some c) h k = absurd (false≢true k.1)
@@ -120,7 +125,8 @@ module _ (tables : List Declaration) (table : TableId) (line : Line) (rest : Lis
   records_left answer tail h = refl
 
 module _ (tables : List Declaration) where
-  pub commit_read : (answer : Answer) (number : Option ℕ) → IfSome number (λ c. Fits64 c × IsTrue (is_write answer)) → commit_in (answer_fields tables answer ++ told_as (codes "committed") number) ≡ number
+  pub commit_read : (answer : Answer) (number : Option ℕ) → IfSome number (λ c. Fits64 c × IsTrue (is_write answer)) →
+      commit_in (answer_fields tables answer ++ told_as (codes "committed") number) ≡ number
   commit_read Stored None h = refl
   commit_read Stored (Some c) h = ap Some (number_read c h.0)
   commit_read Gone None h = refl
@@ -129,7 +135,8 @@ module _ (tables : List Declaration) where
   commit_read answer (Some c) h = absurd (false≢true h.1)
 
   -- no answer begins with `at` or `held`
-  pub answer_begins : (answer : Answer) (tail : List Field) → (says 0 (answer_fields tables answer ++ tail) (codes "at") ≡ false) × (says 0 (answer_fields tables answer ++ tail) (codes "held") ≡ false)
+  pub answer_begins : (answer : Answer) (tail : List Field) → (says 0 (answer_fields tables answer ++ tail) (codes "at") ≡ false) ×
+      (says 0 (answer_fields tables answer ++ tail) (codes "held") ≡ false)
   answer_begins Stored tail = (refl, refl)
   answer_begins answer tail = (refl, refl)
 

@@ -1,5 +1,6 @@
 -- The records of a printed text, as lists of fields. The bytes are made of them by the row text of a CSV writer.
-use Rattle.std.specs.Prelude.{◌≡◌, ℕ, ◌<◌, ◌^◌, List, [], ◌∷◌, ◌++◌, length, map, Bool, true, false, ◌&&◌, ◌==◌, Option, Some, None, find, is_some, is_none, nat_lt, IsTrue, IfSome, MatchOption, codes, decimal, if◌then◌else◌, ⊤}
+use Rattle.std.specs.Prelude.{◌≡◌, ℕ, ◌<◌, ◌^◌, List, [], ◌∷◌, ◌++◌, length, map, Bool, true, false, ◌&&◌, ◌==◌, Option, Some, None, find, is_some, is_none, nat_lt, IsTrue, IfSome}
+use Rattle.std.specs.Prelude.{MatchOption, codes, decimal, if◌then◌else◌, ⊤}
 use Rattle.std.specs.Fmt.{signed_decimal}
 use Rattle.std.specs.List.{flat_map, slice_get}
 use Rattle.std.specs.Bool.{MatchBool}
@@ -87,13 +88,15 @@ abbrev pub of_line : Line → List Field → List Field
 of_line line fields = decimal line.session ∷ decimal line.place ∷ fields
 
 abbrev pub line_records : List Declaration → Line → List (List Field)
-line_records tables line = of_line line (told_as (codes "at") line.reply.at ++ answer_fields tables line.reply.answer ++ told_as (codes "committed") line.reply.number) ∷ map (of_line line) (more_fields line.reply.answer)
+line_records tables line = of_line line (told_as (codes "at") line.reply.at ++ answer_fields tables line.reply.answer ++ told_as (codes "committed") line.reply.number) ∷ map
+    (of_line line) (more_fields line.reply.answer)
 
 abbrev pub total_fields : Field → ℕ → List Field
 total_fields word n = codes "total" ∷ word ∷ decimal n ∷ []
 
 abbrev pub totals_records : Totals → List (List Field)
-totals_records t = total_fields (codes "made") t.made ∷ total_fields (codes "undone") t.undone ∷ total_fields (codes "group") t.group ∷ total_fields (codes "table") t.table ∷ total_fields (codes "interval") t.interval ∷ total_fields (codes "left") t.left ∷ []
+totals_records t = total_fields (codes "made") t.made ∷ total_fields (codes "undone") t.undone ∷ total_fields (codes "group") t.group ∷ total_fields
+    (codes "table") t.table ∷ total_fields (codes "interval") t.interval ∷ total_fields (codes "left") t.left ∷ []
 
 -- every record of a text, line by line, totals last
 abbrev pub text_records : Script → Printed → List (List Field)
@@ -225,7 +228,8 @@ pub record IsReport (reply : Reply) : Type 0 where
 pub record Fits (script : Script) (line : Line) : Type 0 where
   pub session : Fits32 line.session
   pub place : Fits64 line.place
-  pub reply : MatchBool (line.session == 0) (IsReport line.reply) (MatchOption (asked script.records line) ⊥ (λ statement. FitsReply script.tables (cursor_before script.records line.session line.place) statement line.reply))
+  pub reply : MatchBool (line.session == 0) (IsReport line.reply)
+      (MatchOption (asked script.records line) ⊥ (λ statement. FitsReply script.tables (cursor_before script.records line.session line.place) statement line.reply))
 
 pub record FitTotals (t : Totals) : Type 0 where
   pub made : Fits64 t.made

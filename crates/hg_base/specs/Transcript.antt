@@ -1,6 +1,7 @@
 -- What a printed text says: the replies beside the records, the transactions in which they stand, and the commits that they print.
 -- Own: that a statement outside a transaction is a transaction of its own, which declares its one table.
-use Rattle.std.specs.Prelude.{ℕ, suc, ◌/◌, ◌%◌, ◌^◌, List, [], ◌∷◌, ◌++◌, length, map, filter, filter_map, find, Bool, true, false, not, ◌&&◌, ◌||◌, ◌==◌, nat_lt, if◌then◌else◌, Option, Some, None, option_map, unwrap_or}
+use Rattle.std.specs.Prelude.{ℕ, suc, ◌/◌, ◌%◌, ◌^◌, List, [], ◌∷◌, ◌++◌, length, map, filter, filter_map, find, Bool, true, false, not, ◌&&◌, ◌||◌, ◌==◌, nat_lt, if◌then◌else◌, Option}
+use Rattle.std.specs.Prelude.{Some, None, option_map, unwrap_or}
 use Rattle.std.specs.List.{flat_map, cons_option}
 use Rattle.hg_base.specs.declared.rid.TableId.{TableId}
 use Rattle.hg_base.specs.declared.scope.Scope.{Scope}
@@ -104,13 +105,49 @@ has (Declared mask) table = (mask / 2 ^ table.0) % 2 == 1
 
 -- Every other statement but a `gc` stands in the open transaction, and is one of its own, the next, where none is open.
 abbrev pub standing : Option Said → ℕ → Record → Reply → Said
-standing None next r reply = record { session = r.session; place = r.place; transaction = next; at = unwrap_or reply.at 0; scope = only (table_of r.statement); alone = true; statement = r.statement; reply = reply }
-standing (Some opened) next r reply = record { session = r.session; place = r.place; transaction = opened.transaction; at = opened.at; scope = opened.scope; alone = false; statement = r.statement; reply = reply }
+standing None next r reply = record {
+  session = r.session;
+  place = r.place;
+  transaction = next;
+  at = unwrap_or reply.at 0;
+  scope = only (table_of r.statement);
+  alone = true;
+  statement = r.statement;
+  reply = reply;
+}
+standing (Some opened) next r reply = record {
+  session = r.session;
+  place = r.place;
+  transaction = opened.transaction;
+  at = opened.at;
+  scope = opened.scope;
+  alone = false;
+  statement = r.statement;
+  reply = reply;
+}
 
 -- the record and its reply, after the session's last record that stands in a transaction
 abbrev pub said_after : Option Said → Record → Reply → Statement → Said
-said_after last r reply (Begin scope) = record { session = r.session; place = r.place; transaction = next_after last; at = begun reply; scope = scope; alone = false; statement = r.statement; reply = reply }
-said_after last r reply (CursorOpen table low high) = record { session = r.session; place = r.place; transaction = next_after last; at = begun reply; scope = only (Some table); alone = false; statement = r.statement; reply = reply }
+said_after last r reply (Begin scope) = record {
+  session = r.session;
+  place = r.place;
+  transaction = next_after last;
+  at = begun reply;
+  scope = scope;
+  alone = false;
+  statement = r.statement;
+  reply = reply;
+}
+said_after last r reply (CursorOpen table low high) = record {
+  session = r.session;
+  place = r.place;
+  transaction = next_after last;
+  at = begun reply;
+  scope = only (Some table);
+  alone = false;
+  statement = r.statement;
+  reply = reply;
+}
 said_after last r reply (Gc kind) = record { session = r.session; place = r.place; transaction = 0; at = 0; scope = All; alone = false; statement = r.statement; reply = reply }
 said_after last r reply _ = standing (open_after last) (next_after last) r reply
 

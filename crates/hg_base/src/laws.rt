@@ -49,8 +49,10 @@ pub fn committing_line_stays_right()
         history_of (all ++ new ∷ []) ≡ history_of all ++ (commit_by (onto all []) new ∷ []) ∷ [] }
     ensures right { (mode : Mode) (all : List Said) (new : Said) →
         let h = history_of all in let c = commit_by (onto all []) new in
-        AreRight mode all → committed new ≡ Some (suc (length h)) → IsGroup (suc (length h)) (c ∷ []) → LosesNothing h c →
-        IsRight mode (h ++ (c ∷ []) ∷ []) (all ++ new ∷ []) (onto all []) new → AreRight mode (all ++ new ∷ []) }
+        AreRight mode all → committed new ≡ Some (suc (length h)) →
+        IsGroup (suc (length h)) (c ∷ []) → LosesNothing h c →
+        IsRight mode (h ++ (c ∷ []) ∷ []) (all ++ new ∷ []) (onto all []) new →
+        AreRight mode (all ++ new ∷ []) }
 {}
 
 /// The records of a text determine what was printed: two printed values that fit one script and have the same records are

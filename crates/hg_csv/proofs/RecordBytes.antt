@@ -38,7 +38,8 @@ pub escaped_more_of : (old front now field : List ℕ) (i : ℕ) → i < length 
     → now ≡ old ++ escaped flexible_writer (take (i + 1) field)
 escaped_more_of old front now field i h e f =
     let up = ap (escaped flexible_writer) (take_more field i 0 h) ∙ escaped-more (take i field) (get_or field i 0) in
-    f ∙ ap (λ (bytes : List ℕ). bytes ++ escaped flexible_writer (get_or field i 0 ∷ [])) e ∙ append_assoc old (escaped flexible_writer (take i field)) (escaped flexible_writer (get_or field i 0 ∷ []))
+    f ∙ ap (λ (bytes : List ℕ). bytes ++ escaped flexible_writer (get_or field i 0 ∷ [])) e ∙
+    append_assoc old (escaped flexible_writer (take i field)) (escaped flexible_writer (get_or field i 0 ∷ []))
     ∙ ap (λ (bytes : List ℕ). old ++ bytes) (sym up)
 
 -- no bytes

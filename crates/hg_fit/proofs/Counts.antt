@@ -12,7 +12,8 @@ use Rattle.hg_base.specs.declared.line.Reply.{Reply}
 use Rattle.hg_base.specs.declared.line.Totals.{Totals}
 use Rattle.hg_base.specs.Lists.{Each, Ascends, numbers_from}
 use Rattle.hg_base.specs.History.{Commit, History, EachGroup, IsGroup, IsHistory}
-use Rattle.hg_base.specs.Transcript.{Said, said, said_after, said_from, standing, last_of, open_after, next_after, ends, committed, commit_of, commits_from, commits, put_by_session, group_of, greatest_commit, history_of}
+use Rattle.hg_base.specs.Transcript.{Said, said, said_after, said_from, standing, last_of, open_after, next_after, ends, committed, commit_of, commits_from, commits, put_by_session}
+use Rattle.hg_base.specs.Transcript.{group_of, greatest_commit, history_of}
 use Rattle.hg_base.specs.Counts.{AreTotals, first_write, first_writes_from}
 use Rattle.hg_base.specs.Text.{FitTotals}
 use Rattle.hg_base.proofs.Growth.{as_many}
@@ -91,7 +92,8 @@ has_number : (n : ℕ) (ps : List (ℕ × Commit)) → 0 < length (group_of ps n
 has_number n [] h = absurd (omega (arith, h))
 has_number n (p ∷ ps) h = go (p.0 == n) h (has_number n ps)
   where
-    go : (b : Bool) → 0 < length (cond b (put_by_session p.1 (group_of ps n)) (group_of ps n)) → (0 < length (group_of ps n) → IsIn (map (λ p. p.0) ps) n) → (b || list_any (λ m. m == n) (map (λ p. p.0) ps)) ≡ true
+    go : (b : Bool) → 0 < length (cond b (put_by_session p.1 (group_of ps n)) (group_of ps n)) → (0 < length (group_of ps n) → IsIn (map (λ p. p.0) ps) n) →
+        (b || list_any (λ m. m == n) (map (λ p. p.0) ps)) ≡ true
     go true h later = refl
     go false h later = later h
 
@@ -157,15 +159,19 @@ says_next last n r reply (CursorOpen table low high) h = begins_next last n h
 says_next last n r reply (Gc kind) h = omega arith
 says_next last n r reply _ h = stands_next last n r reply h
 
-pub transactions_few : (rs : List Record) (lines : List Line) (earlier : List Said) (n : ℕ) → Each (λ s. s.transaction ≤ n) earlier → Each (λ s. s.transaction ≤ n + length rs) (said_from earlier rs lines)
+pub transactions_few : (rs : List Record) (lines : List Line) (earlier : List Said) (n : ℕ) → Each (λ s. s.transaction ≤ n) earlier →
+    Each (λ s. s.transaction ≤ n + length rs) (said_from earlier rs lines)
 transactions_few [] lines earlier n h = tt
 transactions_few (r ∷ rs) [] earlier n h = tt
 transactions_few (r ∷ rs) (line ∷ lines) earlier n h =
     let now : Said = said earlier r line.reply in
     let one : now.transaction ≤ suc n = says_next (last_of r.session earlier) n r line.reply r.statement (found (λ (s : Said). s.transaction ≤ n) _ earlier h) in
     let before : Each (λ (s : Said). s.transaction ≤ suc n) earlier = each_keeps (λ (s : Said). s.transaction ≤ n) (λ (s : Said). s.transaction ≤ suc n) (λ s k. omega (arith, k)) earlier h in
-    let later : Each (λ (s : Said). s.transaction ≤ suc n + length rs) (said_from (now ∷ earlier) rs lines) = transactions_few rs lines (now ∷ earlier) (suc n) (one, before) in
-    (omega (arith, one), each_keeps (λ (s : Said). s.transaction ≤ suc n + length rs) (λ (s : Said). s.transaction ≤ n + suc (length rs)) (λ s k. omega (arith, k)) (said_from (now ∷ earlier) rs lines) later)
+    let later : Each (λ (s : Said). s.transaction ≤ suc n + length rs) (said_from (now ∷ earlier) rs lines) = transactions_few rs lines (now ∷ earlier) (suc n) (one, before) in (
+      omega (arith, one),
+      each_keeps (λ (s : Said). s.transaction ≤ suc n + length rs) (λ (s : Said). s.transaction ≤ n + suc (length rs)) (λ s k. omega (arith, k))
+          (said_from (now ∷ earlier) rs lines) later,
+    )
 
 -- ---- totals
 

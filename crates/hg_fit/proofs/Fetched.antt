@@ -56,7 +56,8 @@ some_is None e = absurd (false_true e)
 some_is (Some x) e = (x, refl)
 
 -- a fetch stands in the transaction that is open
-module _ (all before : List Record) (earlier : List Said) (r : Record) (reply : Reply) (rest : Option Rest) (shows : ShowsRest r.session earlier rest) (known : IsRestOf (last_opened r.session before) rest) where
+module _ (all before : List Record) (earlier : List Said) (r : Record) (reply : Reply) (rest : Option Rest) (shows : ShowsRest r.session earlier rest)
+    (known : IsRestOf (last_opened r.session before) rest) where
   abbrev last : Option Said
   last = last_of r.session earlier
 
@@ -66,10 +67,13 @@ module _ (all before : List Record) (earlier : List Said) (r : Record) (reply : 
   stands_there (Some opened) e some cursor = subst (λ p. p) (λ i. IsRestOf (cursor i) (shows opened e i)) known
 
   finds : (s : Statement) (within reads : Bool) → AreOpen within reads (is_some (open_after last)) → (IfFetch s (reads ≡ true)) → IsOfCursor all (last_opened r.session before) r s →
-      IfFetch s (IsRestOf (cursor_before all (said_after last r reply s).session (said_after last r reply s).place) (rest_in (said_after last r reply s).session (said_after last r reply s).transaction earlier))
+      IfFetch s (IsRestOf (cursor_before all (said_after last r reply s).session (said_after last r reply s).place)
+      (rest_in (said_after last r reply s).session (said_after last r reply s).transaction earlier))
   finds (Fetch n) within reads held may cursor = go (open_after last) refl (reads_held within reads (is_some (open_after last)) held may)
     where
-      go : (o : Option Said) → open_after last ≡ o → is_some o ≡ true → IsRestOf (cursor_before all (standing o (next_after last) r reply).session (standing o (next_after last) r reply).place) (rest_in (standing o (next_after last) r reply).session (standing o (next_after last) r reply).transaction earlier)
+      go : (o : Option Said) → open_after last ≡ o → is_some o ≡ true →
+          IsRestOf (cursor_before all (standing o (next_after last) r reply).session (standing o (next_after last) r reply).place)
+          (rest_in (standing o (next_after last) r reply).session (standing o (next_after last) r reply).transaction earlier)
       go None e some = absurd (false_true some)
       go (Some opened) e some = stands_there (Some opened) e some cursor
   finds _ within reads held may cursor = tt
@@ -84,7 +88,8 @@ pub record AreRests (before : List Record) (earlier : List Said) (left : ℕ →
 pub rests_first : AreRests [] [] (λ j. None)
 rests_first = record { shows = λ j. left_nothing j; known = λ j. tt }
 
-rests_more : (before : List Record) (earlier : List Said) (left : ℕ → Option Rest) (r : Record) (reply : Reply) → HasWidths r.statement → AreRests before earlier left → AreRests (before ++ r ∷ []) (said earlier r reply ∷ earlier) (put left r.session (rest_after r.statement reply.answer (left r.session)))
+rests_more : (before : List Record) (earlier : List Said) (left : ℕ → Option Rest) (r : Record) (reply : Reply) → HasWidths r.statement → AreRests before earlier left →
+    AreRests (before ++ r ∷ []) (said earlier r reply ∷ earlier) (put left r.session (rest_after r.statement reply.answer (left r.session)))
 rests_more before earlier left r reply wide h = record {
   shows = at_index r.session (λ j. ShowsRest j (now ∷ earlier) (put left r.session after j))
       (subst (ShowsRest r.session (now ∷ earlier)) (sym (put_here left r.session after)) (left_own earlier r.place r.session reply r.statement (left r.session) (h.shows r.session)))
@@ -119,12 +124,14 @@ reads_there : (all : List Record) (x : Stand) (r : Record) (s : Statement) → r
 reads_there all x r (Fetch n) e come = subst (MayStand x.within x.reads) e come.may
 reads_there all x r _ e come = tt
 
-pub all_find : (all before rs : List Record) (lines : List Line) (earlier : List Said) (left : ℕ → Option Rest) → AreInTurn all before rs → Each (λ r. HasWidths r.statement) rs → ((j : ℕ) → Orderly j earlier) → ShowsOpen before earlier → AreRests before earlier left → EachAfter (FindsRest all) earlier (said_from earlier rs lines)
+pub all_find : (all before rs : List Record) (lines : List Line) (earlier : List Said) (left : ℕ → Option Rest) → AreInTurn all before rs → Each (λ r. HasWidths r.statement) rs →
+    ((j : ℕ) → Orderly j earlier) → ShowsOpen before earlier → AreRests before earlier left → EachAfter (FindsRest all) earlier (said_from earlier rs lines)
 all_find all before [] lines earlier left turn widths orderly shows h = tt
 all_find all before (r ∷ rs) [] earlier left turn widths orderly shows h = tt
 all_find all before (r ∷ rs) (line ∷ lines) earlier left turn widths orderly shows h = (
   here,
-  all_find all (before ++ r ∷ []) rs lines (said earlier r line.reply ∷ earlier) (put left r.session (rest_after r.statement line.reply.answer (left r.session))) turn.1 widths.1 (orderly_step earlier r line.reply orderly)
+  all_find all (before ++ r ∷ []) rs lines (said earlier r line.reply ∷ earlier) (put left r.session (rest_after r.statement line.reply.answer (left r.session))) turn.1 widths.1
+      (orderly_step earlier r line.reply orderly)
       (shows_more before earlier r line.reply (orderly r.session) turn.0.may shows) (rests_more before earlier left r line.reply widths.0 h),
 )
   where
@@ -133,7 +140,8 @@ all_find all before (r ∷ rs) (line ∷ lines) earlier left turn widths orderly
 
     here : FindsRest all earlier now
     here =
-        subst (λ s. IfFetch s (IsRestOf (cursor_before all now.session now.place) (rest_in now.session now.transaction earlier))) (sym (said_says (last_of r.session earlier) r line.reply r.statement).1)
+        subst (λ s. IfFetch s (IsRestOf (cursor_before all now.session now.place) (rest_in now.session now.transaction earlier)))
+        (sym (said_says (last_of r.session earlier) r line.reply r.statement).1)
         (finds all before earlier r line.reply (left r.session) (h.shows r.session) (h.known r.session) r.statement (is_open r.session before) (is_reading r.session before) (shows r.session)
         (reads_there all (stand_of r.session before) r r.statement refl turn.0) turn.0.cursor)
 
@@ -141,5 +149,6 @@ all_find all before (r ∷ rs) (line ∷ lines) earlier left turn widths orderly
 pub lines_find : (mode : Mode) (script : Script) (lines : List Line) → IsLawful script → EachAfter (FindsRest script.records) [] (all_said mode script lines)
 lines_find mode script lines lawful =
     all_find script.records [] (in_order mode script.records) lines [] (λ j. None) (stand_in_turn mode script.records lawful.places lawful.order)
-    (each_in_order (λ r. HasWidths r.statement) mode script.records (each_keeps (IsStatement script.tables) (λ r. HasWidths r.statement) (λ r is. is.widths) script.records lawful.statements) (λ kind m k. tt))
+    (each_in_order (λ r. HasWidths r.statement) mode script.records
+    (each_keeps (IsStatement script.tables) (λ r. HasWidths r.statement) (λ r is. is.widths) script.records lawful.statements) (λ kind m k. tt))
     orderly_nothing (λ j. refl) rests_first

@@ -30,12 +30,14 @@ use Rattle.hg_base.specs.Freshness.{IsHeld, IsReported, prints, snapshot_of}
 use Rattle.hg_base.specs.Lists.{Each, EachAfter, Ascends, greatest}
 use Rattle.hg_base.specs.Script.{Mode, Declaration, Script, replay, run}
 use Rattle.hg_base.specs.History.{History, IsHistory, image_in, seen}
-use Rattle.hg_base.specs.Transcript.{Rest, Said, rest_in, standing, next_after, open_after, said, said_from, has, is_of, last_of, own_writes, stored, stored_by, stored_in, committed, committed_by, table_of, history_of, in_order, said_after}
+use Rattle.hg_base.specs.Transcript.{Rest, Said, rest_in, standing, next_after, open_after, said, said_from, has, is_of, last_of, own_writes, stored, stored_by, stored_in, committed}
+use Rattle.hg_base.specs.Transcript.{committed_by, table_of, history_of, in_order, said_after}
 use Rattle.hg_base.specs.Shape.{HasShape, IsLineOf, report_of, same_kind}
 use Rattle.hg_base.specs.Replies.{IsBegun, IsGot, IsPut, IsDeleted, IsScanned, IsFetched, IsEnded, IsCommitted, IsUndone, IsSwept, IsBeside, IsCollected, IsUndeclared, IsAnswer, IsReply, is_written}
 use Rattle.hg_base.specs.Conflicts.{ShowsCause, ShowsConflict, target}
 use Rattle.hg_base.specs.Sound.{IsRight, IsSound, all_said}
-use Rattle.hg_base.specs.Text.{Fits64, Fits32, FitsRow, FitsBegin, FitsGet, FitsPut, FitsDel, FitsScan, FitsFetch, FitsClose, FitsCommit, FitsRollback, FitsSweep, FitsReport, FitsGc, FitsAnswer, FitsReply, FitTotals, Fits, IsFit, IsReport, asked, cursor_before, is_write}
+use Rattle.hg_base.specs.Text.{Fits64, Fits32, FitsRow, FitsBegin, FitsGet, FitsPut, FitsDel, FitsScan, FitsFetch, FitsClose, FitsCommit, FitsRollback, FitsSweep, FitsReport, FitsGc}
+use Rattle.hg_base.specs.Text.{FitsAnswer, FitsReply, FitTotals, Fits, IsFit, IsReport, asked, cursor_before, is_write}
 use Rattle.hg_base.proofs.ListFacts.{false_true, not_equal, each_after_keeps, each_keeps, if_some_keeps}
 use Rattle.hg_headline.proofs.Orderly.{orderly_nothing}
 use Rattle.hg_headline.proofs.Whole.{said_says}
@@ -82,7 +84,8 @@ key_put r = elim r.statement [ Put rid row ↦ rid.key | _ ↦ 0 ]
 abbrev IsPutRow : Script → Rid → List Value → Type 0
 IsPutRow script r row = FitsRow script.tables r.table row × IsIn (map key_put script.records) r.key
 
-asks_row : (script : Script) (place j : ℕ) (s : Statement) → FitsTables script.tables s → HasWidths s → IsIn (map key_put script.records) (key_put (record { place = place; session = j; statement = s })) → AsksRow (IsPutRow script) s
+asks_row : (script : Script) (place j : ℕ) (s : Statement) → FitsTables script.tables s → HasWidths s →
+    IsIn (map key_put script.records) (key_put (record { place = place; session = j; statement = s })) → AsksRow (IsPutRow script) s
 asks_row script place j (Put r row) fits widths among = ((fits.1, widths.1), among)
 asks_row script place j _ fits widths among = tt
 
@@ -127,7 +130,8 @@ get_fits script r image (Found row) g found = found.0
 get_fits script r image Nothing g found = tt
 get_fits script r image _ g found = absurd g
 
-scan_fits : (script : Script) (table : TableId) (look : ℕ → Image) (low high : ℕ) (a : Answer) → length script.records < 2 ^ 64 → Fits64 high → IsScanned look low high a → FoundRows (IsPutRow script) table a → FitsScan script.tables table a
+scan_fits : (script : Script) (table : TableId) (look : ℕ → Image) (low high : ℕ) (a : Answer) → length script.records < 2 ^ 64 → Fits64 high → IsScanned look low high a →
+    FoundRows (IsPutRow script) table a → FitsScan script.tables table a
 scan_fits script table look low high (Rows rows) few wide s found =
     let key = λ (p : ℕ × List Value). p.0 in
     let many : length (map key rows) ≤ length (map key_put script.records) = no_more (map key rows) (map key_put script.records) s.ascend
@@ -137,10 +141,12 @@ scan_fits script table look low high (Rows rows) few wide s found =
     )
 scan_fits script table look low high _ few wide s found = absurd s
 
-fetch_fits : (script : Script) (look : Rid → Image) (n : ℕ) (cursor : Option TableId) (rest : Option Rest) (a : Answer) → n ≤ MOST_FETCHED → IsRestOf cursor rest → IsFetched look n rest a → MatchOption cursor ⊥ (λ table. FoundRows (IsPutRow script) table a) → FitsFetch script.tables cursor a
+fetch_fits : (script : Script) (look : Rid → Image) (n : ℕ) (cursor : Option TableId) (rest : Option Rest) (a : Answer) → n ≤ MOST_FETCHED → IsRestOf cursor rest →
+    IsFetched look n rest a → MatchOption cursor ⊥ (λ table. FoundRows (IsPutRow script) table a) → FitsFetch script.tables cursor a
 fetch_fits script look n cursor None a most found f put = absurd f
 fetch_fits script look n cursor (Some rest) (Rows rows) most found f put =
-    let rows_are : Each (λ (p : ℕ × List Value). IsPutRow script (record { table = rest.table; key = p.0 }) p.1) rows = subst (λ o. MatchOption o ⊥ (λ table. FoundRows (IsPutRow script) table (Rows rows))) found.0 put in
+    let rows_are : Each (λ (p : ℕ × List Value). IsPutRow script (record { table = rest.table; key = p.0 }) p.1) rows = subst
+    (λ o. MatchOption o ⊥ (λ table. FoundRows (IsPutRow script) table (Rows rows))) found.0 put in
     subst (λ o. FitsFetch script.tables o (Rows rows)) (sym found.0) (
       omega (arith, f.few, most),
       both_each _ _ (λ (p : ℕ × List Value). Fits64 p.0 × FitsRow script.tables rest.table p.1) (λ p k q. (omega (arith, k.1, f.within, found.1), q.0)) rows f.all.each rows_are,
@@ -213,7 +219,8 @@ kind_itself kinds.Table = refl
 kind_itself kinds.Interval = refl
 
 -- only a `begin` and an `open` are answered `begun`
-begun_alone : (mode : Mode) (look : Rid → Image) (wrote : Bool) (rest : Option Rest) (now : Said) (s : Statement) (n : ℕ) → now.reply.answer ≡ Begun n → IsAnswer mode look wrote rest now s → begins s ≡ true
+begun_alone : (mode : Mode) (look : Rid → Image) (wrote : Bool) (rest : Option Rest) (now : Said) (s : Statement) (n : ℕ) → now.reply.answer ≡ Begun n →
+    IsAnswer mode look wrote rest now s → begins s ≡ true
 begun_alone mode look wrote rest now (Begin scope) n e a = refl
 begun_alone mode look wrote rest now (CursorOpen table low high) n e a = refl
 begun_alone mode look wrote rest now (Get r) n e a = absurd (either (has now.scope r.table) (subst (IsGot (look r)) e) (subst (IsUndeclared r.table) e) a)
@@ -274,9 +281,12 @@ each_every P (x ∷ xs) a b c = (go, each_every P xs a.1 b.1 c.1)
 
 removed_few : (all : List Said) (h : History) (t : Totals) → AreTotals all h t → FitTotals t → Each (λ now. (k : Kind) → Fits64 (removed_by k now)) all
 removed_few all h t a f = each_every (λ k now. Fits64 (removed_by k now)) all
-    (each_keeps (λ now. removed_by kinds.Group now ≤ sum_by (removed_by kinds.Group) all) (λ now. Fits64 (removed_by kinds.Group now)) (λ now m. let e = a.group in let w = f.group in omega (arith, m, e, w)) all (summed kinds.Group all))
-    (each_keeps (λ now. removed_by kinds.Table now ≤ sum_by (removed_by kinds.Table) all) (λ now. Fits64 (removed_by kinds.Table now)) (λ now m. let e = a.table in let w = f.table in omega (arith, m, e, w)) all (summed kinds.Table all))
-    (each_keeps (λ now. removed_by kinds.Interval now ≤ sum_by (removed_by kinds.Interval) all) (λ now. Fits64 (removed_by kinds.Interval now)) (λ now m. let e = a.interval in let w = f.interval in omega (arith, m, e, w)) all (summed kinds.Interval all))
+    (each_keeps (λ now. removed_by kinds.Group now ≤ sum_by (removed_by kinds.Group) all) (λ now. Fits64 (removed_by kinds.Group now)) (λ now m. let e = a.group in
+    let w = f.group in omega (arith, m, e, w)) all (summed kinds.Group all))
+    (each_keeps (λ now. removed_by kinds.Table now ≤ sum_by (removed_by kinds.Table) all) (λ now. Fits64 (removed_by kinds.Table now)) (λ now m. let e = a.table in
+    let w = f.table in omega (arith, m, e, w)) all (summed kinds.Table all))
+    (each_keeps (λ now. removed_by kinds.Interval now ≤ sum_by (removed_by kinds.Interval) all) (λ now. Fits64 (removed_by kinds.Interval now)) (λ now m. let e = a.interval in
+    let w = f.interval in omega (arith, m, e, w)) all (summed kinds.Interval all))
 
 -- a line of a collector beside the sessions
 record IsBesideThem (now : Said) : Type 0 where
@@ -311,7 +321,8 @@ enough : (mode : Mode) (h : History) (all earlier : List Said) (now : Said) → 
 enough mode h all earlier now r = record {
   reply = r.reply;
   conflict = r.conflict;
-  report = if_some_keeps (report_of now.reply) (IsReported h all earlier) (IsReportFew h all) (λ sweep k. record { horizon = k.horizon; mark = k.mark; held = each_keeps (IsHeld all) (IsHeldFew h all) (λ told q. inl q.printed) sweep.held k.held }) r.fresh.report;
+  report = if_some_keeps (report_of now.reply) (IsReported h all earlier) (IsReportFew h all)
+      (λ sweep k. record { horizon = k.horizon; mark = k.mark; held = each_keeps (IsHeld all) (IsHeldFew h all) (λ told q. inl q.printed) sweep.held k.held }) r.fresh.report;
 }
 
 module _ (mode : Mode) (script : Script) (h : History) (all : List Said) (few : length h < 2 ^ 64) (short : length script.records < 2 ^ 64) (writers : Each IsFew all) where
@@ -319,7 +330,8 @@ module _ (mode : Mode) (script : Script) (h : History) (all : List Said) (few : 
   writer_fits r j x [] some e = absurd (false_true some)
   writer_fits r j x (s ∷ ss) some e = go (is_of j x s) refl some (λ some. writer_fits r j x ss some e.1)
     where
-      go : (b : Bool) → is_of j x s ≡ b → IsSome (image_in r (filter_map stored (cond b (s ∷ filter (is_of j x) ss) (filter (is_of j x) ss)))) → (IsSome (image_in r (stored_in j x ss)) → Fits32 j × Fits64 x) → Fits32 j × Fits64 x
+      go : (b : Bool) → is_of j x s ≡ b → IsSome (image_in r (filter_map stored (cond b (s ∷ filter (is_of j x) ss) (filter (is_of j x) ss)))) →
+          (IsSome (image_in r (stored_in j x ss)) → Fits32 j × Fits64 x) → Fits32 j × Fits64 x
       go true is some later =
           let k = and_parts (s.session == j) (s.transaction == x) is in
           let session : s.session ≡ j = (Decides-eqb s.session j).0 k.0 in
@@ -342,7 +354,8 @@ module _ (mode : Mode) (script : Script) (h : History) (all : List Said) (few : 
           let same : now.at ≡ s = a.0 ∙ ap (λ o. unwrap_or o 0) is in
           (omega (arith, same, most, few), a.1)
 
-  number_fits : (now : Said) → is_some now.reply.number ≡ (now.alone && is_some (stored now)) → IfSome (committed now) (λ c. c ≤ length h) → IfSome now.reply.number (λ c. Fits64 c × IsTrue (is_write now.reply.answer))
+  number_fits : (now : Said) → is_some now.reply.number ≡ (now.alone && is_some (stored now)) → IfSome (committed now) (λ c. c ≤ length h) →
+      IfSome now.reply.number (λ c. Fits64 c × IsTrue (is_write now.reply.answer))
   number_fits now e within = go now.reply.number refl
     where
       go : (o : Option ℕ) → now.reply.number ≡ o → IfSome o (λ c. Fits64 c × IsTrue (is_write now.reply.answer))
@@ -362,10 +375,13 @@ module _ (mode : Mode) (script : Script) (h : History) (all : List Said) (few : 
 
       go : (b : Bool) → now.alone ≡ b → IfSome (committed_by now.statement now.reply.answer) Fits64
       go true is = subst (λ o. IfSome o Fits64) (sym (no_commit now.statement now.reply.answer (k.alone is).1)) tt
-      go false is = wide (committed_by now.statement now.reply.answer) (subst (λ o. IfSome o (λ c. c ≤ length h)) (ap (λ b. cond b now.reply.number (committed_by now.statement now.reply.answer)) is) within)
+      go false is = wide (committed_by now.statement now.reply.answer)
+          (subst (λ o. IfSome o (λ c. c ≤ length h)) (ap (λ b. cond b now.reply.number (committed_by now.statement now.reply.answer)) is) within)
 
-  answer_fits : (look : Rid → Image) (wrote : Bool) (cursor : Option TableId) (rest : Option Rest) (now : Said) (s : Statement) → now.statement ≡ s → IsStanding now → now.at ≤ length h → IsAnswer mode look wrote rest now s → IfFetch s (IsRestOf cursor rest) → IfSome (target s) (λ r. FitsCause now.reply.answer) →
-      PrintsRow (IsPutRow script) cursor s now.reply.answer → HasWidths s → (IsSwept now.reply.answer → FitsReport now.reply.answer) → IfSome (committed_by s now.reply.answer) Fits64 → FitsAnswer script.tables cursor s now.reply.answer
+  answer_fits : (look : Rid → Image) (wrote : Bool) (cursor : Option TableId) (rest : Option Rest) (now : Said) (s : Statement) → now.statement ≡ s → IsStanding now →
+      now.at ≤ length h → IsAnswer mode look wrote rest now s → IfFetch s (IsRestOf cursor rest) → IfSome (target s) (λ r. FitsCause now.reply.answer) →
+      PrintsRow (IsPutRow script) cursor s now.reply.answer → HasWidths s → (IsSwept now.reply.answer → FitsReport now.reply.answer) →
+      IfSome (committed_by s now.reply.answer) Fits64 → FitsAnswer script.tables cursor s now.reply.answer
   answer_fits look wrote cursor rest now (Begin scope) is k most a found cause rows wide quiet number =
       let same = k.begun (ap begins is) in
       let fits : Fits64 now.at = omega (arith, most, few) in
@@ -403,7 +419,8 @@ module _ (mode : Mode) (script : Script) (h : History) (all : List Said) (few : 
       number None e k = absurd (false_true e)
       number (Some n) e k = let same : n ≡ told.number = (Decides-eqb n told.number).0 e in omega (arith, same, k, few)
 
-      go : (b : Bool) → prints told x ≡ b → (b || list_any (prints told) xs) ≡ true → (list_any (prints told) xs ≡ true → Fits32 told.session × Fits64 told.number) → Fits32 told.session × Fits64 told.number
+      go : (b : Bool) → prints told x ≡ b → (b || list_any (prints told) xs) ≡ true → (list_any (prints told) xs ≡ true → Fits32 told.session × Fits64 told.number) →
+          Fits32 told.session × Fits64 told.number
       go true e is later =
           let k = and_parts (x.session == told.session) _ e in
           let session : x.session ≡ told.session = (Decides-eqb x.session told.session).0 k.0 in
@@ -422,10 +439,12 @@ module _ (mode : Mode) (script : Script) (h : History) (all : List Said) (few : 
     each_keeps (IsHeldFew h all) (λ told. Fits32 told.session × Fits64 told.number) (λ told k. one_held told k shown) sweep.held r.held,
   )
 
-  gc_fits : (now : Said) (a : Answer) → now.reply.answer ≡ a → IsSwept a → IfSome (report_of now.reply) (IsReportFew h all) → Each (PrintsWithin h) all → ((k : Kind) → Fits64 (removed_by k now)) → FitsReport a
+  gc_fits : (now : Said) (a : Answer) → now.reply.answer ≡ a → IsSwept a → IfSome (report_of now.reply) (IsReportFew h all) → Each (PrintsWithin h) all →
+      ((k : Kind) → Fits64 (removed_by k now)) → FitsReport a
   gc_fits now (Swept sweep) is s report shown gone =
       let said : report_of now.reply ≡ Some sweep = ap (λ (a : Answer). elim a [ Swept x ↦ Some x | _ ↦ None ]) is in
-      let own : removed_by sweep.kind now ≡ sweep.removed = ap (λ (o : Option Sweep). option_map_or (λ (x : Sweep). if same_kind x.kind sweep.kind then x.removed else 0) o 0) said ∙ ap (λ b. if b then sweep.removed else 0) (kind_itself sweep.kind) in
+      let own : removed_by sweep.kind now ≡ sweep.removed = ap (λ (o : Option Sweep). option_map_or (λ (x : Sweep). if same_kind x.kind sweep.kind then x.removed else 0) o 0) said
+      ∙ ap (λ b. if b then sweep.removed else 0) (kind_itself sweep.kind) in
       sweep_fits sweep (subst (λ o. IfSome o (IsReportFew h all)) said report) shown (subst Fits64 own (gone sweep.kind))
   gc_fits now _ is s report shown gone = absurd s
 
@@ -440,10 +459,12 @@ module _ (mode : Mode) (script : Script) (h : History) (all : List Said) (few : 
   report_fits : (earlier : List Said) (now : Said) → Each (PrintsWithin h) all → IsRightEnough mode h all earlier now → IsKnown now → IsSwept now.reply.answer → FitsReport now.reply.answer
   report_fits earlier now shown right known s = gc_fits now now.reply.answer refl s right.report shown known.gone
 
-  reply_fits : (earlier : List Said) (now : Said) → Each (PrintsWithin h) all → IsRightEnough mode h all earlier now → FindsRest script.records earlier now → IsKnown now → FitsReply script.tables (cursor_table script now) now.statement now.reply
+  reply_fits : (earlier : List Said) (now : Said) → Each (PrintsWithin h) all → IsRightEnough mode h all earlier now → FindsRest script.records earlier now → IsKnown now →
+      FitsReply script.tables (cursor_table script now) now.statement now.reply
   reply_fits earlier now shown right finds known = record {
     at = at_fits now right.reply.at right.reply.snapshot known.standing;
-    answer = answer_fits _ _ (cursor_table script now) (rest_in now.session now.transaction earlier) now now.statement refl known.standing right.reply.snapshot right.reply.answer finds (causes_fit earlier now now.statement right.conflict) known.rows known.standing.widths
+    answer = answer_fits _ _ (cursor_table script now) (rest_in now.session now.transaction earlier) now now.statement refl known.standing right.reply.snapshot right.reply.answer
+        finds (causes_fit earlier now now.statement right.conflict) known.rows known.standing.widths
         (report_fits earlier now shown right known) (number_in now known.standing known.number);
     number = number_fits now right.reply.number known.number;
   }
@@ -452,7 +473,8 @@ module _ (mode : Mode) (script : Script) (h : History) (all : List Said) (few : 
   stands_alone : (earlier : List Said) (now : Said) → Each (PrintsWithin h) all → IsRightEnough mode h all earlier now → IsKnown now → (now.session == 0) ≡ true → IsReport now.reply
   stands_alone earlier now shown right known e =
       let k = known.beside e in
-      let answer : IsCollected mode now.session now.reply.answer = subst (IsAnswer mode (seen h (own_writes earlier now) now.at) (is_written (own_writes earlier now)) (rest_in now.session now.transaction earlier) now) k.statement.1 right.reply.answer in record {
+      let answer : IsCollected mode now.session now.reply.answer = subst (IsAnswer mode (seen h (own_writes earlier now) now.at) (is_written (own_writes earlier now))
+      (rest_in now.session now.transaction earlier) now) k.statement.1 right.reply.answer in record {
         at = nothing_there now.reply.at (right.reply.at ∙ k.alone);
         answer = report_fits earlier now shown right known (is_reported mode now.session now.reply.answer e answer);
         number = nothing_there now.reply.number (right.reply.number ∙ ap (λ b. b && is_some (stored now)) k.alone);
@@ -465,13 +487,15 @@ module _ (mode : Mode) (script : Script) (h : History) (all : List Said) (few : 
       go true is = stands_alone earlier now shown right known is
       go false is = reply_fits earlier now shown right finds known
 
-  all_fit : (earlier xs : List Said) → Each (PrintsWithin h) all → EachAfter (IsRightEnough mode h all) earlier xs → EachAfter (FindsRest script.records) earlier xs → Each IsKnown xs → Each (FitsSaid script) xs
+  all_fit : (earlier xs : List Said) → Each (PrintsWithin h) all → EachAfter (IsRightEnough mode h all) earlier xs → EachAfter (FindsRest script.records) earlier xs →
+      Each IsKnown xs → Each (FitsSaid script) xs
   all_fit earlier [] shown right finds known = tt
   all_fit earlier (now ∷ later) shown right finds known = (said_fits earlier now shown right.0 finds.0 known.0, all_fit (now ∷ earlier) later shown right.1 finds.1 known.1)
 
 -- ---- the record of a line
 
-is_asked : (before rs : List Record) (r : Record) (place session : ℕ) → place ≡ r.place → session ≡ r.session → Each (λ q. q.place < r.place) before → find (λ q. (q.place == place) && (q.session == session)) (before ++ r ∷ rs) ≡ Some r
+is_asked : (before rs : List Record) (r : Record) (place session : ℕ) → place ≡ r.place → session ≡ r.session → Each (λ q. q.place < r.place) before →
+    find (λ q. (q.place == place) && (q.session == session)) (before ++ r ∷ rs) ≡ Some r
 is_asked [] rs r place session p s e =
     let same : (r.place == place) ≡ true = (Decides-eqb r.place place).1 (sym p) in
     let own : (r.session == session) ≡ true = (Decides-eqb r.session session).1 (sym s) in
@@ -525,22 +549,28 @@ module _ (script : Script) (lawful : IsLawful script) where
   abbrev cursor_at : Line → Option TableId
   cursor_at line = cursor_before script.records line.session line.place
 
-  line_fits : (r : Record) (line : Line) → IsLineOf r line → IsOwn script r → MatchBool (r.session == 0) (IsReport line.reply) (FitsReply script.tables (cursor_at line) r.statement line.reply) → Fits script line
+  line_fits : (r : Record) (line : Line) → IsLineOf r line → IsOwn script r →
+      MatchBool (r.session == 0) (IsReport line.reply) (FitsReply script.tables (cursor_at line) r.statement line.reply) → Fits script line
   line_fits r line shape own fits = go (r.session == 0) refl own fits
     where
-      go : (b : Bool) → (r.session == 0) ≡ b → MatchBool b (IsRound r) (IsAsked script r) → MatchBool b (IsReport line.reply) (FitsReply script.tables (cursor_at line) r.statement line.reply) → Fits script line
+      go : (b : Bool) → (r.session == 0) ≡ b → MatchBool b (IsRound r) (IsAsked script r) →
+          MatchBool b (IsReport line.reply) (FitsReply script.tables (cursor_at line) r.statement line.reply) → Fits script line
       go true is own fits =
           let none : r.session ≡ 0 = (Decides-eqb r.session 0).0 is in record {
             session = omega (arith, shape.session, none);
             place = subst Fits64 (sym shape.place) own.place;
-            reply = subst (λ b. MatchBool b (IsReport line.reply) (MatchOption (asked script.records line) ⊥ (λ s. FitsReply script.tables (cursor_at line) s line.reply))) (sym (ap (λ n. n == 0) shape.session ∙ is)) fits;
+            reply = subst (λ b. MatchBool b (IsReport line.reply) (MatchOption (asked script.records line) ⊥ (λ s. FitsReply script.tables (cursor_at line) s line.reply)))
+                (sym (ap (λ n. n == 0) shape.session ∙ is)) fits;
           }
       go false is own fits =
-          let at : (λ (q : Record). (q.place == line.place) && (q.session == line.session)) ≡ (λ (q : Record). (q.place == r.place) && (q.session == r.session)) = (λ i (q : Record). (q.place == shape.place i) && (q.session == shape.session i)) in
-          let asks : asked script.records line ≡ Some r.statement = ap (λ test. option_map_or (λ r. Some r.statement) (find test script.records) None) at ∙ ap (λ o. option_map_or (λ r. Some r.statement) o None) own.found in record {
+          let at : (λ (q : Record). (q.place == line.place) && (q.session == line.session)) ≡ (λ (q : Record). (q.place == r.place) && (q.session == r.session)) =
+          (λ i (q : Record). (q.place == shape.place i) && (q.session == shape.session i)) in
+          let asks : asked script.records line ≡ Some r.statement = ap (λ test. option_map_or (λ r. Some r.statement) (find test script.records) None) at ∙
+          ap (λ o. option_map_or (λ r. Some r.statement) o None) own.found in record {
             session = subst Fits32 (sym shape.session) own.session;
             place = subst Fits64 (sym shape.place) own.place;
-            reply = subst (λ b. MatchBool b (IsReport line.reply) (MatchOption (asked script.records line) ⊥ (λ s. FitsReply script.tables (cursor_at line) s line.reply))) (sym (ap (λ n. n == 0) shape.session ∙ is))
+            reply = subst (λ b. MatchBool b (IsReport line.reply) (MatchOption (asked script.records line) ⊥ (λ s. FitsReply script.tables (cursor_at line) s line.reply)))
+                (sym (ap (λ n. n == 0) shape.session ∙ is))
                 (subst (λ o. MatchOption o ⊥ (λ s. FitsReply script.tables (cursor_at line) s line.reply)) (sym asks) fits);
           }
 
@@ -551,7 +581,8 @@ module _ (script : Script) (lawful : IsLawful script) where
   lines_fit (r ∷ rs) (line ∷ lines) earlier shape own fits =
       let says = said_says (last_of r.session earlier) r line.reply r.statement in
       let now : Said = said earlier r line.reply in
-      let cursor : cursor_table script now ≡ cursor_at line = (λ i. cursor_before script.records ((says.0 ∙ sym shape.0.session) i) ((says_place (last_of r.session earlier) r line.reply r.statement ∙ sym shape.0.place) i)) in
+      let cursor : cursor_table script now ≡ cursor_at line = (λ i. cursor_before script.records ((says.0 ∙ sym shape.0.session) i)
+      ((says_place (last_of r.session earlier) r line.reply r.statement ∙ sym shape.0.place) i)) in
       let here : MatchBool (r.session == 0) (IsReport line.reply) (FitsReply script.tables (cursor_at line) r.statement line.reply) =
       subst (λ j. MatchBool (j == 0) (IsReport line.reply) (FitsReply script.tables (cursor_at line) r.statement line.reply)) says.0
       (subst (λ s. MatchBool (now.session == 0) (IsReport line.reply) (FitsReply script.tables (cursor_at line) s line.reply)) says.1
@@ -571,7 +602,8 @@ all_of_sessions (r ∷ rs) (line ∷ lines) earlier are =
     (subst Fits32 (sym by) are.0, all_of_sessions rs lines (said earlier r line.reply ∷ earlier) are.1)
 
 -- the lines of session 0 are reports
-all_beside : (script : Script) (rs : List Record) (lines : List Line) (earlier : List Said) → Each (IsOwn script) rs → Each (λ now. (now.session == 0) ≡ true → IsBesideThem now) (said_from earlier rs lines)
+all_beside : (script : Script) (rs : List Record) (lines : List Line) (earlier : List Said) → Each (IsOwn script) rs →
+    Each (λ now. (now.session == 0) ≡ true → IsBesideThem now) (said_from earlier rs lines)
 all_beside script [] lines earlier own = tt
 all_beside script (r ∷ rs) [] earlier own = tt
 all_beside script (r ∷ rs) (line ∷ lines) earlier own =
@@ -579,7 +611,8 @@ all_beside script (r ∷ rs) (line ∷ lines) earlier own =
     let says = said_says last r line.reply r.statement in
     (go last says.0 says.1, all_beside script rs lines (said earlier r line.reply ∷ earlier) own.1)
   where
-    go : (last : Option Said) → (said earlier r line.reply).session ≡ r.session → (said earlier r line.reply).statement ≡ r.statement → ((said earlier r line.reply).session == 0) ≡ true → IsBesideThem (said earlier r line.reply)
+    go : (last : Option Said) → (said earlier r line.reply).session ≡ r.session → (said earlier r line.reply).statement ≡ r.statement →
+        ((said earlier r line.reply).session == 0) ≡ true → IsBesideThem (said earlier r line.reply)
     go last session statement e =
         let round : IsRound r = subst (λ b. MatchBool b (IsRound r) (IsAsked script r)) (sym (ap (λ n. n == 0) session) ∙ e) own.0 in
         let k = gc_of r.statement round.collects in record {
@@ -588,14 +621,16 @@ all_beside script (r ∷ rs) (line ∷ lines) earlier own =
         }
 
 -- what is right enough for a lawful script fits it
-pub right_fits : (mode : Mode) (script : Script) (printed : Printed) → rounds_beside mode < 2 ^ 32 → IsLawful script → HasShape (in_order mode script.records) printed.lines → (let all : List Said = all_said mode script printed.lines in
+pub right_fits : (mode : Mode) (script : Script) (printed : Printed) → rounds_beside mode < 2 ^ 32 → IsLawful script → HasShape (in_order mode script.records) printed.lines →
+    (let all : List Said = all_said mode script printed.lines in
     IsHistory (history_of all) → EachAfter (IsRightEnough mode (history_of all) all) [] all → AreTotals all (history_of all) printed.totals → IsFit script printed)
 right_fits mode script printed rounds lawful shape history right counted =
     let all : List Said = all_said mode script printed.lines in
     let rs : List Record = in_order mode script.records in
     let h : History = history_of all in
     let replies : EachAfter (IsReply mode h) [] all = each_after_keeps (IsRightEnough mode h all) (IsReply mode h) (λ earlier now r. r.reply) [] all right in
-    let own : Each (IsOwn script) rs = each_in_order (IsOwn script) mode script.records (owned script lawful [] script.records refl lawful.statements) (λ kind m k. record { place = omega (arith, k, rounds); collects = refl }) in
+    let own : Each (IsOwn script) rs = each_in_order (IsOwn script) mode script.records (owned script lawful [] script.records refl lawful.statements)
+    (λ kind m k. record { place = omega (arith, k, rounds); collects = refl }) in
     let sessions : Each (λ (r : Record). Fits32 r.session) rs = each_in_order (λ r. Fits32 r.session) mode script.records
     (each_keeps (IsStatement script.tables) (λ r. Fits32 r.session) (λ r is. omega (arith, is.most)) script.records lawful.statements) (λ kind m k. omega arith) in
     let widths : Each (λ (r : Record). HasWidths r.statement) rs = each_in_order (λ r. HasWidths r.statement) mode script.records
@@ -616,10 +651,16 @@ right_fits mode script printed rounds lawful shape history right counted =
     let gone : Each (λ (now : Said). (k : Kind) → Fits64 (removed_by k now)) all = removed_few all h printed.totals counted totals in
     let beside : Each (λ (now : Said). (now.session == 0) ≡ true → IsBesideThem now) all = all_beside script rs printed.lines [] own in
     let shown : Each (PrintsWithin h) all = snapshots_within mode h [] all replies stands in
-    let one : Each (λ (now : Said). IsStanding now × PrintsRow (IsPutRow script) (cursor_table script now) now.statement now.reply.answer) all = both_each IsStanding (λ (now : Said). PrintsRow (IsPutRow script) (cursor_table script now) now.statement now.reply.answer) (λ (now : Said). IsStanding now × PrintsRow (IsPutRow script) (cursor_table script now) now.statement now.reply.answer) (λ now k rows. (k, rows)) all stands rows in
-    let two : Each (λ (now : Said). CommitsWithin h now × ((k : Kind) → Fits64 (removed_by k now))) all = both_each (CommitsWithin h) (λ (now : Said). (k : Kind) → Fits64 (removed_by k now)) (λ (now : Said). CommitsWithin h now × ((k : Kind) → Fits64 (removed_by k now))) (λ now n g. (n, g)) all (numbers_within all) gone in
-    let three : Each (λ (now : Said). IsStanding now × PrintsRow (IsPutRow script) (cursor_table script now) now.statement now.reply.answer × ((now.session == 0) ≡ true → IsBesideThem now)) all = both_each _ (λ (now : Said). (now.session == 0) ≡ true → IsBesideThem now) (λ (now : Said). IsStanding now × PrintsRow (IsPutRow script) (cursor_table script now) now.statement now.reply.answer × ((now.session == 0) ≡ true → IsBesideThem now)) (λ now k b. (k.0, k.1, b)) all one beside in
-    let known : Each (IsKnown mode script h all few short writers) all = both_each _ (λ (now : Said). CommitsWithin h now × ((k : Kind) → Fits64 (removed_by k now))) (IsKnown mode script h all few short writers) (λ now k n. record { standing = k.0; rows = k.1; number = n.0; gone = n.1; beside = k.2 }) all three two in
+    let one : Each (λ (now : Said). IsStanding now × PrintsRow (IsPutRow script) (cursor_table script now) now.statement now.reply.answer) all = both_each IsStanding
+    (λ (now : Said). PrintsRow (IsPutRow script) (cursor_table script now) now.statement now.reply.answer) (λ (now : Said). IsStanding now ×
+    PrintsRow (IsPutRow script) (cursor_table script now) now.statement now.reply.answer) (λ now k rows. (k, rows)) all stands rows in
+    let two : Each (λ (now : Said). CommitsWithin h now × ((k : Kind) → Fits64 (removed_by k now))) all = both_each (CommitsWithin h) (λ (now : Said). (k : Kind) →
+    Fits64 (removed_by k now)) (λ (now : Said). CommitsWithin h now × ((k : Kind) → Fits64 (removed_by k now))) (λ now n g. (n, g)) all (numbers_within all) gone in
+    let three : Each (λ (now : Said). IsStanding now × PrintsRow (IsPutRow script) (cursor_table script now) now.statement now.reply.answer ×
+    ((now.session == 0) ≡ true → IsBesideThem now)) all = both_each _ (λ (now : Said). (now.session == 0) ≡ true → IsBesideThem now) (λ (now : Said). IsStanding now ×
+    PrintsRow (IsPutRow script) (cursor_table script now) now.statement now.reply.answer × ((now.session == 0) ≡ true → IsBesideThem now)) (λ now k b. (k.0, k.1, b)) all one beside in
+    let known : Each (IsKnown mode script h all few short writers) all = both_each _ (λ (now : Said). CommitsWithin h now × ((k : Kind) → Fits64 (removed_by k now)))
+    (IsKnown mode script h all few short writers) (λ now k n. record { standing = k.0; rows = k.1; number = n.0; gone = n.1; beside = k.2 }) all three two in
     record {
       lines = lines_fit script lawful rs printed.lines [] shape own (all_fit mode script h all few short writers [] all shown right finds known);
       totals = totals;
@@ -628,4 +669,5 @@ right_fits mode script printed rounds lawful shape history right counted =
 pub sound_fits : (mode : Mode) (script : Script) (printed : Printed) → rounds_beside mode < 2 ^ 32 → IsLawful script → IsSound mode script printed → IsFit script printed
 sound_fits mode script printed rounds lawful sound =
     let all : List Said = all_said mode script printed.lines in
-    right_fits mode script printed rounds lawful sound.lines.shape sound.lines.right.whole.history (each_after_keeps (IsRight mode (history_of all) all) (IsRightEnough mode (history_of all) all) (enough mode (history_of all) all) [] all sound.lines.right.lines) sound.totals
+    right_fits mode script printed rounds lawful sound.lines.shape sound.lines.right.whole.history
+    (each_after_keeps (IsRight mode (history_of all) all) (IsRightEnough mode (history_of all) all) (enough mode (history_of all) all) [] all sound.lines.right.lines) sound.totals

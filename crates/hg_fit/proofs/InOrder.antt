@@ -75,7 +75,8 @@ sessions_few records (j ∷ js) k =
 rounds_many : (kind : Kind) (rounds : ℕ) → length (rounds_of kind rounds) ≡ rounds
 rounds_many kind rounds = length-map (numbers_from 1 rounds) (round kind) ∙ as_many_numbers 1 rounds
 
-pub few_in_order : (mode : Mode) (records : List Record) → length records ≤ 1048576 → greatest (map (λ r. r.session) records) ≤ 64 → rounds_beside mode < 4294967296 → length (in_order mode records) < 18446744073709551616
+pub few_in_order : (mode : Mode) (records : List Record) → length records ≤ 1048576 → greatest (map (λ r. r.session) records) ≤ 64 → rounds_beside mode < 4294967296 →
+    length (in_order mode records) < 18446744073709551616
 few_in_order replay records k most rounds = omega (arith, k)
 few_in_order (run rounds) records k most less =
     let own : List Record = flat_map (λ j. of_session j records) (sessions_of records) in
@@ -132,7 +133,8 @@ stand_more j rs r = go (r.session == j) refl
     go : (b : Bool) → (r.session == j) ≡ b → stand_of j (rs ++ r ∷ []) ≡ cond b (stand_on (stand_of j rs) r.statement) (stand_of j rs)
     go true e =
         let own = open_own j rs r ((Decides-eqb r.session j).0 e) in
-        let last : last_opened j (rs ++ r ∷ []) ≡ option_or (opens r.statement) (last_opened j rs) = opened_last j rs r ∙ ap (λ b. option_or (if b then opens r.statement else None) (last_opened j rs)) e in
+        let last : last_opened j (rs ++ r ∷ []) ≡ option_or (opens r.statement) (last_opened j rs) = opened_last j rs r ∙
+        ap (λ b. option_or (if b then opens r.statement else None) (last_opened j rs)) e in
         λ i. record { within = own.0 i; reads = own.1 i; cursor = last i }
     go false e =
         let other = open_other j rs r e in
@@ -205,7 +207,8 @@ in_turn : (all before rs : List Record) → all ≡ before ++ rs → Ascends (ma
 in_turn all before [] e places h = tt
 in_turn all before (r ∷ rs) e places h =
     let ascend : Ascends (map (λ (r : Record). r.place) (before ++ r ∷ rs)) = subst (λ (rs : List Record). Ascends (map (λ (r : Record). r.place) rs)) e places in
-    let last : last_opened r.session before ≡ cursor_before all r.session r.place = sym (ap (λ rs. cursor_before rs r.session r.place) e ∙ last_before before (r ∷ rs) r.session r.place (lower before rs r ascend) (higher before rs r ascend)) in (
+    let last : last_opened r.session before ≡ cursor_before all r.session r.place = sym (ap (λ rs. cursor_before rs r.session r.place) e ∙
+    last_before before (r ∷ rs) r.session r.place (lower before rs r ascend) (higher before rs r ascend)) in (
       record { may = h.0; cursor = of_cursor all (last_opened r.session before) r r.statement last },
       in_turn all (before ++ r ∷ []) rs (e ∙ sym (append_assoc before (r ∷ []) rs)) places h.1,
     )
@@ -220,7 +223,8 @@ module _ (all : List Record) where
   own_in_turn j before behind [] e h = tt
   own_in_turn j before behind (r ∷ rs) e h = go (r.session == j) refl (λ behind e. own_in_turn j (before ++ r ∷ []) behind rs e h.1)
     where
-      go : (b : Bool) → (r.session == j) ≡ b → ((more : List Record) → stand_of j more ≡ stand_of j (before ++ r ∷ []) → AreInTurn all more (of_session j rs)) → AreInTurn all behind (cond b (r ∷ of_session j rs) (of_session j rs))
+      go : (b : Bool) → (r.session == j) ≡ b → ((more : List Record) → stand_of j more ≡ stand_of j (before ++ r ∷ []) → AreInTurn all more (of_session j rs)) →
+          AreInTurn all behind (cond b (r ∷ of_session j rs) (of_session j rs))
       go true is later =
           let same : r.session ≡ j = (Decides-eqb r.session j).0 is in
           let here : stand_of r.session before ≡ stand_of r.session behind = subst (λ i. stand_of i before ≡ stand_of i behind) (sym same) (sym e) in (
@@ -234,7 +238,8 @@ module _ (all : List Record) where
   others_leave j i before [] k = ap (stand_of j) (append_nil before)
   others_leave j i before (r ∷ rs) k = go (r.session == i) refl (λ before. others_leave j i before rs k)
     where
-      go : (b : Bool) → (r.session == i) ≡ b → ((more : List Record) → stand_of j (more ++ of_session i rs) ≡ stand_of j more) → stand_of j (before ++ cond b (r ∷ of_session i rs) (of_session i rs)) ≡ stand_of j before
+      go : (b : Bool) → (r.session == i) ≡ b → ((more : List Record) → stand_of j (more ++ of_session i rs) ≡ stand_of j more) →
+          stand_of j (before ++ cond b (r ∷ of_session i rs) (of_session i rs)) ≡ stand_of j before
       go true is later =
           let same : r.session ≡ i = (Decides-eqb r.session i).0 is in
           let apart : (r.session == j) ≡ false = not_equal r.session j (omega (arith, same, k)) in
@@ -242,7 +247,8 @@ module _ (all : List Record) where
           ∙ stand_more j before r ∙ ap (λ b. cond b (stand_on (stand_of j before) r.statement) (stand_of j before)) apart
       go false is later = later before
 
-  sessions_in_turn : (records : List Record) → AreInTurn all [] records → (n many : ℕ) (before : List Record) → ((j : ℕ) → n ≤ j → stand_of j before ≡ stand_of j []) → AreInTurn all before (flat_map (λ j. of_session j records) (numbers_from n many))
+  sessions_in_turn : (records : List Record) → AreInTurn all [] records → (n many : ℕ) (before : List Record) → ((j : ℕ) → n ≤ j → stand_of j before ≡ stand_of j []) →
+      AreInTurn all before (flat_map (λ j. of_session j records) (numbers_from n many))
   sessions_in_turn records h n zero before closed = tt
   sessions_in_turn records h n (suc many) before closed =
       more_in_turn before (of_session n records) (flat_map (λ j. of_session j records) (numbers_from (suc n) many)) (own_in_turn n [] before records (closed n (omega arith)) h)
@@ -262,6 +268,7 @@ stand_in_turn (run rounds) records places h =
     let i : List Record = rounds_of kinds.Interval rounds in
     more_in_turn records [] (own ++ g ++ t) i
     (more_in_turn records [] (own ++ g) t
-    (more_in_turn records [] own g (sessions_in_turn records records (in_turn records [] records refl places h) 1 (greatest (map (λ (r : Record). r.session) records)) [] (λ j k. refl)) (rounds_in_turn records kinds.Group 1 rounds own))
+    (more_in_turn records [] own g (sessions_in_turn records records (in_turn records [] records refl places h) 1 (greatest (map (λ (r : Record). r.session) records)) []
+    (λ j k. refl)) (rounds_in_turn records kinds.Group 1 rounds own))
     (rounds_in_turn records kinds.Table 1 rounds (own ++ g)))
     (rounds_in_turn records kinds.Interval 1 rounds (own ++ g ++ t))

@@ -75,7 +75,8 @@ open_access n u (Scan t low high) a log access = open_scan n u.part t low high a
 open_access n u _ a log access = absurd (false_true access)
 
 -- and outside it is over at once
-pub open_within : (o : Option Snapshot) (n : ℕ) (u : Unprinted) (s : Statement) (reply : Reply) (log : List LogEntry) → is_access s ≡ true → current log ≡ o → is_some (current (log_with (is_alone o s) n u s reply log)) ≡ is_some o
+pub open_within : (o : Option Snapshot) (n : ℕ) (u : Unprinted) (s : Statement) (reply : Reply) (log : List LogEntry) → is_access s ≡ true → current log ≡ o →
+    is_some (current (log_with (is_alone o s) n u s reply log)) ≡ is_some o
 open_within (Some snapshot) n u s reply log access e = ap is_some (open_access n u s reply.answer log access ∙ e)
 open_within None n u s reply log access e = ap (λ b. is_some (current (log_with b n u s reply log))) access ∙ over reply.number
   where
@@ -93,7 +94,8 @@ held before Rollback = false
 held before _ = before
 
 -- a statement that begins a transaction
-open_begun : (n : ℕ) (u : Unprinted) (s : Statement) (at number : Option ℕ) (a : Answer) (log : List LogEntry) (o : Option Snapshot) → is_access s ≡ false → IsBegun a → ((at : ℕ) → is_some (current (own_entries n u s (Begun at) ++ log)) ≡ true) → is_some (current (log_with (is_alone o s) n u s (record { at = at; answer = a; number = number }) log)) ≡ true
+open_begun : (n : ℕ) (u : Unprinted) (s : Statement) (at number : Option ℕ) (a : Answer) (log : List LogEntry) (o : Option Snapshot) → is_access s ≡ false → IsBegun a →
+    ((at : ℕ) → is_some (current (own_entries n u s (Begun at) ++ log)) ≡ true) → is_some (current (log_with (is_alone o s) n u s (record { at = at; answer = a; number = number }) log)) ≡ true
 open_begun n u s at number (Begun m) log None none begun k = ap (λ b. is_some (current (log_with b n u s (record { at = at; answer = Begun m; number = number }) log))) none ∙ k m
 open_begun n u s at number (Begun m) log (Some snapshot) none begun k = k m
 open_begun n u s at number _ log o none begun k = absurd begun
@@ -197,7 +199,8 @@ reads_snoc j rs r = folds false rs
     folds b (q ∷ rs) = folds (reading_by j b q) rs
 
 -- of the record's own session, and of another one
-pub open_own : (j : ℕ) (rs : List Record) (r : Record) → r.session ≡ j → (is_open j (rs ++ r ∷ []) ≡ opened (is_open j rs) r.statement) × (is_reading j (rs ++ r ∷ []) ≡ reading (is_reading j rs) r.statement)
+pub open_own : (j : ℕ) (rs : List Record) (r : Record) → r.session ≡ j → (is_open j (rs ++ r ∷ []) ≡ opened (is_open j rs) r.statement) ×
+    (is_reading j (rs ++ r ∷ []) ≡ reading (is_reading j rs) r.statement)
 open_own j rs r same =
     let own : (r.session == j) ≡ true = (Decides-eqb r.session j).1 same in (
       open_snoc j rs r ∙ ap (λ b. cond b (opened (is_open j rs) r.statement) (is_open j rs)) own,
@@ -212,7 +215,9 @@ open_other j rs r other = (
 
 -- ---- of all sessions
 
-pub opened_more : (buckets : ℕ) (old new : ℕ → List LogEntry) (rs : List Record) (r : Record) (u : Unprinted) (reply : Reply) → new ≡ put old r.session (log_after buckets u r.statement reply (old r.session)) → Fits buckets u (old r.session) r.statement reply → MayStand (is_open r.session rs) (is_reading r.session rs) r.statement →
+pub opened_more : (buckets : ℕ) (old new : ℕ → List LogEntry) (rs : List Record) (r : Record) (u : Unprinted) (reply : Reply) →
+    new ≡ put old r.session (log_after buckets u r.statement reply (old r.session)) → Fits buckets u (old r.session) r.statement reply →
+    MayStand (is_open r.session rs) (is_reading r.session rs) r.statement →
     ((j : ℕ) → AreOpen (is_open j rs) (is_reading j rs) (is_some (current (old j)))) → (j : ℕ) → AreOpen (is_open j (rs ++ r ∷ [])) (is_reading j (rs ++ r ∷ [])) (is_some (current (new j)))
 opened_more buckets old new rs r u reply is fits may before = at_index r.session (λ j. AreOpen (is_open j (rs ++ r ∷ [])) (is_reading j (rs ++ r ∷ [])) (is_some (current (new j)))) here others
   where
@@ -223,8 +228,10 @@ opened_more buckets old new rs r u reply is fits may before = at_index r.session
     here =
         let own = open_own r.session rs r refl in
         let now : held (is_some (current (old r.session))) r.statement ≡ is_some (current (new r.session)) =
-        sym (open_after buckets u r.statement reply (old r.session) fits) ∙ ap (λ m. is_some (current m)) (sym (put_here old r.session log)) ∙ ap (λ logs. is_some (current (logs r.session))) (sym is) in
-        subst (λ p. p) (λ i. AreOpen (sym own.0 i) (sym own.1 i) (now i)) (open_step r.statement (is_open r.session rs) (is_reading r.session rs) (is_some (current (old r.session))) (before r.session) may)
+        sym (open_after buckets u r.statement reply (old r.session) fits) ∙ ap (λ m. is_some (current m)) (sym (put_here old r.session log)) ∙
+        ap (λ logs. is_some (current (logs r.session))) (sym is) in
+        subst (λ p. p) (λ i. AreOpen (sym own.0 i) (sym own.1 i) (now i))
+        (open_step r.statement (is_open r.session rs) (is_reading r.session rs) (is_some (current (old r.session))) (before r.session) may)
 
     others : (j : ℕ) → (j ≡ r.session → ⊥) → AreOpen (is_open j (rs ++ r ∷ [])) (is_reading j (rs ++ r ∷ [])) (is_some (current (new j)))
     others j z =

@@ -146,11 +146,13 @@ opens_now earlier now k = ap (λ l. is_some (open_after l)) (last_is_now now.ses
     go false = refl
 
 -- a `gc` leaves each transaction and each cursor as it was
-shows_gc : (done : List Record) (earlier : List Said) (r : Record) (reply : Reply) (kind : Kind) → r.statement ≡ Gc kind → ShowsOpen done earlier → ShowsOpen (done ++ r ∷ []) (said earlier r reply ∷ earlier)
+shows_gc : (done : List Record) (earlier : List Said) (r : Record) (reply : Reply) (kind : Kind) → r.statement ≡ Gc kind → ShowsOpen done earlier →
+    ShowsOpen (done ++ r ∷ []) (said earlier r reply ∷ earlier)
 shows_gc done earlier r reply kind is shows j =
     let line : Said = said earlier r reply in
     let none : line.transaction ≡ 0 = ap (λ s. (said_after (last_of r.session earlier) r reply s).transaction) is in
-    let kept : last_of j (line ∷ earlier) ≡ last_of j earlier = ap (λ n. cond ((line.session == j) && nat_lt 0 n) (Some line) (last_of j earlier)) none ∙ outside (line.session == j) (Some line) (last_of j earlier) in
+    let kept : last_of j (line ∷ earlier) ≡ last_of j earlier = ap (λ n. cond ((line.session == j) && nat_lt 0 n) (Some line) (last_of j earlier)) none ∙
+    outside (line.session == j) (Some line) (last_of j earlier) in
     let same = cases (r.session == j) own (open_other j done r) in
     subst (λ p. p) (λ i. AreOpen (sym same.0 i) (sym same.1 i) (is_some (open_after (sym kept i)))) (shows j)
   where
@@ -176,7 +178,8 @@ gc_of CursorClose e = absurd (false_true e)
 gc_of CommitIt e = absurd (false_true e)
 gc_of Rollback e = absurd (false_true e)
 
-shows_own : (done : List Record) (earlier : List Said) (r : Record) (reply : Reply) → Orderly r.session earlier → is_gc r.statement ≡ false → MayStand (is_open r.session done) (is_reading r.session done) r.statement → ShowsOpen done earlier → ShowsOpen (done ++ r ∷ []) (said earlier r reply ∷ earlier)
+shows_own : (done : List Record) (earlier : List Said) (r : Record) (reply : Reply) → Orderly r.session earlier → is_gc r.statement ≡ false →
+    MayStand (is_open r.session done) (is_reading r.session done) r.statement → ShowsOpen done earlier → ShowsOpen (done ++ r ∷ []) (said earlier r reply ∷ earlier)
 shows_own done earlier r reply orderly other_word may shows j = cases (r.session == j) (λ e. subst Shows ((Decides-eqb r.session j).0 e) own) other
   where
     Shows : ℕ → Type 0
@@ -189,7 +192,8 @@ shows_own done earlier r reply orderly other_word may shows j = cases (r.session
         let same = open_own r.session done r refl in
         let now : held (is_some (open_of r.session earlier)) r.statement ≡ is_some (open_of r.session (said earlier r reply ∷ earlier)) =
         left.1 ∙ subst (λ i. not (ends (said earlier r reply)) ≡ is_some (open_of i (said earlier r reply ∷ earlier))) by (sym (opens_now earlier (said earlier r reply) left.0)) in
-        subst (λ p. p) (λ i. AreOpen (sym same.0 i) (sym same.1 i) (now i)) (open_step r.statement (is_open r.session done) (is_reading r.session done) (is_some (open_of r.session earlier)) (shows r.session) may)
+        subst (λ p. p) (λ i. AreOpen (sym same.0 i) (sym same.1 i) (now i))
+        (open_step r.statement (is_open r.session done) (is_reading r.session done) (is_some (open_of r.session earlier)) (shows r.session) may)
 
     other : (r.session == j) ≡ false → Shows j
     other e =
@@ -199,7 +203,8 @@ shows_own done earlier r reply orderly other_word may shows j = cases (r.session
         let same = open_other j done r e in
         subst (λ p. p) (λ i. AreOpen (sym same.0 i) (sym same.1 i) (is_some (open_after (sym kept i)))) (shows j)
 
-pub shows_more : (done : List Record) (earlier : List Said) (r : Record) (reply : Reply) → Orderly r.session earlier → MayStand (is_open r.session done) (is_reading r.session done) r.statement → ShowsOpen done earlier → ShowsOpen (done ++ r ∷ []) (said earlier r reply ∷ earlier)
+pub shows_more : (done : List Record) (earlier : List Said) (r : Record) (reply : Reply) → Orderly r.session earlier →
+    MayStand (is_open r.session done) (is_reading r.session done) r.statement → ShowsOpen done earlier → ShowsOpen (done ++ r ∷ []) (said earlier r reply ∷ earlier)
 shows_more done earlier r reply orderly may shows =
     cases (is_gc r.statement)
     (λ yes. let k = gc_of r.statement yes in shows_gc done earlier r reply k.0 k.1 shows)
@@ -207,7 +212,8 @@ shows_more done earlier r reply orderly may shows =
 
 -- ---- all lines
 
-pub all_stand : (all before rs : List Record) (lines : List Line) (earlier : List Said) → AreInTurn all before rs → Each (λ r. HasWidths r.statement) rs → ((j : ℕ) → Orderly j earlier) → ShowsOpen before earlier → Each IsStanding (said_from earlier rs lines)
+pub all_stand : (all before rs : List Record) (lines : List Line) (earlier : List Said) → AreInTurn all before rs → Each (λ r. HasWidths r.statement) rs →
+    ((j : ℕ) → Orderly j earlier) → ShowsOpen before earlier → Each IsStanding (said_from earlier rs lines)
 all_stand all before [] lines earlier turn widths orderly shows = tt
 all_stand all before (r ∷ rs) [] earlier turn widths orderly shows = tt
 all_stand all before (r ∷ rs) (line ∷ lines) earlier turn widths orderly shows = (

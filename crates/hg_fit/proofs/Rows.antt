@@ -19,7 +19,8 @@ use Rattle.hg_base.specs.Lists.{Each, EachAfter}
 use Rattle.hg_base.specs.Script.{Mode, Declaration, Script}
 use Rattle.hg_base.specs.History.{Write, Commit, Group, History, same_rid, image_in, group_image, writes_from, writes, last_image, visible, seen}
 use Rattle.hg_base.specs.Text.{cursor_before}
-use Rattle.hg_base.specs.Transcript.{Rest, Said, has, passed, rest_in, said, said_from, last_of, is_of, stored, stored_by, stored_in, own_writes, committed, last_images, commit_by, commits_from, commits, put_by_session, group_of, history_of, in_order}
+use Rattle.hg_base.specs.Transcript.{Rest, Said, has, passed, rest_in, said, said_from, last_of, is_of, stored, stored_by, stored_in, own_writes, committed, last_images, commit_by}
+use Rattle.hg_base.specs.Transcript.{commits_from, commits, put_by_session, group_of, history_of, in_order}
 use Rattle.hg_base.specs.Replies.{IsGot, IsScanned, IsFetched, IsUndeclared, IsAnswer, IsReply}
 use Rattle.hg_base.specs.Sound.{IsSound, IsRight, all_said}
 use Rattle.hg_base.proofs.ListFacts.{each_after_keeps, each_keeps}
@@ -128,17 +129,20 @@ one_stored P _ a p = tt
 
 one_own : (P : Rid → List Value → Type 0) (j x : ℕ) (list : List Said) → Each (λ now. AsksRow P now.statement) list → Each (IsOne P) (stored_in j x list)
 one_own P j x list e =
-    each_picked (IsOne P) stored (filter (is_of j x) list) (each_keeps (λ now. AsksRow P now.statement) (λ now. IfSome (stored now) (IsOne P)) (λ now p. one_stored P now.statement now.reply.answer p) (filter (is_of j x) list) (each_filter (λ now. AsksRow P now.statement) (is_of j x) list e))
+    each_picked (IsOne P) stored (filter (is_of j x) list) (each_keeps (λ now. AsksRow P now.statement) (λ now. IfSome (stored now) (IsOne P))
+    (λ now p. one_stored P now.statement now.reply.answer p) (filter (is_of j x) list) (each_filter (λ now. AsksRow P now.statement) (is_of j x) list e))
 
 one_last_images : (Q : Write → Type 0) (ws : List Write) → Each Q ws → Each Q (last_images ws)
 one_last_images Q [] e = tt
 one_last_images Q (w ∷ ws) e = (e.0, each_filter Q _ (last_images ws) (one_last_images Q ws e.1))
 
-one_commits : (P : Rid → List Value → Type 0) (earlier all : List Said) → Each (λ now. AsksRow P now.statement) earlier → Each (λ now. AsksRow P now.statement) all → Each (λ p. Each (IsOne P) p.1.images) (commits_from earlier all)
+one_commits : (P : Rid → List Value → Type 0) (earlier all : List Said) → Each (λ now. AsksRow P now.statement) earlier → Each (λ now. AsksRow P now.statement) all →
+    Each (λ p. Each (IsOne P) p.1.images) (commits_from earlier all)
 one_commits P earlier [] before e = tt
 one_commits P earlier (now ∷ later) before e =
     each_cons (λ (p : ℕ × Commit). Each (IsOne P) p.1.images) (option_map (λ c. (c, commit_by earlier now)) (committed now)) (commits_from (now ∷ earlier) later)
-    (some_mapped (λ (p : ℕ × Commit). Each (IsOne P) p.1.images) (λ (c : ℕ). (c, commit_by earlier now)) (committed now) (λ c. one_last_images (IsOne P) _ (one_own P now.session now.transaction (now ∷ earlier) (e.0, before))))
+    (some_mapped (λ (p : ℕ × Commit). Each (IsOne P) p.1.images) (λ (c : ℕ). (c, commit_by earlier now)) (committed now)
+    (λ c. one_last_images (IsOne P) _ (one_own P now.session now.transaction (now ∷ earlier) (e.0, before))))
     (one_commits P (now ∷ earlier) later (e.0, before) e.1)
 
 one_put : (Q : Commit → Type 0) (c : Commit) (group : Group) → Q c → Each Q group → Each Q (put_by_session c group)
@@ -158,11 +162,13 @@ one_group Q (p ∷ ps) n e = go (p.0 == n) (one_group Q ps n e.1)
     go false later = later
 
 one_history : (P : Rid → List Value → Type 0) (all : List Said) → Each (λ now. AsksRow P now.statement) all → Each (Each (λ c. Each (IsOne P) c.images)) (history_of all)
-one_history P all e = each_mapped (Each (λ (c : Commit). Each (IsOne P) c.images)) (group_of (commits all)) _ (λ n. one_group (λ (c : Commit). Each (IsOne P) c.images) (commits all) n (one_commits P [] all tt e))
+one_history P all e = each_mapped (Each (λ (c : Commit). Each (IsOne P) c.images)) (group_of (commits all)) _
+    (λ n. one_group (λ (c : Commit). Each (IsOne P) c.images) (commits all) n (one_commits P [] all tt e))
 
 -- ---- the lines beside their records
 
-pub all_ask : (P : Rid → List Value → Type 0) (earlier : List Said) (rs : List Record) (lines : List Line) → Each (λ r. AsksRow P r.statement) rs → Each (λ now. AsksRow P now.statement) (said_from earlier rs lines)
+pub all_ask : (P : Rid → List Value → Type 0) (earlier : List Said) (rs : List Record) (lines : List Line) → Each (λ r. AsksRow P r.statement) rs →
+    Each (λ now. AsksRow P now.statement) (said_from earlier rs lines)
 all_ask P earlier [] lines e = tt
 all_ask P earlier (r ∷ rs) [] e = tt
 all_ask P earlier (r ∷ rs) (line ∷ lines) e = (
@@ -188,8 +194,10 @@ got P r image (Undeclared t) h g = absurd g
 got P r image (Swept s) h g = absurd g
 got P r image Beside h g = absurd g
 
-scanned : (P : Rid → List Value → Type 0) (table : TableId) (look : ℕ → Image) (low high : ℕ) (a : Answer) → ((key : ℕ) → Holds P (record { table = table; key = key }) (look key)) → IsScanned look low high a → FoundRows P table a
-scanned P table look low high (Rows rows) h s = each_keeps _ (λ (p : ℕ × List Value). P (record { table = table; key = p.0 }) p.1) (λ p k. subst (λ o. IfSome o (P (record { table = table; key = p.0 }))) k.2 (h p.0)) rows s.each
+scanned : (P : Rid → List Value → Type 0) (table : TableId) (look : ℕ → Image) (low high : ℕ) (a : Answer) → ((key : ℕ) → Holds P (record { table = table; key = key }) (look key))
+    → IsScanned look low high a → FoundRows P table a
+scanned P table look low high (Rows rows) h s = each_keeps _ (λ (p : ℕ × List Value). P (record { table = table; key = p.0 }) p.1)
+    (λ p k. subst (λ o. IfSome o (P (record { table = table; key = p.0 }))) k.2 (h p.0)) rows s.each
 scanned P table look low high Nothing h g = absurd g
 scanned P table look low high (Found row) h g = absurd g
 scanned P table look low high (Begun s) h g = absurd g
@@ -236,14 +244,16 @@ rows_out P t table (Undeclared other) u = tt
 rows_out P t table (Swept s) u = tt
 rows_out P t table Beside u = tt
 
-fetched : (P : Rid → List Value → Type 0) (look : Rid → Image) (n : ℕ) (cursor : Option TableId) (rest : Option Rest) (a : Answer) → ((r : Rid) → Holds P r (look r)) → IsRestOf cursor rest → IsFetched look n rest a → MatchOption cursor ⊥ (λ table. FoundRows P table a)
+fetched : (P : Rid → List Value → Type 0) (look : Rid → Image) (n : ℕ) (cursor : Option TableId) (rest : Option Rest) (a : Answer) → ((r : Rid) → Holds P r (look r)) →
+    IsRestOf cursor rest → IsFetched look n rest a → MatchOption cursor ⊥ (λ table. FoundRows P table a)
 fetched P look n cursor None a h found f = absurd f
 fetched P look n cursor (Some rest) (Rows rows) h found f =
     subst (λ o. MatchOption o ⊥ (λ table. FoundRows P table (Rows rows))) (sym found.0)
     (scanned P rest.table (λ key. look (record { table = rest.table; key = key })) rest.low (passed n rest.high rows) (Rows rows) (λ key. h (record { table = rest.table; key = key })) f.all)
 fetched P look n cursor (Some rest) _ h found f = absurd f
 
-answered : (P : Rid → List Value → Type 0) (mode : Mode) (look : Rid → Image) (wrote : Bool) (cursor : Option TableId) (rest : Option Rest) (now : Said) (s : Statement) → ((r : Rid) → Holds P r (look r)) → IfFetch s (IsRestOf cursor rest) → IsAnswer mode look wrote rest now s → PrintsRow P cursor s now.reply.answer
+answered : (P : Rid → List Value → Type 0) (mode : Mode) (look : Rid → Image) (wrote : Bool) (cursor : Option TableId) (rest : Option Rest) (now : Said) (s : Statement) →
+    ((r : Rid) → Holds P r (look r)) → IfFetch s (IsRestOf cursor rest) → IsAnswer mode look wrote rest now s → PrintsRow P cursor s now.reply.answer
 answered P mode look wrote cursor rest now (Get r) h found a = go (has now.scope r.table) a
   where
     go : (b : Bool) → MatchBool b (IsGot (look r) now.reply.answer) (IsUndeclared r.table now.reply.answer) → FoundRow P r now.reply.answer
@@ -257,7 +267,8 @@ answered P mode look wrote cursor rest now (Scan table low high) h found a = go 
 answered P mode look wrote cursor rest now (Fetch n) h found a = fetched P look n cursor rest now.reply.answer h found a
 answered P mode look wrote cursor rest now _ h found a = tt
 
-all_print : (P : Rid → List Value → Type 0) (mode : Mode) (h : History) (records : List Record) (earlier xs : List Said) → Each (Each (λ c. Each (IsOne P) c.images)) h → Each (λ now. AsksRow P now.statement) earlier → Each (λ now. AsksRow P now.statement) xs → EachAfter (IsReply mode h) earlier xs → EachAfter (FindsRest records) earlier xs →
+all_print : (P : Rid → List Value → Type 0) (mode : Mode) (h : History) (records : List Record) (earlier xs : List Said) → Each (Each (λ c. Each (IsOne P) c.images)) h →
+    Each (λ now. AsksRow P now.statement) earlier → Each (λ now. AsksRow P now.statement) xs → EachAfter (IsReply mode h) earlier xs → EachAfter (FindsRest records) earlier xs →
     Each (λ now. PrintsRow P (cursor_before records now.session now.place) now.statement now.reply.answer) xs
 all_print P mode h records earlier [] history before asks right finds = tt
 all_print P mode h records earlier (now ∷ later) history before asks right finds = (
@@ -266,7 +277,8 @@ all_print P mode h records earlier (now ∷ later) history before asks right fin
   all_print P mode h records (now ∷ earlier) later history (asks.0, before) asks.1 right.1 finds.1,
 )
 
-pub rows_put : (P : Rid → List Value → Type 0) (mode : Mode) (records : List Record) (all : List Said) → Each (λ now. AsksRow P now.statement) all → EachAfter (IsReply mode (history_of all)) [] all → EachAfter (FindsRest records) [] all → Each (λ now. PrintsRow P (cursor_before records now.session now.place) now.statement now.reply.answer) all
+pub rows_put : (P : Rid → List Value → Type 0) (mode : Mode) (records : List Record) (all : List Said) → Each (λ now. AsksRow P now.statement) all →
+    EachAfter (IsReply mode (history_of all)) [] all → EachAfter (FindsRest records) [] all → Each (λ now. PrintsRow P (cursor_before records now.session now.place) now.statement now.reply.answer) all
 rows_put P mode records all asks right finds = all_print P mode (history_of all) records [] all (one_history P all asks) tt asks right finds
 
 -- ---- the columns
@@ -280,6 +292,8 @@ rows_have_columns mode script printed lawful sound =
     let P = HasColumns script.tables in
     rows_put P mode script.records (all_said mode script printed.lines)
     (all_ask P [] (in_order mode script.records) printed.lines
-    (each_in_order (λ r. AsksRow P r.statement) mode script.records (each_keeps (IsStatement script.tables) (λ r. AsksRow P r.statement) (λ r is. lawful_row script.tables r.statement is.fits) script.records lawful.statements) (λ kind m k. tt)))
-    (each_after_keeps (IsRight mode (history_of (all_said mode script printed.lines)) (all_said mode script printed.lines)) (IsReply mode (history_of (all_said mode script printed.lines))) (λ earlier now r. r.reply) [] (all_said mode script printed.lines) sound.lines.right.lines)
+    (each_in_order (λ r. AsksRow P r.statement) mode script.records
+    (each_keeps (IsStatement script.tables) (λ r. AsksRow P r.statement) (λ r is. lawful_row script.tables r.statement is.fits) script.records lawful.statements) (λ kind m k. tt)))
+    (each_after_keeps (IsRight mode (history_of (all_said mode script printed.lines)) (all_said mode script printed.lines))
+    (IsReply mode (history_of (all_said mode script printed.lines))) (λ earlier now r. r.reply) [] (all_said mode script printed.lines) sound.lines.right.lines)
     (lines_find mode script printed.lines lawful)

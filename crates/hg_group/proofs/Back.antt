@@ -80,13 +80,15 @@ parted_more v w x all rest tx p s = record {
   same = subst (λ js. Same v js x) (sym (map-append (λ (y : OpenTx). y.writer.session) p.done (tx ∷ []))) (same_on v w x (sessions_of p.done) (tx.writer.session ∷ []) p.same s);
 }
 
-pub refused_one : (sessions : ℕ) (v : View) (tx : OpenTx) (txs : List OpenTx) (t : BoardId) (x : Laid) → Next sessions v tx txs → x.outcome ≡ Refused tx → IsTxOf t x.seat → seat_number x.seat ≡ tx.writer.session → tx_view x.seat ≡ lent_alone tx.writer.session (next_lent v) v → IsLaid t tx.writer.session x
+pub refused_one : (sessions : ℕ) (v : View) (tx : OpenTx) (txs : List OpenTx) (t : BoardId) (x : Laid) → Next sessions v tx txs → x.outcome ≡ Refused tx → IsTxOf t x.seat →
+    seat_number x.seat ≡ tx.writer.session → tx_view x.seat ≡ lent_alone tx.writer.session (next_lent v) v → IsLaid t tx.writer.session x
 refused_one sessions v tx txs t x n out seat number_is view =
     let part : seat_part x.seat ≡ next_lent v = ap session view in record {
       seat = seat;
       number_is = number_is;
       unstamped = ap (λ (p : SessionPart). p.stamped) part ∙ n.taken.may.unstamped;
-      outcome = subst (λ o. IsOutcome tx.writer.session (seat_part x.seat) (tx_view x.seat).sights o) (sym out) (subst (λ p. IsOutcome tx.writer.session p (tx_view x.seat).sights (Refused tx)) (sym part) (n.taken.tx_is, n.taken.may));
+      outcome = subst (λ o. IsOutcome tx.writer.session (seat_part x.seat) (tx_view x.seat).sights o) (sym out)
+          (subst (λ p. IsOutcome tx.writer.session p (tx_view x.seat).sights (Refused tx)) (sym part) (n.taken.tx_is, n.taken.may));
     }
 
 pub back_end : (sessions : ℕ) (v w : View) (all txs : List OpenTx) → txs ≡ [] → HasBatch sessions w txs → Parted v all w txs → LaysAll v all w

@@ -47,12 +47,26 @@ pub record AwayTaken (v : View) (b : ℕ) (w : View) : Type 0 where
 
 pub away_taken : (v w : View) (b : ℕ) → HasAway v → HasCommit v → Takes v b w → AwayTaken v b w
 away_taken v w b own has t =
-    let all : w ≡ seeing (Away (number v) (session v) (since v) ∷ OfBucket b t.part ∷ OfCommit (commit v) ∷ beyond v) (v.sights ++ t.seen) v.events = t.after ∙ ap (λ ps. seeing (put_in (arrive_first b ps) (OfBucket b t.part ∷ [])) (v.sights ++ t.seen) v.events) (away_there v own has) in
-    subst (AwayTaken v b) (sym all) record { number_is = refl; session_is = refl; since_is = refl; commit_is = refl; farther_is = refl; bucket_is = refl; own = refl; both = refl; parts = refl; kept = (t.seen, refl); events = refl }
+    let all : w ≡ seeing (Away (number v) (session v) (since v) ∷ OfBucket b t.part ∷ OfCommit (commit v) ∷ beyond v) (v.sights ++ t.seen) v.events = t.after ∙
+    ap (λ ps. seeing (put_in (arrive_first b ps) (OfBucket b t.part ∷ [])) (v.sights ++ t.seen) v.events) (away_there v own has) in
+    subst (AwayTaken v b) (sym all) record {
+      number_is = refl;
+      session_is = refl;
+      since_is = refl;
+      commit_is = refl;
+      farther_is = refl;
+      bucket_is = refl;
+      own = refl;
+      both = refl;
+      parts = refl;
+      kept = (t.seen, refl);
+      events = refl;
+    }
 
 -- ---- an open write of a session that handed over stands first in the bucket held
 
-pub lent_open : (z : Sizes) (n j b : ℕ) (v : View) (r : Rid) → IsBacked z n v → HasAway v → HasBoth v → HoldsBucket b v → farther v ≡ lent (members (farther v)) → IsTrue (is_in (who (members (farther v))) j) → bucket_of z.buckets r ≡ b
+pub lent_open : (z : Sizes) (n j b : ℕ) (v : View) (r : Rid) → IsBacked z n v → HasAway v → HasBoth v → HoldsBucket b v → farther v ≡ lent (members (farther v)) →
+    IsTrue (is_in (who (members (farther v))) j) → bucket_of z.buckets r ≡ b
     → IsSome (open_in r (part_of j (members (farther v))).log) → is_stamped j r (commit_behind v).stamped ≡ false → IsOpenBy (writer_at j (members (farther v))) (held v r)
 lent_open z n j b v r k is both hold far among here some none = go (open_in r (part_of j ms).log) refl some
   where
@@ -60,7 +74,8 @@ lent_open z n j b v r k is both hold far among here some none = go (open_in r (p
     ms = members (farther v)
 
     all : Each (Shown k.state) (Away (number v) (session v) (since v) ∷ OfBucket (bucket_number v) (bucket v) ∷ OfCommit (commit_behind v) ∷ lent ms)
-    all = subst (Each (Shown k.state)) (is ∙ ap (λ (l : List Part). Away (number v) (session v) (since v) ∷ l) (both ∙ ap (λ (l : List Part). OfBucket (bucket_number v) (bucket v) ∷ OfCommit (commit_behind v) ∷ l) far)) k.true_of.parts
+    all = subst (Each (Shown k.state)) (is ∙ ap (λ (l : List Part). Away (number v) (session v) (since v) ∷ l) (both ∙
+        ap (λ (l : List Part). OfBucket (bucket_number v) (bucket v) ∷ OfCommit (commit_behind v) ∷ l) far)) k.true_of.parts
 
     own : Shown k.state (Lent j (part_of j ms))
     own = each_part (λ i p. Shown k.state (Lent i p)) ms j (each_lent (Shown k.state) ms all.1.1.1) among
@@ -76,13 +91,16 @@ lent_open z n j b v r k is both hold far among here some none = go (open_in r (p
     go (Some image) e some =
         let out = k.steady.open_writes_stand.owns r j image (ap (open_in r) own.1.0 ∙ e) in
         let bare = k.steady.stamped_is_next.exact r (writer_of (begun_in k.state.log) j) image out ∙ (ap (is_stamped j r) all.1.1.0.1.0 ∙ none) in
-        subst (λ w. IsOpenBy w (held v r)) writer (subst (IsOpenBy (writer_of (begun_in k.state.log) j)) same (open_of k.state.mark (writer_of (begun_in k.state.log) j) image (versions k.state.buckets k.state.bucket r) out bare))
+        subst (λ w. IsOpenBy w (held v r)) writer (subst (IsOpenBy (writer_of (begun_in k.state.log) j)) same
+        (open_of k.state.mark (writer_of (begun_in k.state.log) j) image (versions k.state.buckets k.state.bucket r) out bare))
 
 -- ---- one more
 
-pub away_with : (t : BoardId) (z : Sizes) (p q : SessionPass) (os : List Part) → IsAwayOf t z p → IsSeatOf t q.seat → session_rest q ≡ session_rest p → (session_view q).parts ≡ Away (number (session_view p)) (session (session_view p)) (since (session_view p)) ∷ os → IsAwayOf t z q × (q.number ≡ p.number)
+pub away_with : (t : BoardId) (z : Sizes) (p q : SessionPass) (os : List Part) → IsAwayOf t z p → IsSeatOf t q.seat → session_rest q ≡ session_rest p →
+    (session_view q).parts ≡ Away (number (session_view p)) (session (session_view p)) (since (session_view p)) ∷ os → IsAwayOf t z q × (q.number ≡ p.number)
 away_with t z p q os own seat rest e = (still_away t z p q os own seat rest e, ap (λ x. x.0) rest)
 
 -- the pass's own part is away still once another was handed back
-pub away_back : (t : BoardId) (z : Sizes) (p q : SessionPass) → IsAwayOf t z p → IsSeatOf t q.seat → session_rest q ≡ session_rest p → session_view q ≡ hands_back (session_view p) → IsAwayOf t z q × (q.number ≡ p.number)
+pub away_back : (t : BoardId) (z : Sizes) (p q : SessionPass) → IsAwayOf t z p → IsSeatOf t q.seat → session_rest q ≡ session_rest p → session_view q ≡ hands_back (session_view p)
+    → IsAwayOf t z q × (q.number ≡ p.number)
 away_back t z p q own seat rest is = away_with t z p q (beyond (session_view p)) own seat rest (ap (λ (y : View). y.parts) is ∙ ap but_second own.3)

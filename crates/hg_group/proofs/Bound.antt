@@ -23,10 +23,12 @@ alone z n v k j = go (both (ltb 0 j) (ltb j (suc z.sessions))) refl
     go false e = inr ((k.outside (session_key j) (ap one e)).1.0)
 
 few : (z : Sizes) (n : ℕ) (v : View) (k : IsBacked z n v) → commits_in k.state.history ≤ z.sessions * z.quota
-few z n v k = subst {A = ℕ × ℕ} (λ x. commits_in k.state.history ≤ x.0 * x.1) (λ i. (k.sized.sessions i, k.sized.quota i)) (commits_most k.state k.steady (subst (λ m. AloneHaveLogs m k.state.log) (sym k.sized.sessions) (alone z n v k)))
+few z n v k = subst {A = ℕ × ℕ} (λ x. commits_in k.state.history ≤ x.0 * x.1) (λ i. (k.sized.sessions i, k.sized.quota i))
+    (commits_most k.state k.steady (subst (λ m. AloneHaveLogs m k.state.log) (sym k.sized.sessions) (alone z n v k)))
 
 -- the commits of the committer's part that a view has
-pub count_most : (z : Sizes) (n : ℕ) (v : View) (first : Part) (part : CommitPart) (os : List Part) → IsBacked z n v → v.parts ≡ first ∷ OfCommit part ∷ os → z.sessions * z.quota ≤ 2 ^ 40 → commits_in part.history.list ≤ 2 ^ 40
+pub count_most : (z : Sizes) (n : ℕ) (v : View) (first : Part) (part : CommitPart) (os : List Part) → IsBacked z n v → v.parts ≡ first ∷ OfCommit part ∷ os →
+    z.sessions * z.quota ≤ 2 ^ 40 → commits_in part.history.list ≤ 2 ^ 40
 count_most z n v first part os k is room =
     let all : Each (Shown k.state) (first ∷ OfCommit part ∷ os) = subst (Each (Shown k.state)) is k.true_of.parts in
     let a : commits_in part.history.list ≤ z.sessions * z.quota = subst (λ h. commits_in h ≤ z.sessions * z.quota) all.1.0.0 (few z n v k) in omega (arith, a, room)

@@ -1,5 +1,6 @@
 -- What a group's context lists is what the group writes.
-use Rattle.std.proofs.Common.{◌≡◌, ℕ, zero, suc, ◌+◌, ◌<◌, Bool, true, false, List, [], ◌∷◌, ◌++◌, length, take, get_or, Option, Some, None, refl, sym, ap, ◌∙◌, subst, arith, append_assoc, append-nil, true≢false}
+use Rattle.std.proofs.Common.{◌≡◌, ℕ, zero, suc, ◌+◌, ◌<◌, Bool, true, false, List, [], ◌∷◌, ◌++◌, length, take, get_or, Option, Some, None, refl, sym, ap, ◌∙◌, subst, arith, append_assoc}
+use Rattle.std.proofs.Common.{append-nil, true≢false}
 use Rattle.std.specs.Prelude.{◌||◌, IsSome, IsFalse, is_some}
 use Rattle.std.specs.Option.{option_or}
 use Rattle.std.proofs.lemmas.List.Folds.{list_any-append}
@@ -37,7 +38,8 @@ pub records_next : (txs : List OpenTx) (i : ℕ) (tx : OpenTx) → tx ≡ get_or
 records_next [] i tx is l = absurd (omega (arith, l))
 records_next (x ∷ txs) zero tx is l = append-nil x.records.list ∙ (λ i. (sym is i).records.list)
 records_next (x ∷ txs) (suc i) tx is l =
-    ap (λ n. all_records (take n (x ∷ txs))) (more i) ∙ (ap (λ l. x.records.list ++ l) (records_next txs i tx is (omega (arith, l))) ∙ sym (append_assoc x.records.list (all_records (take i txs)) tx.records.list))
+    ap (λ n. all_records (take n (x ∷ txs))) (more i) ∙ (ap (λ l. x.records.list ++ l) (records_next txs i tx is (omega (arith, l))) ∙
+    sym (append_assoc x.records.list (all_records (take i txs)) tx.records.list))
 
 -- ---- exactly what the group writes
 
@@ -45,7 +47,8 @@ exact_all : (r : Rid) (txs : List OpenTx) (ms : Members) → AreTaken txs ms →
 exact_all r [] [] h = refl
 exact_all r [] (m ∷ ms) h = absurd h
 exact_all r (tx ∷ txs) [] h = absurd h
-exact_all r (tx ∷ txs) (m ∷ ms) h = list_any-append (same_rid r) tx.records.list (all_records txs) ∙ ((λ i. here i || exact_all r txs ms h.1 i) ∙ either (image_in r (commit_in m.0 m.1.log).images) (group_image r (group_of ms)))
+exact_all r (tx ∷ txs) (m ∷ ms) h = list_any-append (same_rid r) tx.records.list (all_records txs) ∙
+    ((λ i. here i || exact_all r txs ms h.1 i) ∙ either (image_in r (commit_in m.0 m.1.log).images) (group_image r (group_of ms)))
   where
     here : is_among r tx.records.list ≡ is_some (image_in r (commit_in m.0 m.1.log).images)
     here = h.0.tx_is.exact r ∙ ap is_some (sym (commit_image r m.0 m.1.log h.0.may.plain))
@@ -81,10 +84,12 @@ module _ (s : CoreState) (steady : IsSteady s) where
   owner r j k p q =
       let a = some_is (open_in r (s.log j)) p in
       let b = some_is (open_in r (s.log k)) q in
-      ap (λ x. x.0.session) (same_pair (writer_of (begun_in s.log) j, a.0) (writer_of (begun_in s.log) k, b.0) (sym (steady.open_writes_stand.owns r j a.0 a.1) ∙ steady.open_writes_stand.owns r k b.0 b.1))
+      ap (λ x. x.0.session) (same_pair (writer_of (begun_in s.log) j, a.0) (writer_of (begun_in s.log) k, b.0) (sym (steady.open_writes_stand.owns r j a.0 a.1) ∙
+      steady.open_writes_stand.owns r k b.0 b.1))
 
   -- who has a record of these transactions open is of them
-  whose : (r : Rid) (j : ℕ) → IsSome (open_in r (s.log j)) → (txs : List OpenTx) (ms : Members) → AreTaken txs ms → Each (Shown s) (lent ms) → is_among r (all_records txs) ≡ true → is_in (who ms) j ≡ true
+  whose : (r : Rid) (j : ℕ) → IsSome (open_in r (s.log j)) → (txs : List OpenTx) (ms : Members) → AreTaken txs ms → Each (Shown s) (lent ms) → is_among r (all_records txs) ≡ true →
+      is_in (who ms) j ≡ true
   whose r j o [] ms h k e = absurd (true≢false (sym e))
   whose r j o (tx ∷ txs) [] h k e = absurd h
   whose r j o (tx ∷ txs) (m ∷ ms) h k e = go (is_among r tx.records.list) refl (sym (list_any-append (same_rid r) tx.records.list (all_records txs)) ∙ e) (λ f. whose r j o txs ms h.1 k.1 f)
@@ -98,7 +103,8 @@ module _ (s : CoreState) (steady : IsSteady s) where
   once_all : (txs : List OpenTx) (ms : Members) → AreTaken txs ms → Each (Shown s) (lent ms) → NoNumberTwice (who ms) → NoneTwice (all_records txs)
   once_all [] ms h k d = tt
   once_all (tx ∷ txs) [] h k d = absurd h
-  once_all (tx ∷ txs) (m ∷ ms) h k d = none_append tx.records.list (all_records txs) h.0.tx_is.once (once_all txs ms h.1 k.1 d.1) (each_among (λ r. IsFalse (is_among r (all_records txs))) tx.records.list (λ r e. apart r e (is_among r (all_records txs)) refl))
+  once_all (tx ∷ txs) (m ∷ ms) h k d = none_append tx.records.list (all_records txs) h.0.tx_is.once (once_all txs ms h.1 k.1 d.1)
+      (each_among (λ r. IsFalse (is_among r (all_records txs))) tx.records.list (λ r e. apart r e (is_among r (all_records txs)) refl))
     where
       apart : (r : Rid) → is_among r tx.records.list ≡ true → (b : Bool) → is_among r (all_records txs) ≡ b → b ≡ false
       apart r e false f = refl
@@ -107,7 +113,8 @@ module _ (s : CoreState) (steady : IsSteady s) where
           sym (whose r m.0 own txs ms h.1 k.1 f) ∙ d.0
 
 -- the context of a batch is that of its group
-pub group_context : (z : Sizes) (n : ℕ) (v : View) (k : IsBacked z n v) (first : Part) (part : CommitPart) (ms : Members) (is : v.parts ≡ first ∷ OfCommit part ∷ lent ms) (txs : List OpenTx) (taken : AreTaken txs ms) (number : ℕ) (c : GroupContext)
+pub group_context : (z : Sizes) (n : ℕ) (v : View) (k : IsBacked z n v) (first : Part) (part : CommitPart) (ms : Members) (is : v.parts ≡ first ∷ OfCommit part ∷ lent ms)
+    (txs : List OpenTx) (taken : AreTaken txs ms) (number : ℕ) (c : GroupContext)
     → c.number ≡ number → c.records.list ≡ all_records txs → IsContextOf number (group_of ms) c
 group_context z n v k first part ms is txs taken number c number_is listed = record {
   number_is = number_is;

@@ -66,14 +66,18 @@ swap R xs (y ∷ ys) h = (heads xs h, swap R xs ys (tails xs h))
     tails (z ∷ zs) h = (h.0.1, tails zs h.1)
 
 -- none of the batch was committed before
-fresh : (s : CoreState) (txs : List OpenTx) (ms : Members) → IsSteady s → AreTaken txs ms → Each (Shown s) (lent ms) → Each (λ q. Each (λ p. same_pair q p ≡ false) (map pair_of (flat s.history))) (map pair_of (group_of ms))
+fresh : (s : CoreState) (txs : List OpenTx) (ms : Members) → IsSteady s → AreTaken txs ms → Each (Shown s) (lent ms) →
+    Each (λ q. Each (λ p. same_pair q p ≡ false) (map pair_of (flat s.history))) (map pair_of (group_of ms))
 fresh s [] [] h a k = tt
 fresh s [] (m ∷ ms) h a k = absurd a
 fresh s (tx ∷ txs) [] h a k = absurd a
 fresh s (tx ∷ txs) (m ∷ ms) h a k =
     let plain : IsTrue (is_plain (s.log m.0)) = subst (λ l. IsTrue (is_plain l)) (sym k.0.1.0) a.0.may.plain in
-    let live : IsSome (current (s.log m.0)) = subst IsSome (sym (h.logs_answer.reads m.0 ∙ ap snapshot_in k.0.0)) a.0.may.live in
-    (subst (λ (l : List LogEntry). Each (λ p. same_pair (m.0, begans l) p ≡ false) (map pair_of (flat s.history))) k.0.1.0 (earlier s.history m.0 (begans (s.log m.0)) (open_earlier s.history s.log m.0 h.logs_answer.commits plain live)), fresh s txs ms h a.1 k.1)
+    let live : IsSome (current (s.log m.0)) = subst IsSome (sym (h.logs_answer.reads m.0 ∙ ap snapshot_in k.0.0)) a.0.may.live in (
+      subst (λ (l : List LogEntry). Each (λ p. same_pair (m.0, begans l) p ≡ false) (map pair_of (flat s.history))) k.0.1.0
+          (earlier s.history m.0 (begans (s.log m.0)) (open_earlier s.history s.log m.0 h.logs_answer.commits plain live)),
+      fresh s txs ms h a.1 k.1,
+    )
 
 module _ (z : Sizes) (n : ℕ) (v : View) (k : IsBacked z n v) (first : Part) (c : CommitPart) (ms : Members) (is : v.parts ≡ first ∷ OfCommit c ∷ lent ms) where
   all : Each (Shown k.state) (first ∷ OfCommit c ∷ lent ms)
@@ -88,7 +92,8 @@ module _ (z : Sizes) (n : ℕ) (v : View) (k : IsBacked z n v) (first : Part) (c
 
   module _ (txs : List OpenTx) (taken : AreTaken txs ms) (popped : Pairs) (follows : FollowsQueue c.history.list popped) where
     none : Each (λ p. IsNone p (map pair_of (group_of ms))) (map pair_of (flat c.history.list))
-    none = subst (λ (h : History). Each (λ p. IsNone p (map pair_of (group_of ms))) (map pair_of (flat h))) all.1.0.0 (swap (λ q p. same_pair q p ≡ false) (map pair_of (group_of ms)) (map pair_of (flat k.state.history)) (fresh k.state txs ms k.steady taken all.1.1))
+    none = subst (λ (h : History). Each (λ p. IsNone p (map pair_of (group_of ms))) (map pair_of (flat h))) all.1.0.0
+        (swap (λ q p. same_pair q p ≡ false) (map pair_of (group_of ms)) (map pair_of (flat k.state.history)) (fresh k.state txs ms k.steady taken all.1.1))
 
     -- a batch that is committed follows the queue, and so does what was committed where it is refused
     pub follows_group : FollowsQueue (c.history.list ++ group_of ms ∷ []) (popped ++ map pair_in txs)
@@ -102,7 +107,8 @@ module _ (z : Sizes) (n : ℕ) (v : View) (k : IsBacked z n v) (first : Part) (c
 
 pub commits_more : (h : History) (g : Group) → commits_in (h ++ g ∷ []) ≡ commits_in h + length g
 commits_more [] g = let n : ℕ = length g in let e : n + 0 ≡ 0 + n = omega arith in e
-commits_more (f ∷ h) g = let a : ℕ = length f in let b : ℕ = commits_in h in let d : ℕ = length g in let e : commits_in (h ++ g ∷ []) ≡ b + d = commits_more h g in let r : a + (b + d) ≡ (a + b) + d = omega arith in ap (λ x. a + x) e ∙ r
+commits_more (f ∷ h) g = let a : ℕ = length f in let b : ℕ = commits_in h in let d : ℕ = length g in let e : commits_in (h ++ g ∷ []) ≡ b + d = commits_more h g in
+    let r : a + (b + d) ≡ (a + b) + d = omega arith in ap (λ x. a + x) e ∙ r
 
 group_append : (ms ns : Members) → group_of (ms ++ ns) ≡ group_of ms ++ group_of ns
 group_append [] ns = refl
@@ -112,7 +118,8 @@ pub group_length : (ms : Members) → length (group_of ms) ≡ length ms
 group_length [] = refl
 group_length (m ∷ ms) = ap suc (group_length ms)
 
-pub stands : (h : History) (before : Members) (j : ℕ) (part : SessionPart) (after : Members) (receipt : Receipt) → receipt.number ≡ suc (length h) → receipt.place ≡ commits_in h + length before → StandsIn (h ++ group_of (before ++ (j, part) ∷ after) ∷ []) receipt (commit_in j part.log)
+pub stands : (h : History) (before : Members) (j : ℕ) (part : SessionPart) (after : Members) (receipt : Receipt) → receipt.number ≡ suc (length h) →
+    receipt.place ≡ commits_in h + length before → StandsIn (h ++ group_of (before ++ (j, part) ∷ after) ∷ []) receipt (commit_in j part.log)
 stands h before j part after receipt number place = record {
   before = h;
   earlier = group_of before;

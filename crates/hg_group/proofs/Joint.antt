@@ -42,7 +42,8 @@ pub record InHand (v w : View) (part : CommitPart) (ms : Members) : Type 0 where
 
 pub in_hand : (v u x w : View) (part : CommitPart) (ms : Members) → u.parts ≡ Away (number v) (session v) (since v) ∷ lent ms → x.parts ≡ OfCommit part ∷ [] → w ≡ joined u x → InHand v w part ms
 in_hand v u x w part ms has only is =
-    let all : w ≡ seeing (Away (number v) (session v) (since v) ∷ OfCommit part ∷ lent ms) (u.sights ++ x.sights) u.events = is ∙ (λ i. seeing (put_in (has i) (only i)) (u.sights ++ x.sights) u.events) in
+    let all : w ≡ seeing (Away (number v) (session v) (since v) ∷ OfCommit part ∷ lent ms) (u.sights ++ x.sights) u.events = is ∙
+    (λ i. seeing (put_in (has i) (only i)) (u.sights ++ x.sights) u.events) in
     subst (λ y. InHand v y part ms) (sym all) record { parts = refl; number_is = refl; session_is = refl; since_is = refl; commit_is = refl; beyond_is = refl; members_are = members_lent ms }
 
 -- ---- whose they are
@@ -53,7 +54,8 @@ taken_whose [] (m ∷ ms) h = absurd h
 taken_whose (tx ∷ txs) [] h = absurd h
 taken_whose (tx ∷ txs) (m ∷ ms) h = λ i. (sym h.0.tx_is.writer_is i).session ∷ taken_whose txs ms h.1 i
 
-sessions_in : (z : Sizes) (n : ℕ) (v : View) (k : IsBacked z n v) (first : Part) (part : CommitPart) (ms : Members) → v.parts ≡ first ∷ OfCommit part ∷ lent ms → (j : ℕ) → is_in (who ms) j ≡ true → IsSession z.sessions j
+sessions_in : (z : Sizes) (n : ℕ) (v : View) (k : IsBacked z n v) (first : Part) (part : CommitPart) (ms : Members) → v.parts ≡ first ∷ OfCommit part ∷ lent ms → (j : ℕ) →
+    is_in (who ms) j ≡ true → IsSession z.sessions j
 sessions_in z n v k first part ms is j e = inside_is z j (sure (both (ltb 0 j) (ltb j (suc z.sessions))) refl)
   where
     sure : (b : Bool) → both (ltb 0 j) (ltb j (suc z.sessions)) ≡ b → both (ltb 0 j) (ltb j (suc z.sessions)) ≡ true
@@ -112,17 +114,20 @@ each_heard n (m ∷ ms) before after = (among_right _ before _ (inl refl), turne
     append_one [] y ys = refl
     append_one (x ∷ xs) y ys = ap (λ l. x ∷ l) (append_one xs y ys)
 
-    turned : (ns : Members) → Each (λ k. IsAmong (Heard k.0 (Published n ∷ k.1.log)) ((before ++ Heard m.0 (Published n ∷ m.1.log) ∷ []) ++ (hears n ms ++ after))) ns → Each (λ k. IsAmong (Heard k.0 (Published n ∷ k.1.log)) (before ++ Heard m.0 (Published n ∷ m.1.log) ∷ (hears n ms ++ after))) ns
+    turned : (ns : Members) → Each (λ k. IsAmong (Heard k.0 (Published n ∷ k.1.log)) ((before ++ Heard m.0 (Published n ∷ m.1.log) ∷ []) ++ (hears n ms ++ after))) ns →
+        Each (λ k. IsAmong (Heard k.0 (Published n ∷ k.1.log)) (before ++ Heard m.0 (Published n ∷ m.1.log) ∷ (hears n ms ++ after))) ns
     turned [] h = tt
     turned (k ∷ ns) h = (subst (IsAmong (Heard k.0 (Published n ∷ k.1.log))) (append_one before (Heard m.0 (Published n ∷ m.1.log)) (hears n ms ++ after)) h.0, turned ns h.1)
 
 -- ---- the committer's part leaves again, and nothing was done
 
-pub has_batch : (v w u : View) (part : CommitPart) (ms : Members) (txs : List OpenTx) (z : Sizes) (mark : ℕ) → InHand v w part ms → u ≡ without_commit w → IsBacked z mark w → AreTaken txs ms → HasBatch z.sessions u txs
+pub has_batch : (v w u : View) (part : CommitPart) (ms : Members) (txs : List OpenTx) (z : Sizes) (mark : ℕ) → InHand v w part ms → u ≡ without_commit w → IsBacked z mark w →
+    AreTaken txs ms → HasBatch z.sessions u txs
 has_batch v w u part ms txs z mark o left backed taken = record {
   ms = ms;
   taken = taken;
-  inside = each_mapped (IsSession z.sessions) txs (subst (Each (IsSession z.sessions)) (taken_whose txs ms taken) (all_in z ms ms (sessions_in z mark w backed (Away (number v) (session v) (since v)) part ms o.parts) (each_in ms)));
+  inside = each_mapped (IsSession z.sessions) txs (subst (Each (IsSession z.sessions)) (taken_whose txs ms taken)
+      (all_in z ms ms (sessions_in z mark w backed (Away (number v) (session v) (since v)) part ms o.parts) (each_in ms)));
   parts = u_parts ∙ (λ i. Away (sym number_is i) (sym session_is i) (sym since_is i) ∷ lent ms);
 }
   where
@@ -140,7 +145,8 @@ has_batch v w u part ms txs z mark o left backed taken = record {
 
 -- ---- the batch is published
 
-module _ (v w x y u : View) (part : CommitPart) (ms : Members) (txs : List OpenTx) (n : ℕ) (o : InHand v w part ms) (s : Stamped w (all_pairs txs) x) (p : Publishes x n y) (left : u ≡ without_commit y) where
+module _ (v w x y u : View) (part : CommitPart) (ms : Members) (txs : List OpenTx) (n : ℕ) (o : InHand v w part ms) (s : Stamped w (all_pairs txs) x) (p : Publishes x n y)
+    (left : u ≡ without_commit y) where
   q : OnWay w s.ms s.list x
   q = on_way w x s.ms s.list s.parts
 
@@ -154,11 +160,13 @@ module _ (v w x y u : View) (part : CommitPart) (ms : Members) (txs : List OpenT
   history_is = ap (λ (c : CommitPart). c.history) (q.commit_is ∙ (λ i. record (o.commit_is i) { stamped = s.list }))
 
   parts_are : y.parts ≡ Away (number v) (session v) (since v) ∷ OfCommit (publishing (members (beyond x)) (commit x)) ∷ lent (numbered n ms)
-  parts_are = ap (λ (z : View). z.parts) p.1 ∙ (λ i. Away ((q.number_is ∙ o.number_is) i) ((q.session_is ∙ o.session_is) i) ((q.since_is ∙ o.since_is) i) ∷ OfCommit (publishing (members (beyond x)) (commit x)) ∷ lent (same_of (numbered n) (bare_numbered n) (members (beyond x)) ms alike i))
+  parts_are = ap (λ (z : View). z.parts) p.1 ∙ (λ i. Away ((q.number_is ∙ o.number_is) i) ((q.session_is ∙ o.session_is) i) ((q.since_is ∙ o.since_is) i) ∷ OfCommit
+      (publishing (members (beyond x)) (commit x)) ∷ lent (same_of (numbered n) (bare_numbered n) (members (beyond x)) ms alike i))
 
   -- the committer's part after it
   pub after_is : (commit y).history ≡ groups (part.history.list ++ group ∷ [])
-  after_is = ap (λ (ps : List Part). (commit_there (first_in (after_first ps))).history) parts_are ∙ (λ i. groups ((history_is i).list ++ same_of group_of bare_group (members (beyond x)) ms alike i ∷ []))
+  after_is = ap (λ (ps : List Part). (commit_there (first_in (after_first ps))).history) parts_are ∙
+      (λ i. groups ((history_is i).list ++ same_of group_of bare_group (members (beyond x)) ms alike i ∷ []))
 
   pub none_after : (commit y).stamped ≡ []
   none_after = ap (λ (ps : List Part). (commit_there (first_in (after_first ps))).stamped) parts_are
@@ -171,16 +179,19 @@ module _ (v w x y u : View) (part : CommitPart) (ms : Members) (txs : List OpenT
 
   u_sights : u.sights ≡ (x.sights ++ (Saw (groups (part.history.list ++ group ∷ [])) ∷ hears n ms)) ++ (Saw (commit y).history ∷ Took (commit y).taken ∷ [])
   u_sights = ap (λ (z : View). z.sights) left ∙ ap (λ l. l ++ (Saw (commit y).history ∷ Took (commit y).taken ∷ []))
-      (ap (λ (z : View). z.sights) p.1 ∙ (λ i. x.sights ++ (Saw (groups ((history_is i).list ++ same_of group_of bare_group (members (beyond x)) ms alike i ∷ [])) ∷ same_of (hears n) (bare_hears n) (members (beyond x)) ms alike i)))
+      (ap (λ (z : View). z.sights) p.1 ∙ (λ i. x.sights ++ (Saw (groups ((history_is i).list ++ same_of group_of bare_group (members (beyond x)) ms alike i ∷ [])) ∷ same_of
+      (hears n) (bare_hears n) (members (beyond x)) ms alike i)))
 
   pub has_group : (z : Sizes) (mark place : ℕ) → IsBacked z mark w → AreTaken txs ms → n ≡ suc (length part.history.list) → place ≡ commits_in part.history.list → HasGroup z.sessions u txs n place
   has_group z mark place backed taken next at = record {
     ms = ms;
     history = part.history.list;
     whose = taken_whose txs ms taken;
-    inside = each_mapped (IsSession z.sessions) txs (subst (Each (IsSession z.sessions)) (taken_whose txs ms taken) (all_in z ms ms (sessions_in z mark w backed (Away (number v) (session v) (since v)) part ms o.parts) (each_in ms)));
+    inside = each_mapped (IsSession z.sessions) txs (subst (Each (IsSession z.sessions)) (taken_whose txs ms taken)
+        (all_in z ms ms (sessions_in z mark w backed (Away (number v) (session v) (since v)) part ms o.parts) (each_in ms)));
     parts = u_parts ∙ (λ i. Away (sym number_is i) (sym session_is i) (sym since_is i) ∷ lent (numbered n ms));
-    saw = subst (IsAmong (Saw (groups (part.history.list ++ group ∷ [])))) (sym u_sights) (among_left _ (x.sights ++ (Saw (groups (part.history.list ++ group ∷ [])) ∷ hears n ms)) _ (among_right _ x.sights _ (inl refl)));
+    saw = subst (IsAmong (Saw (groups (part.history.list ++ group ∷ [])))) (sym u_sights)
+        (among_left _ (x.sights ++ (Saw (groups (part.history.list ++ group ∷ [])) ∷ hears n ms)) _ (among_right _ x.sights _ (inl refl)));
     heard = turned ms (each_heard n ms (x.sights ++ Saw (groups (part.history.list ++ group ∷ [])) ∷ []) (Saw (commit y).history ∷ Took (commit y).taken ∷ []));
     number_is = next;
     place_is = at;
@@ -199,6 +210,8 @@ module _ (v w x y u : View) (part : CommitPart) (ms : Members) (txs : List OpenT
       regroup [] a bs cs = refl
       regroup (x ∷ xs) a bs cs = ap (λ l. x ∷ l) (regroup xs a bs cs)
 
-      turned : (ns : Members) → Each (λ k. IsAmong (Heard k.0 (Published n ∷ k.1.log)) ((x.sights ++ Saw (groups (part.history.list ++ group ∷ [])) ∷ []) ++ (hears n ms ++ (Saw (commit y).history ∷ Took (commit y).taken ∷ [])))) ns → Each (λ k. IsAmong (Heard k.0 (Published n ∷ k.1.log)) u.sights) ns
+      turned : (ns : Members) → Each (λ k. IsAmong (Heard k.0 (Published n ∷ k.1.log))
+          ((x.sights ++ Saw (groups (part.history.list ++ group ∷ [])) ∷ []) ++ (hears n ms ++ (Saw (commit y).history ∷ Took (commit y).taken ∷ [])))) ns →
+          Each (λ k. IsAmong (Heard k.0 (Published n ∷ k.1.log)) u.sights) ns
       turned [] h = tt
       turned (k ∷ ns) h = (subst (IsAmong (Heard k.0 (Published n ∷ k.1.log))) (regroup x.sights _ (hears n ms) _ ∙ sym u_sights) h.0, turned ns h.1)

@@ -66,7 +66,8 @@ pub numbered_length : (n : ℕ) (ms : Members) → length (numbered n ms) ≡ le
 numbered_length n [] = refl
 numbered_length n (m ∷ ms) = ap suc (numbered_length n ms)
 
-whose_at : (txs : List OpenTx) (ms : Members) (i : ℕ) (d : OpenTx) → who ms ≡ map (λ tx. tx.writer.session) txs → i < length txs → ((get_or ms i nobody).0 ≡ (get_or txs i d).writer.session) × (i < length ms)
+whose_at : (txs : List OpenTx) (ms : Members) (i : ℕ) (d : OpenTx) → who ms ≡ map (λ tx. tx.writer.session) txs → i < length txs →
+    ((get_or ms i nobody).0 ≡ (get_or txs i d).writer.session) × (i < length ms)
 whose_at [] ms i d e l = absurd (omega (arith, l))
 whose_at (tx ∷ txs) [] i d e l = absurd (let n : ℕ = length txs in let f : 0 ≡ suc (length (map (λ tx. tx.writer.session) txs)) = ap length e in omega (arith, f))
 whose_at (tx ∷ txs) (m ∷ ms) zero d e l = (ap (λ xs. get_or xs 0 0) e, omega arith)
@@ -110,7 +111,8 @@ pub record Laying (sessions : ℕ) (v : View) (txs : List OpenTx) (n place : ℕ
 pub laying_none : (sessions : ℕ) (v : View) (txs : List OpenTx) (n place : ℕ) (g : HasGroup sessions v txs n place) → Laying sessions v txs n place g 0 v
 laying_none sessions v txs n place g = record { parts = g.parts; sights = refl; events = sym (append-nil v.events) }
 
-module _ (sessions : ℕ) (v : View) (txs : List OpenTx) (n place : ℕ) (g : HasGroup sessions v txs n place) (i : ℕ) (w : View) (d : OpenTx) (s : Laying sessions v txs n place g i w) (l : i < length txs) where
+module _ (sessions : ℕ) (v : View) (txs : List OpenTx) (n place : ℕ) (g : HasGroup sessions v txs n place) (i : ℕ) (w : View) (d : OpenTx) (s : Laying sessions v txs n place g i w)
+    (l : i < length txs) where
   abbrev pub m : ℕ × SessionPart
   m = get_or g.ms i nobody
 
@@ -128,9 +130,12 @@ module _ (sessions : ℕ) (v : View) (txs : List OpenTx) (n place : ℕ) (g : Ha
   pub next_is : (others w ≡ Lent (get_or txs i d).writer.session (next_lent w) ∷ beyond w) × (next_lent w ≡ with_published n m.1)
   next_is = go w.parts now w.sights w.events
     where
-      go : (ps : List Part) → ps ≡ Away (number v) (session v) (since v) ∷ Lent (get_or txs i d).writer.session (with_published n m.1) ∷ lent (drop (i + 1) (numbered n g.ms)) → (sights : _) (events : _)
-          → (others (seeing ps sights events) ≡ Lent (get_or txs i d).writer.session (next_lent (seeing ps sights events)) ∷ beyond (seeing ps sights events)) × (next_lent (seeing ps sights events) ≡ with_published n m.1)
-      go ps e sights events = subst (λ (qs : List Part). (others (seeing qs sights events) ≡ Lent (get_or txs i d).writer.session (next_lent (seeing qs sights events)) ∷ beyond (seeing qs sights events)) × (next_lent (seeing qs sights events) ≡ with_published n m.1)) (sym e) (refl, refl)
+      go : (ps : List Part) → ps ≡ Away (number v) (session v) (since v) ∷ Lent (get_or txs i d).writer.session (with_published n m.1) ∷ lent (drop (i + 1) (numbered n g.ms)) →
+          (sights : _) (events : _)
+          → (others (seeing ps sights events) ≡ Lent (get_or txs i d).writer.session (next_lent (seeing ps sights events)) ∷ beyond (seeing ps sights events)) ×
+          (next_lent (seeing ps sights events) ≡ with_published n m.1)
+      go ps e sights events = subst (λ (qs : List Part). (others (seeing qs sights events) ≡ Lent (get_or txs i d).writer.session (next_lent (seeing qs sights events)) ∷ beyond
+          (seeing qs sights events)) × (next_lent (seeing qs sights events) ≡ with_published n m.1)) (sym e) (refl, refl)
 
   pub laying_more : (x : View) → x ≡ hands_back w → Laying sessions v txs n place g (i + 1) x
   laying_more x is = record {
@@ -139,10 +144,14 @@ module _ (sessions : ℕ) (v : View) (txs : List OpenTx) (n place : ℕ) (g : Ha
     events =
         let js = sessions_of (take i txs) in
         let j = (get_or txs i d).writer.session in
-        ap (λ (y : View). y.events) is ∙ ((λ q. s.events q ++ HandBack (part_number (next_is.0 q)) ∷ []) ∙ (append_assoc v.events (backs js) (HandBack j ∷ []) ∙ ap (λ l. v.events ++ l) (sym (map-append (λ k. HandBack k) js (j ∷ [])) ∙ ap backs (sym (map-append (λ (tx : OpenTx). tx.writer.session) (take i txs) (get_or txs i d ∷ [])) ∙ ap sessions_of (sym (take_more txs i d l))))));
+        ap (λ (y : View). y.events) is ∙ ((λ q. s.events q ++ HandBack (part_number (next_is.0 q)) ∷ []) ∙
+        (append_assoc v.events (backs js) (HandBack j ∷ []) ∙
+        ap (λ l. v.events ++ l) (sym (map-append (λ k. HandBack k) js (j ∷ [])) ∙
+        ap backs (sym (map-append (λ (tx : OpenTx). tx.writer.session) (take i txs) (get_or txs i d ∷ [])) ∙ ap sessions_of (sym (take_more txs i d l))))));
   }
 
-  pub laid_one : (t : BoardId) (x : Laid) (receipt : Receipt) → x.outcome ≡ Committed receipt → IsTxOf t x.seat → seat_number x.seat ≡ (get_or txs i d).writer.session → tx_view x.seat ≡ lent_alone (get_or txs i d).writer.session (next_lent w) w → receipt.number ≡ n → receipt.place ≡ place + i → IsLaid t (get_or txs i d).writer.session x
+  pub laid_one : (t : BoardId) (x : Laid) (receipt : Receipt) → x.outcome ≡ Committed receipt → IsTxOf t x.seat → seat_number x.seat ≡ (get_or txs i d).writer.session →
+      tx_view x.seat ≡ lent_alone (get_or txs i d).writer.session (next_lent w) w → receipt.number ≡ n → receipt.place ≡ place + i → IsLaid t (get_or txs i d).writer.session x
   laid_one t x receipt out seat number_is view is at =
       let part : seat_part x.seat ≡ with_published n m.1 = ap session view ∙ next_is.1 in
       let sights : (tx_view x.seat).sights ≡ v.sights = ap (λ (y : View). y.sights) view ∙ s.sights in
@@ -159,18 +168,24 @@ module _ (sessions : ℕ) (v : View) (txs : List OpenTx) (n place : ℕ) (g : Ha
               (
                 (
                   subst (IsAmong (Saw (groups h))) (sym sights) g.saw,
-                  subst (IsAmong (Heard (get_or txs i d).writer.session (seat_part x.seat).log)) (sym sights) (subst (λ y. IsAmong y v.sights) (λ q. Heard (whose q) (sym (ap (λ (p : SessionPart). p.log) part) q)) (each_at (λ m. IsAmong (Heard m.0 (Published n ∷ m.1.log)) v.sights) g.ms i nobody there g.heard)),
+                  subst (IsAmong (Heard (get_or txs i d).writer.session (seat_part x.seat).log)) (sym sights)
+                      (subst (λ y. IsAmong y v.sights) (λ q. Heard (whose q) (sym (ap (λ (p : SessionPart). p.log) part) q))
+                      (each_at (λ m. IsAmong (Heard m.0 (Published n ∷ m.1.log)) v.sights) g.ms i nobody there g.heard)),
                 ),
-                subst (λ j. StandsIn (g.history ++ group_of g.ms ∷ []) receipt (commit_in j m.1.log)) whose (subst (λ ms. StandsIn (g.history ++ group_of ms ∷ []) receipt (commit_in m.0 m.1.log)) (sym (parted g.ms i there)) (stands g.history (take i g.ms) m.0 m.1 (drop (i + 1) g.ms) receipt (is ∙ g.number_is) (at ∙ (λ q. g.place_is q + sym (take_length g.ms i there) q)))),
+                subst (λ j. StandsIn (g.history ++ group_of g.ms ∷ []) receipt (commit_in j m.1.log)) whose
+                    (subst (λ ms. StandsIn (g.history ++ group_of ms ∷ []) receipt (commit_in m.0 m.1.log)) (sym (parted g.ms i there))
+                    (stands g.history (take i g.ms) m.0 m.1 (drop (i + 1) g.ms) receipt (is ∙ g.number_is) (at ∙ (λ q. g.place_is q + sym (take_length g.ms i there) q)))),
               ),
             ),
           ),
         );
       }
 
-pub laid_end : (sessions : ℕ) (v : View) (txs : List OpenTx) (n place : ℕ) (g : HasGroup sessions v txs n place) (i : ℕ) (w : View) → i ≡ length txs → Laying sessions v txs n place g i w → LaysAll v txs w
+pub laid_end : (sessions : ℕ) (v : View) (txs : List OpenTx) (n place : ℕ) (g : HasGroup sessions v txs n place) (i : ℕ) (w : View) → i ≡ length txs →
+    Laying sessions v txs n place g i w → LaysAll v txs w
 laid_end sessions v txs n place g i w end s = record {
-  parts = s.parts ∙ ap (λ (ms : Members). Away (number v) (session v) (since v) ∷ lent ms) (ap (λ k. drop k (numbered n g.ms)) (end ∙ sym (numbered_length n g.ms ∙ whose_length txs g.ms g.whose)) ∙ drop_end (numbered n g.ms));
+  parts = s.parts ∙ ap (λ (ms : Members). Away (number v) (session v) (since v) ∷ lent ms)
+      (ap (λ k. drop k (numbered n g.ms)) (end ∙ sym (numbered_length n g.ms ∙ whose_length txs g.ms g.whose)) ∙ drop_end (numbered n g.ms));
   sights = s.sights;
   events = s.events ∙ ap (λ l. v.events ++ backs (sessions_of l)) (ap (λ k. take k txs) end ∙ take_all txs);
 }

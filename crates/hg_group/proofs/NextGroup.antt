@@ -47,7 +47,8 @@ drop_next zero (f ∷ h) later g e = ap (drop 1) e
 drop_next (suc k) [] later g e = ap (drop 1) e
 drop_next (suc k) (f ∷ h) later g e = drop_next k h later g e
 
-first_context : (n : ℕ) (gs : List Group) (c : Rids) (cs : List Rids) → EachContextOf n gs (c ∷ cs) → (g : Group) × ((later : List Group) × ((gs ≡ g ∷ later) × (IsContextOf n g (context_of n c) × EachContextOf (suc n) later cs)))
+first_context : (n : ℕ) (gs : List Group) (c : Rids) (cs : List Rids) → EachContextOf n gs (c ∷ cs) → (g : Group) ×
+    ((later : List Group) × ((gs ≡ g ∷ later) × (IsContextOf n g (context_of n c) × EachContextOf (suc n) later cs)))
 first_context n [] c cs h = absurd h
 first_context n (g ∷ gs) c cs h = (g, (gs, (refl, (h.0, h.1))))
 
@@ -77,7 +78,9 @@ pops_none v bound own held = record {
   sights = [];
   marks = [];
   count = refl;
-  is = let e : (commit v).taken ≡ (commit v).taken + 0 = omega arith in λ i. seeing ((own ∙ ap (λ l. OfPass (number v) (pass v) ∷ l) held ∙ (λ j. OfPass (number v) (pass v) ∷ OfCommit (record (commit v) { taken = e j }) ∷ beyond v)) i) (sym (append-nil v.sights) i) (sym (append-nil v.events) i);
+  is = let e : (commit v).taken ≡ (commit v).taken + 0 = omega arith in
+      λ i. seeing ((own ∙ ap (λ l. OfPass (number v) (pass v) ∷ l) held ∙ (λ j. OfPass (number v) (pass v) ∷ OfCommit (record (commit v) { taken = e j }) ∷ beyond v)) i)
+      (sym (append-nil v.sights) i) (sym (append-nil v.events) i);
   most = omega arith;
   below = omega arith;
   next = tt;
@@ -96,7 +99,9 @@ pops_more v u w bound cs c p t =
       sights = p.sights ++ seen;
       marks = p.marks ++ s.1.1.0 ∷ [];
       count = omega (arith, long, many, p.count);
-      is = s.1.1.1.1 ∙ (λ i. seeing (OfPass (number v) (pass v) ∷ OfCommit (record (commit v) { taken = now i }) ∷ beyond v) (append_assoc v.sights p.sights seen i) ((append_assoc v.events (takes_by (number v) p.marks) (takes_by (number v) (s.1.1.0 ∷ [])) ∙ ap (λ l. v.events ++ l) (sym (map-append (λ mark. Take (number v) mark) p.marks (s.1.1.0 ∷ [])))) i));
+      is = s.1.1.1.1 ∙ (λ i. seeing (OfPass (number v) (pass v) ∷ OfCommit (record (commit v) { taken = now i }) ∷ beyond v) (append_assoc v.sights p.sights seen i)
+          ((append_assoc v.events (takes_by (number v) p.marks) (takes_by (number v) (s.1.1.0 ∷ [])) ∙
+          ap (λ l. v.events ++ l) (sym (map-append (λ mark. Take (number v) mark) p.marks (s.1.1.0 ∷ [])))) i));
       most = omega (arith, taken_append p.sights seen, p.most, long);
       below = let less : n < bound = s.0 in omega (arith, less, long);
       next = next_more (commit v).taken (commit v).history.list cs c p.next s.1.0;
@@ -172,8 +177,16 @@ module _ (z : Sizes) (mark : ℕ) (v seat : View) (part : CommitPart) where
         omega (arith, e, taken_append u.sights last, le)
 
     pub oldest : (bound : ℕ) (o : Option GroupContext) (u w : View) → PopsBelow hand bound o u → w ≡ without_commit u → TakesOldest v bound o w
-    oldest bound None u w h is = record { takes = next_taken bound [] u w (subst (PopsNext hand bound []) (sym h.1) (pops_none hand bound refl refl)) is; enough = λ e. then_enough bound u w (subst (λ (y : View). bound ≤ (commit y).taken) (sym h.1) h.0) is }
+    oldest bound None u w h is = record {
+      takes = next_taken bound [] u w (subst (PopsNext hand bound []) (sym h.1) (pops_none hand bound refl refl)) is;
+      enough = λ e. then_enough bound u w (subst (λ (y : View). bound ≤ (commit y).taken) (sym h.1) h.0) is;
+    }
     oldest bound (Some c) u w h is = record { takes = next_taken bound (c ∷ []) u w (pops_more hand hand u bound [] c (pops_none hand bound refl refl) h) is; enough = λ e. absurd cc }
 
     pub some_taken : (bound : ℕ) (old new : List Rid) (o : Option GroupContext) (u w : View) → PopsSome hand bound old o new u → w ≡ without_commit u → TakesSome v bound old o new w
-    some_taken bound old new o u w p is = record { contexts = p.contexts; listed = p.listed; takes = next_taken bound (p.contexts ++ option_to_list o) u w p.pops is; enough = λ e. then_enough bound u w (p.enough e) is }
+    some_taken bound old new o u w p is = record {
+      contexts = p.contexts;
+      listed = p.listed;
+      takes = next_taken bound (p.contexts ++ option_to_list o) u w p.pops is;
+      enough = λ e. then_enough bound u w (p.enough e) is;
+    }

@@ -66,8 +66,11 @@ rising_last qs [] d = tt
 rising_last qs (b ∷ bs) d =
     let e = here_last b qs bs d.0 in
     let n : ℕ = length qs in
-    let more : suc n ≡ length (qs ++ b ∷ []) = sym (length-append qs (b ∷ []) ∙ (let x : n + 1 ≡ suc n = omega arith in x)) in
-    (subst (λ m. n < m) (sym e) (omega arith), subst (λ m. IsRising m bs (qs ++ b ∷ bs)) (sym (e ∙ more)) (subst (IsRising (length (qs ++ b ∷ [])) bs) (append_assoc qs (b ∷ []) bs) (rising_last (qs ++ b ∷ []) bs d.1)))
+    let more : suc n ≡ length (qs ++ b ∷ []) = sym (length-append qs (b ∷ []) ∙ (let x : n + 1 ≡ suc n = omega arith in x)) in (
+      subst (λ m. n < m) (sym e) (omega arith),
+      subst (λ m. IsRising m bs (qs ++ b ∷ bs)) (sym (e ∙ more))
+          (subst (IsRising (length (qs ++ b ∷ [])) bs) (append_assoc qs (b ∷ []) bs) (rising_last (qs ++ b ∷ []) bs d.1)),
+    )
 
 rising_both : (n top : ℕ) (ps rs qs : Pairs) → n ≤ top → Each (λ p. last_place p qs ≤ top) ps → IsRising n ps qs → IsRising top rs qs → IsRising n (ps ++ rs) qs
 rising_both n top [] rs qs l f a b = rising_from n top rs qs l b
@@ -86,7 +89,8 @@ pub follows_refused : (h : History) (qs bs : Pairs) → Each (λ p. IsNone p bs)
 follows_refused h qs bs f a = rising_more 0 (map pair_of (flat h)) qs bs f a
 
 -- a group of what was popped comes behind
-pub follows_more : (h : History) (g : Group) (qs bs : Pairs) → map pair_of g ≡ bs → NoPairTwice bs → Each (λ p. IsNone p bs) (map pair_of (flat h)) → FollowsQueue h qs → FollowsQueue (h ++ g ∷ []) (qs ++ bs)
+pub follows_more : (h : History) (g : Group) (qs bs : Pairs) → map pair_of g ≡ bs → NoPairTwice bs → Each (λ p. IsNone p bs) (map pair_of (flat h)) → FollowsQueue h qs →
+    FollowsQueue (h ++ g ∷ []) (qs ++ bs)
 follows_more h g qs bs is d f a =
     subst (λ l. IsRising 0 l (qs ++ bs)) (sym (ap (map pair_of) (flat_more h g) ∙ (map-append pair_of (flat h) g ∙ ap (λ l. map pair_of (flat h) ++ l) is)))
     (rising_both 0 (length qs) (map pair_of (flat h)) bs (qs ++ bs) (omega arith) (each_last (map pair_of (flat h)) qs bs f) (rising_more 0 (map pair_of (flat h)) qs bs f a) (rising_last qs bs d))
@@ -95,7 +99,8 @@ follows_more h g qs bs is d f a =
 
 pub earlier : (h : History) (j x : ℕ) → Each (AreEarlier j x) h → Each (λ p. same_pair (j, x) p ≡ false) (map pair_of (flat h))
 earlier [] j x f = tt
-earlier (g ∷ h) j x f = subst (Each (λ p. same_pair (j, x) p ≡ false)) (sym (map-append pair_of g (flat h))) (each_append (λ p. same_pair (j, x) p ≡ false) (map pair_of g) (map pair_of (flat h)) (group g f.0) (earlier h j x f.1))
+earlier (g ∷ h) j x f = subst (Each (λ p. same_pair (j, x) p ≡ false)) (sym (map-append pair_of g (flat h)))
+    (each_append (λ p. same_pair (j, x) p ≡ false) (map pair_of g) (map pair_of (flat h)) (group g f.0) (earlier h j x f.1))
   where
     apart : (c : Commit) → (c.session ≡ j → c.transaction < x) → same_pair (j, x) (pair_of c) ≡ false
     apart c l = go (j == c.session) refl

@@ -20,7 +20,8 @@ among_before [] i d h n = absurd (omega (arith, h))
 among_before (x ∷ xs) zero d h n = refl
 among_before (x ∷ xs) (suc i) d h n =
     let less : i < length xs = omega (arith, h) in
-    let apart : same_rid (get_or xs i d) x ≡ false = same_back (get_or xs i d) x ∙ cases (same_rid x (get_or xs i d)) (λ e. absurd (false_true (sym n.0 ∙ ap (λ q. is_among q xs) (same_rid_equal x (get_or xs i d) e) ∙ among_at xs i d less))) (λ f. f) in
+    let apart : same_rid (get_or xs i d) x ≡ false = same_back (get_or xs i d) x ∙
+    cases (same_rid x (get_or xs i d)) (λ e. absurd (false_true (sym n.0 ∙ ap (λ q. is_among q xs) (same_rid_equal x (get_or xs i d) e) ∙ among_at xs i d less))) (λ f. f) in
     ap (λ b. b || is_among (get_or xs i d) (take i xs)) apart ∙ among_before xs i d less n.1
 
 -- one place further

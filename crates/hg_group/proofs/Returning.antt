@@ -45,14 +45,19 @@ among_right : {A : Type 0} (a : A) (xs ys : List A) → IsAmong a ys → IsAmong
 among_right a [] ys m = m
 among_right a (x ∷ xs) ys m = inr (among_right a xs ys m)
 
-module _ (v u w : View) (j : ℕ) (same : number v ≡ j) (alone : others v ≡ []) (may : MayCommit (session v)) (back : IsBack (since v) (session v) (session w)) (is : u ≡ resuming v w) (unstamped : (session w).stamped ≡ false) where
+module _ (v u w : View) (j : ℕ) (same : number v ≡ j) (alone : others v ≡ []) (may : MayCommit (session v)) (back : IsBack (since v) (session v) (session w))
+    (is : u ≡ resuming v w) (unstamped : (session w).stamped ≡ false) where
   parts_are : (p : SessionPart) → session w ≡ p → u.parts ≡ OfSession (number v) p ∷ []
   parts_are p e = ap (λ (y : View). y.parts) is ∙ (λ i. OfSession (number v) (e i) ∷ alone i)
 
   pub finished : (receipt : Receipt) → IsOutcome j (session w) w.sights (Committed receipt) → HasFinished v receipt u
   finished receipt o =
       let on = went_on (since v) receipt.number (session v).log o.0 (session w).log may.plain o.1.1.0 back.log in
-      let part : session w ≡ with_published receipt.number (session v) = (λ i. record { phase = back.phase i; log = (o.1.1.0 ∙ ap (λ l. Published receipt.number ∷ l) on.1) i; stamped = unstamped i }) in
+      let part : session w ≡ with_published receipt.number (session v) = (λ i. record {
+        phase = back.phase i;
+        log = (o.1.1.0 ∙ ap (λ l. Published receipt.number ∷ l) on.1) i;
+        stamped = unstamped i;
+      }) in
       let sights : u.sights ≡ v.sights ++ w.sights = ap (λ (y : View). y.sights) is in record {
         over = on.0;
         history = o.1.0;

@@ -57,7 +57,8 @@ same_who ms ns e = sym (who_bare ms) ∙ (ap who e ∙ who_bare ns)
 pub same_log : (j : ℕ) (ms ns : Members) → bare ms ≡ bare ns → (part_of j ms).log ≡ (part_of j ns).log
 same_log j ms ns e = sym (log_bare j ms) ∙ (ap (λ l. (part_of j l).log) e ∙ log_bare j ns)
 
-flags_more : (j : ℕ) (rid : Rid) (list : List (ℕ × Rid)) (ms : Members) → Each (λ m. has_stamped m.0 list ≡ true → m.1.stamped ≡ true) ms → Each (λ m. has_stamped m.0 ((j, rid) ∷ list) ≡ true → m.1.stamped ≡ true) (flag j ms)
+flags_more : (j : ℕ) (rid : Rid) (list : List (ℕ × Rid)) (ms : Members) → Each (λ m. has_stamped m.0 list ≡ true → m.1.stamped ≡ true) ms →
+    Each (λ m. has_stamped m.0 ((j, rid) ∷ list) ≡ true → m.1.stamped ≡ true) (flag j ms)
 flags_more j rid list [] h = tt
 flags_more j rid list (m ∷ ms) h = (go (m.0 == j) refl, flags_more j rid list ms h.1)
   where
@@ -91,8 +92,17 @@ pub record OnWay (v : View) (ms : Members) (list : List (ℕ × Rid)) (w : View)
 pub on_way : (v w : View) (ms : Members) (list : List (ℕ × Rid)) → w.parts ≡ Away (number v) (session v) (since v) ∷ OfCommit (record (commit v) { stamped = list }) ∷ lent ms → OnWay v ms list w
 on_way v w ms list e = go w.parts e w.sights w.events
   where
-    go : (ps : List Part) → ps ≡ Away (number v) (session v) (since v) ∷ OfCommit (record (commit v) { stamped = list }) ∷ lent ms → (sights : _) (events : _) → OnWay v ms list (seeing ps sights events)
-    go ps e sights events = subst (λ x. OnWay v ms list (seeing x sights events)) (sym e) record { number_is = refl; session_is = refl; since_is = refl; has = refl; commit_is = refl; beyond_is = refl; members_are = members_lent ms }
+    go : (ps : List Part) → ps ≡ Away (number v) (session v) (since v) ∷ OfCommit (record (commit v) { stamped = list }) ∷ lent ms → (sights : _) (events : _) →
+        OnWay v ms list (seeing ps sights events)
+    go ps e sights events = subst (λ x. OnWay v ms list (seeing x sights events)) (sym e) record {
+      number_is = refl;
+      session_is = refl;
+      since_is = refl;
+      has = refl;
+      commit_is = refl;
+      beyond_is = refl;
+      members_are = members_lent ms;
+    }
 
 pub stamped_start : (v : View) → HasAway v → HasCommit v → beyond v ≡ lent (members (beyond v)) → (commit v).stamped ≡ [] → Stamped v [] v
 stamped_start v own has far none = record {
@@ -140,13 +150,20 @@ stamped_next v w x done j n r among s one =
 
 -- the transaction at a place, with its part, and nobody before it is of its session
 pub taken_at : (txs : List OpenTx) (ms : Members) (i : ℕ) (d : OpenTx) → AreTaken txs ms → NoNumberTwice (who ms) → i < length txs
-    → (is_in (who ms) (get_or txs i d).writer.session ≡ true) × (IsTaken (get_or txs i d) ((get_or txs i d).writer.session, part_of (get_or txs i d).writer.session ms) × ((r : Rid) → is_stamped (get_or txs i d).writer.session r (all_pairs (take i txs)) ≡ false))
+    → (is_in (who ms) (get_or txs i d).writer.session ≡ true) × (IsTaken (get_or txs i d) ((get_or txs i d).writer.session, part_of (get_or txs i d).writer.session ms) ×
+    ((r : Rid) → is_stamped (get_or txs i d).writer.session r (all_pairs (take i txs)) ≡ false))
 taken_at [] ms i d h once l = absurd (omega (arith, l))
 taken_at (tx ∷ txs) [] i d h once l = absurd h
 taken_at (tx ∷ txs) (m ∷ ms) zero d h once l =
     let same : m.0 ≡ tx.writer.session = sym (ap (λ w. w.session) h.0.tx_is.writer_is) in
-    let here : (m.0 == tx.writer.session) ≡ true = (Decides-eqb m.0 tx.writer.session).1 same in
-    (ap (λ b. b || is_in (who ms) tx.writer.session) here, (subst (λ p. IsTaken tx (tx.writer.session, p)) (sym (ap (λ b. if b then m.1 else part_of tx.writer.session ms) here)) (subst (λ k. IsTaken tx (k, m.1)) same h.0), (λ r. refl)))
+    let here : (m.0 == tx.writer.session) ≡ true = (Decides-eqb m.0 tx.writer.session).1 same in (
+      ap (λ b. b || is_in (who ms) tx.writer.session) here,
+      (
+        subst (λ p. IsTaken tx (tx.writer.session, p)) (sym (ap (λ b. if b then m.1 else part_of tx.writer.session ms) here))
+            (subst (λ k. IsTaken tx (k, m.1)) same h.0),
+        (λ r. refl),
+      ),
+    )
 taken_at (tx ∷ txs) (m ∷ ms) (suc i) d h once l =
     let rest = taken_at txs ms i d h.1 once.1 (omega (arith, l)) in
     let j = (get_or txs i d).writer.session in
@@ -155,7 +172,8 @@ taken_at (tx ∷ txs) (m ∷ ms) (suc i) d h once l =
       ap (λ b. b || is_in (who ms) j) apart ∙ rest.0,
       (
         subst (λ p. IsTaken (get_or txs i d) (j, p)) (sym (ap (λ b. if b then m.1 else part_of j ms) apart)) rest.1.0,
-        (λ r. stamped_append j r (with_session tx.writer.session tx.records.list) (all_pairs (take i txs)) ∙ (λ k. others j r tx.writer.session tx.records.list (ap (λ n. n == j) same ∙ apart) k || rest.1.1 r k)),
+        (λ r. stamped_append j r (with_session tx.writer.session tx.records.list) (all_pairs (take i txs)) ∙
+            (λ k. others j r tx.writer.session tx.records.list (ap (λ n. n == j) same ∙ apart) k || rest.1.1 r k)),
       ),
     )
   where
@@ -177,8 +195,10 @@ own_pairs j r (q ∷ rs) = (λ i. (alike i && back q r i) || own_pairs j r rs i)
     back : (q r : Rid) → same_rid q r ≡ same_rid r q
     back q r = same_back q r
 
-pub unstamped_yet : (j : ℕ) (done : List (ℕ × Rid)) (rs : List Rid) (k : ℕ) (d : Rid) → k < length rs → NoneTwice rs → is_stamped j (get_or rs k d) done ≡ false → is_stamped j (get_or rs k d) (done ++ with_session j (take k rs)) ≡ false
-unstamped_yet j done rs k d l once none = stamped_append j (get_or rs k d) done (with_session j (take k rs)) ∙ ((λ i. none i || (own_pairs j (get_or rs k d) (take k rs) ∙ among_before rs k d l once) i))
+pub unstamped_yet : (j : ℕ) (done : List (ℕ × Rid)) (rs : List Rid) (k : ℕ) (d : Rid) → k < length rs → NoneTwice rs → is_stamped j (get_or rs k d) done ≡ false →
+    is_stamped j (get_or rs k d) (done ++ with_session j (take k rs)) ≡ false
+unstamped_yet j done rs k d l once none = stamped_append j (get_or rs k d) done (with_session j (take k rs)) ∙
+    ((λ i. none i || (own_pairs j (get_or rs k d) (take k rs) ∙ among_before rs k d l once) i))
 
 -- ---- what a stamp asks
 
@@ -192,7 +212,8 @@ pub record Ready (v w : View) (tx : OpenTx) (rid : Rid) (n : ℕ) : Type 0 where
   pub mine : IsSome (open_in rid (part_of tx.writer.session (members (beyond w))).log)
   pub once : is_stamped tx.writer.session rid (commit w).stamped ≡ false
 
-pub ready : (v w : View) (txs : List OpenTx) (i k n : ℕ) (tx : OpenTx) (rs : List Rid) (d : Rid) → tx ≡ get_or txs i tx → i < length txs → rs ≡ tx.records.list → k < length rs → AreTaken txs (members (beyond v)) → NoNumberTwice (who (members (beyond v)))
+pub ready : (v w : View) (txs : List OpenTx) (i k n : ℕ) (tx : OpenTx) (rs : List Rid) (d : Rid) → tx ≡ get_or txs i tx → i < length txs → rs ≡ tx.records.list → k < length rs →
+    AreTaken txs (members (beyond v)) → NoNumberTwice (who (members (beyond v)))
     → n ≡ suc (length (commit v).history.list) → Stamped v (all_pairs (take i txs) ++ with_session tx.writer.session (take k rs)) w → Ready v w tx (get_or rs k d) n
 ready v w txs i k n tx rs d is less same inside taken once next s =
     let ms0 : Members = members (beyond v) in
@@ -201,7 +222,8 @@ ready v w txs i k n tx rs d is less same inside taken once next s =
     let o = on_way v w s.ms s.list s.parts in
     let t = taken_at txs ms0 i tx taken once less in
     let at : (is_in (who ms0) j ≡ true) × (IsTaken tx (j, part_of j ms0) × ((q : Rid) → is_stamped j q (all_pairs (take i txs)) ≡ false)) =
-    subst (λ (x : OpenTx). (is_in (who ms0) x.writer.session ≡ true) × (IsTaken x (x.writer.session, part_of x.writer.session ms0) × ((q : Rid) → is_stamped x.writer.session q (all_pairs (take i txs)) ≡ false))) (sym is) t in
+    subst (λ (x : OpenTx). (is_in (who ms0) x.writer.session ≡ true) ×
+    (IsTaken x (x.writer.session, part_of x.writer.session ms0) × ((q : Rid) → is_stamped x.writer.session q (all_pairs (take i txs)) ≡ false))) (sym is) t in
     let log : (part_of j (members (beyond w))).log ≡ (part_of j ms0).log = ap (λ l. (part_of j l).log) o.members_are ∙ same_log j s.ms ms0 s.alike in
     let who_is : who (members (beyond w)) ≡ who ms0 = ap who o.members_are ∙ same_who s.ms ms0 s.alike in
     let own : is_among r tx.records.list ≡ true = subst (λ l. is_among r l ≡ true) same (among_at rs k d inside) in
@@ -213,7 +235,8 @@ ready v w txs i k n tx rs d is less same inside taken once next s =
       next = next ∙ ap (λ (p : CommitPart). suc (length p.history.list)) (sym o.commit_is);
       by = at.1.0.tx_is.writer_is ∙ (λ q. record { session = j; transaction = begans (sym log q) });
       mine = ap (λ l. is_some (open_in r l)) log ∙ (sym (at.1.0.tx_is.exact r) ∙ own);
-      once = ap (λ (p : CommitPart). is_stamped j r p.stamped) o.commit_is ∙ (s.exact j r ∙ unstamped_yet j (all_pairs (take i txs)) rs k d inside (subst NoneTwice (sym same) at.1.0.tx_is.once) (at.1.1 r));
+      once = ap (λ (p : CommitPart). is_stamped j r p.stamped) o.commit_is ∙
+          (s.exact j r ∙ unstamped_yet j (all_pairs (take i txs)) rs k d inside (subst NoneTwice (sym same) at.1.0.tx_is.once) (at.1.1 r));
     }
 
 -- ---- lists, one place further
@@ -225,7 +248,8 @@ take_all (x ∷ xs) = ap (λ l. x ∷ l) (take_all xs)
 more : (i : ℕ) → suc i + 1 ≡ suc (i + 1)
 more i = omega arith
 
-pub all_next : (txs : List OpenTx) (i : ℕ) (tx : OpenTx) → tx ≡ get_or txs i tx → i < length txs → all_pairs (take (i + 1) txs) ≡ all_pairs (take i txs) ++ with_session tx.writer.session tx.records.list
+pub all_next : (txs : List OpenTx) (i : ℕ) (tx : OpenTx) → tx ≡ get_or txs i tx → i < length txs →
+    all_pairs (take (i + 1) txs) ≡ all_pairs (take i txs) ++ with_session tx.writer.session tx.records.list
 all_next [] i tx is l = absurd (omega (arith, l))
 all_next (x ∷ txs) zero tx is l = append_nil (with_session x.writer.session x.records.list) ∙ (λ i. with_session (sym is i).writer.session (sym is i).records.list)
   where
@@ -233,7 +257,10 @@ all_next (x ∷ txs) zero tx is l = append_nil (with_session x.writer.session x.
     append_nil [] = refl
     append_nil (y ∷ ys) = ap (λ l. y ∷ l) (append_nil ys)
 all_next (x ∷ txs) (suc i) tx is l =
-    ap (λ n. all_pairs (take n (x ∷ txs))) (more i) ∙ (ap (λ l. with_session x.writer.session x.records.list ++ l) (all_next txs i tx is (omega (arith, l))) ∙ sym (append_assoc (with_session x.writer.session x.records.list) (all_pairs (take i txs)) (with_session tx.writer.session tx.records.list)))
+    ap (λ n. all_pairs (take n (x ∷ txs))) (more i) ∙ (ap (λ l. with_session x.writer.session x.records.list ++ l) (all_next txs i tx is (omega (arith, l))) ∙
+    sym (append_assoc (with_session x.writer.session x.records.list) (all_pairs (take i txs)) (with_session tx.writer.session tx.records.list)))
 
-pub with_next : (j : ℕ) (done : List (ℕ × Rid)) (rs : List Rid) (k : ℕ) (d : Rid) → k < length rs → (done ++ with_session j (take k rs)) ++ (j, get_or rs k d) ∷ [] ≡ done ++ with_session j (take (k + 1) rs)
-with_next j done rs k d l = append_assoc done (with_session j (take k rs)) ((j, get_or rs k d) ∷ []) ∙ ap (λ x. done ++ x) (sym (map-append (λ r. (j, r)) (take k rs) (get_or rs k d ∷ [])) ∙ ap (with_session j) (sym (take_next rs k d l)))
+pub with_next : (j : ℕ) (done : List (ℕ × Rid)) (rs : List Rid) (k : ℕ) (d : Rid) → k < length rs →
+    (done ++ with_session j (take k rs)) ++ (j, get_or rs k d) ∷ [] ≡ done ++ with_session j (take (k + 1) rs)
+with_next j done rs k d l = append_assoc done (with_session j (take k rs)) ((j, get_or rs k d) ∷ []) ∙
+    ap (λ x. done ++ x) (sym (map-append (λ r. (j, r)) (take k rs) (get_or rs k d ∷ [])) ∙ ap (with_session j) (sym (take_next rs k d l)))

@@ -15,7 +15,8 @@ group_whose : (ms : Members) → map (λ c. c.session) (group_of ms) ≡ who ms
 group_whose [] = refl
 group_whose (m ∷ ms) = ap (λ js. m.0 ∷ js) (group_whose ms)
 
-pub published_whole : (v w x y u r : View) (stamps : List Event) (n place sessions : ℕ) (txs : List OpenTx) → w.events ≡ v.events → Each IsStamp stamps → x.events ≡ w.events ++ stamps → y.events ≡ x.events ++ Publish n ∷ [] → u.events ≡ y.events → HasGroup sessions u txs n place → LaysAll u txs r → TakesTurn v r
+pub published_whole : (v w x y u r : View) (stamps : List Event) (n place sessions : ℕ) (txs : List OpenTx) → w.events ≡ v.events → Each IsStamp stamps →
+    x.events ≡ w.events ++ stamps → y.events ≡ x.events ++ Publish n ∷ [] → u.events ≡ y.events → HasGroup sessions u txs n place → LaysAll u txs r → TakesTurn v r
 published_whole v w x y u r stamps n place sessions txs none only stamped published left g laid =
     let js = sessions_of txs in
     let whose : map (λ c. c.session) (group_of g.ms) ≡ js = group_whose g.ms ∙ g.whose in

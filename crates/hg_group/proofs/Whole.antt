@@ -63,14 +63,19 @@ covered (tx ∷ txs) [] h = absurd h
 covered (tx ∷ txs) (m ∷ ms) h =
     let t = h.0 in
     let j : tx.writer.session ≡ m.0 = ap (λ w. w.session) t.tx_is.writer_is in (
-      (λ r some. stamped_append m.0 r (with_session tx.writer.session tx.records.list) (all_pairs txs) ∙ or_left (is_stamped m.0 r (with_session tx.writer.session tx.records.list)) (is_stamped m.0 r (all_pairs txs))
+      (λ r some. stamped_append m.0 r (with_session tx.writer.session tx.records.list) (all_pairs txs) ∙
+          or_left (is_stamped m.0 r (with_session tx.writer.session tx.records.list)) (is_stamped m.0 r (all_pairs txs))
           (ap (λ k. is_stamped m.0 r (with_session k tx.records.list)) j ∙ (own_pairs m.0 r tx.records.list ∙ (t.tx_is.exact r ∙ some)))),
       later ms (covered txs ms h.1),
     )
   where
     later : (ns : Members) → Says (Covers (all_pairs txs)) ns → Says (Covers (all_pairs (tx ∷ txs))) ns
     later [] k = tt
-    later (n ∷ ns) k = ((λ r some. stamped_append n.0 r (with_session tx.writer.session tx.records.list) (all_pairs txs) ∙ or_right (is_stamped n.0 r (with_session tx.writer.session tx.records.list)) (is_stamped n.0 r (all_pairs txs)) (k.0 r some)), later ns k.1)
+    later (n ∷ ns) k = (
+      (λ r some. stamped_append n.0 r (with_session tx.writer.session tx.records.list) (all_pairs txs) ∙
+          or_right (is_stamped n.0 r (with_session tx.writer.session tx.records.list)) (is_stamped n.0 r (all_pairs txs)) (k.0 r some)),
+      later ns k.1,
+    )
 
 has_one : (j : ℕ) (r : Rid) (list : List (ℕ × Rid)) → is_stamped j r list ≡ true → has_stamped j list ≡ true
 has_one j r [] e = e
@@ -98,11 +103,13 @@ may_all v w txs taken some s =
     let opens : Says HasOpen s.ms = says_same HasOpen s.ms ms0 s.alike (taken_says HasOpen txs ms0 one_open taken) in
     let covers : Says (Covers s.list) s.ms = turned s.list (all_pairs txs) s.exact s.ms (says_same (Covers (all_pairs txs)) s.ms ms0 s.alike (covered txs ms0 taken)) in
     subst (λ (ms : Members). MayPublish ms (commit w).stamped) (sym o.members_are) (subst (λ (l : List (ℕ × Rid)). MayPublish s.ms l) (sym list) record {
-      some = let a : ℕ = length s.ms in let b : ℕ = length ms0 in let n : ℕ = length txs in let e : a ≡ b = sym (bare_length s.ms) ∙ (ap length s.alike ∙ bare_length ms0) in let f : n ≡ b = taken_length txs ms0 taken in omega (arith, some);
+      some = let a : ℕ = length s.ms in let b : ℕ = length ms0 in let n : ℕ = length txs in let e : a ≡ b = sym (bare_length s.ms) ∙ (ap length s.alike ∙ bare_length ms0) in
+          let f : n ≡ b = taken_length txs ms0 taken in omega (arith, some);
       live = says_same (λ j phase log. IsSome (snapshot_in phase)) s.ms ms0 s.alike (taken_says (λ j phase log. IsSome (snapshot_in phase)) txs ms0 (λ tx m t. t.may.live) taken);
       plain = says_same (λ j phase log. IsTrue (is_plain log)) s.ms ms0 s.alike (taken_says (λ j phase log. IsTrue (is_plain log)) txs ms0 (λ tx m t. t.may.plain) taken);
       flagged = each_two (λ m. has_stamped m.0 s.list ≡ true → m.1.stamped ≡ true) (λ m. has_stamped m.0 s.list ≡ true) (λ m. m.1.stamped ≡ true) s.ms (λ m f e. f e) s.flagged
-          (each_two (λ m. HasOpen m.0 m.1.phase m.1.log) (λ m. Covers s.list m.0 m.1.phase m.1.log) (λ m. has_stamped m.0 s.list ≡ true) s.ms (λ m h k. has_one m.0 h.0 s.list (k h.0 h.1)) opens covers);
+          (each_two (λ m. HasOpen m.0 m.1.phase m.1.log) (λ m. Covers s.list m.0 m.1.phase m.1.log) (λ m. has_stamped m.0 s.list ≡ true) s.ms
+          (λ m h k. has_one m.0 h.0 s.list (k h.0 h.1)) opens covers);
       alone = s.alone;
       every = covers;
     })

@@ -117,7 +117,8 @@ pub record Stamped (v : View) (done : List (ℕ × Rid)) (w : View) : Type 0 whe
 
 -- A commit stands in a history that was seen, and the log has its number. Or the transaction is open still.
 abbrev pub IsOutcome : ℕ → SessionPart → List Sight → Outcome → Type 0
-IsOutcome j part sights (Committed receipt) = (log : List LogEntry) × ((h : History) × ((part.log ≡ Published receipt.number ∷ log) × ((IsAmong (Saw (groups h)) sights × IsAmong (Heard j part.log) sights) × StandsIn h receipt (commit_in j log))))
+IsOutcome j part sights (Committed receipt) = (log : List LogEntry) ×
+    ((h : History) × ((part.log ≡ Published receipt.number ∷ log) × ((IsAmong (Saw (groups h)) sights × IsAmong (Heard j part.log) sights) × StandsIn h receipt (commit_in j log))))
 IsOutcome j part sights (Refused tx) = IsOpenTxOf j part tx × MayCommit part
 
 -- What is laid for session j: its part of this board's state, and what became of its transaction.

@@ -18,7 +18,8 @@ use Rattle.hg_core.specs.declared.log.LogEntry.{LogEntry}
 use Rattle.hg_core.specs.declared.log.LogEntry.TheVariants.{Saw, Refused, Outside, Wrote}
 use Rattle.hg_core.specs.Logs.{current, begans, own_writes, published, UpTo, AnswerUpTo}
 use Rattle.hg_core.specs.Replies.{writes_in, numbers_in}
-use Rattle.hg_core.specs.Reading.{Unprinted, saw, saws, get_entries, put_entries, del_entries, scan_entries, own_entries, is_access, IsReached, IsGetAnswer, IsDelAnswer, IsScanAnswer, FitsTable, FitsAnswer, looks, fetch_entries, IsFetchAnswer}
+use Rattle.hg_core.specs.Reading.{Unprinted, saw, saws, get_entries, put_entries, del_entries, scan_entries, own_entries, is_access, IsReached, IsGetAnswer, IsDelAnswer, IsScanAnswer}
+use Rattle.hg_core.specs.Reading.{FitsTable, FitsAnswer, looks, fetch_entries, IsFetchAnswer}
 use Rattle.hg_core.proofs.OwnKeys.{saws_keep}
 use Rattle.hg_headline.specs.Gathered.{began_at}
 use Rattle.hg_headline.proofs.Words.{cond_same}
@@ -43,13 +44,32 @@ up_to_any n (Newer c) h = absurd h
 up_to_any n _ h = tt
 
 pub adds_nothing : (l : List LogEntry) (a : Answer) → NotNewer a → Adds l l None a
-adds_nothing l a h = record { count = refl; same = refl; own = refl; writes = λ x. sym (cond_same (begans l == x) (writes_in x l)); numbers = λ x. refl; known = λ n k. (k, up_to_any n a h); begun = λ d n. refl; made = λ n j. refl }
+adds_nothing l a h = record {
+  count = refl;
+  same = refl;
+  own = refl;
+  writes = λ x. sym (cond_same (begans l == x) (writes_in x l));
+  numbers = λ x. refl;
+  known = λ n k. (k, up_to_any n a h);
+  begun = λ d n. refl;
+  made = λ n j. refl;
+}
 
-pub adds_saw : (t : TableId) (low high b : ℕ) (rows : List (ℕ × List Value)) (before l : List LogEntry) (w : Option Write) (a : Answer) → Adds before l w a → Adds before (Saw t low high b rows ∷ l) w a
+pub adds_saw : (t : TableId) (low high b : ℕ) (rows : List (ℕ × List Value)) (before l : List LogEntry) (w : Option Write) (a : Answer) → Adds before l w a →
+    Adds before (Saw t low high b rows ∷ l) w a
 adds_saw t low high b rows before l w a h = record { count = h.count; same = h.same; own = h.own; writes = h.writes; numbers = h.numbers; known = h.known; begun = h.begun; made = h.made }
 
 pub adds_outside : (t : TableId) (l : List LogEntry) (a : Answer) → NotNewer a → Adds l (Outside t ∷ l) None a
-adds_outside t l a h = record { count = refl; same = refl; own = refl; writes = λ x. sym (cond_same (begans l == x) (writes_in x l)); numbers = λ x. refl; known = λ n k. (k, up_to_any n a h); begun = λ d n. refl; made = λ n j. refl }
+adds_outside t l a h = record {
+  count = refl;
+  same = refl;
+  own = refl;
+  writes = λ x. sym (cond_same (begans l == x) (writes_in x l));
+  numbers = λ x. refl;
+  known = λ n k. (k, up_to_any n a h);
+  begun = λ d n. refl;
+  made = λ n j. refl;
+}
 
 pub adds_refused : (r : Rid) (a : Answer) (before l : List LogEntry) (b : Answer) → Adds before l None b → Adds before (Refused r a ∷ l) None a
 adds_refused r a before l b h = record { count = h.count; same = h.same; own = h.own; writes = h.writes; numbers = h.numbers; known = λ n k. ((h.known n k.1).0, k.0); begun = h.begun; made = h.made }
@@ -58,17 +78,21 @@ pub adds_wrote : (r : Rid) (image : Image) (a : Answer) (l : List LogEntry) → 
 adds_wrote r image a l h = record { count = refl; same = refl; own = refl; writes = λ x. refl; numbers = λ x. refl; known = λ n k. (k, up_to_any n a h); begun = λ d n. refl; made = λ n j. refl }
 
 -- below a seen entry all is as before it
-pub adds_past_saw : (t : TableId) (low high b : ℕ) (rows : List (ℕ × List Value)) (l after : List LogEntry) (w : Option Write) (a : Answer) → Adds (Saw t low high b rows ∷ l) after w a → Adds l after w a
+pub adds_past_saw : (t : TableId) (low high b : ℕ) (rows : List (ℕ × List Value)) (l after : List LogEntry) (w : Option Write) (a : Answer) →
+    Adds (Saw t low high b rows ∷ l) after w a → Adds l after w a
 adds_past_saw t low high b rows l after w a h = record { count = h.count; same = h.same; own = h.own; writes = h.writes; numbers = h.numbers; known = h.known; begun = h.begun; made = h.made }
 
-pub adds_saws : (buckets : ℕ) (t : TableId) (low high : ℕ) (part : ℕ → List (ℕ × List Value)) (n : ℕ) (l : List LogEntry) (a : Answer) → NotNewer a → Adds l (saws buckets t low high part n ++ l) None a
+pub adds_saws : (buckets : ℕ) (t : TableId) (low high : ℕ) (part : ℕ → List (ℕ × List Value)) (n : ℕ) (l : List LogEntry) (a : Answer) → NotNewer a →
+    Adds l (saws buckets t low high part n ++ l) None a
 adds_saws buckets t low high part n l a h = saws_keep (λ m. Adds l m None a) buckets t low high part n l (λ b rows m k. adds_saw t low high b rows l m None a k) (adds_nothing l a h)
 
-pub adds_looks : (buckets : ℕ) (t : TableId) (low high : ℕ) (part : ℕ → List (ℕ × List Value)) (n : ℕ) (l : List LogEntry) (a : Answer) → NotNewer a → Adds l (looks buckets t low high part n ++ l) None a
+pub adds_looks : (buckets : ℕ) (t : TableId) (low high : ℕ) (part : ℕ → List (ℕ × List Value)) (n : ℕ) (l : List LogEntry) (a : Answer) → NotNewer a →
+    Adds l (looks buckets t low high part n ++ l) None a
 adds_looks buckets t low high part zero l a h = adds_nothing l a h
 adds_looks buckets t low high part (suc n) l a h = adds_saw _ _ _ _ _ l _ None a (adds_looks buckets t low high part n l a h)
 
-pub adds_fetch : (buckets n : ℕ) (rest : Option Rest) (part : ℕ → List (ℕ × List Value)) (looked : ℕ) (a : Answer) (l : List LogEntry) → IsFetchAnswer buckets n rest part looked a → Adds l (fetch_entries buckets rest part looked a ++ l) None a
+pub adds_fetch : (buckets n : ℕ) (rest : Option Rest) (part : ℕ → List (ℕ × List Value)) (looked : ℕ) (a : Answer) (l : List LogEntry) → IsFetchAnswer buckets n rest part looked a
+    → Adds l (fetch_entries buckets rest part looked a ++ l) None a
 adds_fetch buckets n (Some rest) part looked (Rows rows) l f = adds_looks buckets rest.table rest.low rest.high part looked l (Rows rows) tt
 adds_fetch buckets n (Some rest) part looked _ l f = absurd f
 adds_fetch buckets n None part looked a l f = absurd f
@@ -94,12 +118,14 @@ adds_del buckets found r (OpenBy w) l f = adds_refused r (OpenBy w) l (saw bucke
 adds_del buckets found r (Undeclared t) l f = adds_outside t l (Undeclared t) tt
 adds_del buckets found r _ l f = absurd f
 
-pub adds_scan : (buckets : ℕ) (part : ℕ → List (ℕ × List Value)) (t : TableId) (low high : ℕ) (a : Answer) (l : List LogEntry) → FitsTable t a (IsScanAnswer (IsReached buckets t low high) part a) → Adds l (scan_entries buckets part t low high a ++ l) None a
+pub adds_scan : (buckets : ℕ) (part : ℕ → List (ℕ × List Value)) (t : TableId) (low high : ℕ) (a : Answer) (l : List LogEntry) →
+    FitsTable t a (IsScanAnswer (IsReached buckets t low high) part a) → Adds l (scan_entries buckets part t low high a ++ l) None a
 adds_scan buckets part t low high (Rows rows) l f = adds_saws buckets t low high part buckets l (Rows rows) tt
 adds_scan buckets part t low high (Undeclared other) l f = adds_outside other l (Undeclared other) tt
 adds_scan buckets part t low high _ l f = absurd f
 
-pub adds_access : (buckets : ℕ) (u : Unprinted) (own : List Write) (s : Statement) (a : Answer) (l : List LogEntry) → IsTrue (is_access s) → FitsAnswer buckets u own s a → Adds l (own_entries buckets u s a ++ l) (stored_by s a) a
+pub adds_access : (buckets : ℕ) (u : Unprinted) (own : List Write) (s : Statement) (a : Answer) (l : List LogEntry) → IsTrue (is_access s) → FitsAnswer buckets u own s a →
+    Adds l (own_entries buckets u s a ++ l) (stored_by s a) a
 adds_access buckets u own (Get r) a l e f = adds_get buckets r a l f
 adds_access buckets u own (Put r row) a l e f = adds_put r row a l f
 adds_access buckets u own (Del r) a l e f = adds_del buckets u.found r a l f

@@ -21,7 +21,8 @@ use Rattle.hg_headline.proofs.Following.{up_to_less}
 
 -- ---- a log that is closed has no write, number or commit more
 
-pub closed_same : {X : Type 0} (f : List LogEntry → X) → ((r : Rid) (l : List LogEntry) → f (Undid r ∷ l) ≡ f l) → ((l : List LogEntry) → f (Over ∷ l) ≡ f l) → (log closed : List LogEntry) → Closes log closed → f closed ≡ f log
+pub closed_same : {X : Type 0} (f : List LogEntry → X) → ((r : Rid) (l : List LogEntry) → f (Undid r ∷ l) ≡ f l) → ((l : List LogEntry) → f (Over ∷ l) ≡ f l) →
+    (log closed : List LogEntry) → Closes log closed → f closed ≡ f log
 closed_same f undid over log closed (inl e) = ap f e.1
 closed_same f undid over log closed (inr e) = ap f e.1.2 ∙ over (map Undid e.1.0 ++ log) ∙ all e.1.0
   where
@@ -36,7 +37,8 @@ closed_first Q less j log closed (inr e) q = append_first Q less j (map Undid e.
 
 -- ---- replies look into other logs for their writes and numbers alone
 
-pub refuses_alike : (h : History) (logs more : ℕ → List LogEntry) (j at : ℕ) (r : Rid) (a : Answer) → ((i x : ℕ) → writes_in x (more i) ≡ writes_in x (logs i)) → ((i x : ℕ) → numbers_in x (more i) ≡ numbers_in x (logs i)) → Refuses h more j at r a → Refuses h logs j at r a
+pub refuses_alike : (h : History) (logs more : ℕ → List LogEntry) (j at : ℕ) (r : Rid) (a : Answer) → ((i x : ℕ) → writes_in x (more i) ≡ writes_in x (logs i)) →
+    ((i x : ℕ) → numbers_in x (more i) ≡ numbers_in x (logs i)) → Refuses h more j at r a → Refuses h logs j at r a
 refuses_alike h logs more j at r (Newer c) writes numbers f = f
 refuses_alike h logs more j at r (OpenBy w) writes numbers f = record {
   other = f.other;
@@ -45,7 +47,8 @@ refuses_alike h logs more j at r (OpenBy w) writes numbers f = record {
 }
 refuses_alike h logs more j at r _ writes numbers f = absurd f
 
-pub replied_alike : (buckets : ℕ) (h : History) (logs more : ℕ → List LogEntry) (j : ℕ) (e : LogEntry) (l : List LogEntry) → ((i x : ℕ) → writes_in x (more i) ≡ writes_in x (logs i)) → ((i x : ℕ) → numbers_in x (more i) ≡ numbers_in x (logs i)) → IsReplied buckets h more j e l → IsReplied buckets h logs j e l
+pub replied_alike : (buckets : ℕ) (h : History) (logs more : ℕ → List LogEntry) (j : ℕ) (e : LogEntry) (l : List LogEntry) →
+    ((i x : ℕ) → writes_in x (more i) ≡ writes_in x (logs i)) → ((i x : ℕ) → numbers_in x (more i) ≡ numbers_in x (logs i)) → IsReplied buckets h more j e l → IsReplied buckets h logs j e l
 replied_alike buckets h logs more j (Refused r a) l writes numbers q =
     let Told : (ℕ → List LogEntry) → Snapshot → Type 0 = λ ls snapshot. IsTrue (has snapshot.scope r.table) × (IsFalse (is_some (image_in r (own_writes l))) × Refuses h ls j snapshot.at r a) in
     if_some_keeps (current l) (Told more) (Told logs) (λ snapshot p. (p.0, (p.1.0, refuses_alike h logs more j snapshot.at r a writes numbers p.1.1))) q
@@ -57,7 +60,8 @@ replied_alike buckets h logs more j (Undid r) l writes numbers q = q
 replied_alike buckets h logs more j (Published n) l writes numbers q = q
 replied_alike buckets h logs more j Over l writes numbers q = q
 
-pub all_alike : (buckets : ℕ) (h : History) (logs more : ℕ → List LogEntry) (j : ℕ) (l : List LogEntry) → ((i x : ℕ) → writes_in x (more i) ≡ writes_in x (logs i)) → ((i x : ℕ) → numbers_in x (more i) ≡ numbers_in x (logs i)) → AreReplied buckets h more j l → AreReplied buckets h logs j l
+pub all_alike : (buckets : ℕ) (h : History) (logs more : ℕ → List LogEntry) (j : ℕ) (l : List LogEntry) → ((i x : ℕ) → writes_in x (more i) ≡ writes_in x (logs i)) →
+    ((i x : ℕ) → numbers_in x (more i) ≡ numbers_in x (logs i)) → AreReplied buckets h more j l → AreReplied buckets h logs j l
 all_alike buckets h logs more j [] writes numbers q = tt
 all_alike buckets h logs more j (e ∷ l) writes numbers q = (replied_alike buckets h logs more j e l writes numbers q.0, all_alike buckets h logs more j l writes numbers q.1)
 

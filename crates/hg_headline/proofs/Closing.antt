@@ -30,14 +30,16 @@ use Rattle.hg_headline.proofs.Following.{following_ends}
 -- ---- what is open is rolled back without a line
 
 -- as by a `rollback`
-pub closes_rollback : (buckets : ℕ) (u : Unprinted) (log closed : List LogEntry) (reply : Reply) → IsSome (current log) → Fits buckets u log Rollback reply → closed ≡ log_after buckets u Rollback reply log → Closes log closed
+pub closes_rollback : (buckets : ℕ) (u : Unprinted) (log closed : List LogEntry) (reply : Reply) → IsSome (current log) → Fits buckets u log Rollback reply →
+    closed ≡ log_after buckets u Rollback reply log → Closes log closed
 closes_rollback buckets u log closed reply opened fits is =
     let snapshot = some_of_yes (current log) opened in
     inr (opened, (u.undone, fits.answer.1, is ∙ ap (λ (o : Option Snapshot). log_with (is_alone o Rollback) buckets u Rollback reply log) snapshot.1))
 
 -- ---- the totals
 
-pub counted_told : (sessions : ℕ) (h : History) (closed : ℕ → List LogEntry) (script : Script) (lines : List Line) (totals : Totals) → HasShape script.records lines → AreTotalsBy sessions h closed (λ kind. told_removed kind lines) totals → IsCounted sessions h closed (all_said replay script lines) totals
+pub counted_told : (sessions : ℕ) (h : History) (closed : ℕ → List LogEntry) (script : Script) (lines : List Line) (totals : Totals) → HasShape script.records lines →
+    AreTotalsBy sessions h closed (λ kind. told_removed kind lines) totals → IsCounted sessions h closed (all_said replay script lines) totals
 counted_told sessions h closed script lines totals shape t =
     let same : (kind : Kind) → sum_by (removed_by kind) (said_from [] script.records lines) ≡ told_removed kind lines = λ kind. removed_said kind [] script.records lines shape in
     record {
@@ -51,7 +53,8 @@ counted_told sessions h closed script lines totals shape t =
     }
 
 -- The whole replay. The history is known at its end with the logs as they are closed.
-pub following_last : (buckets sessions seen top : ℕ) (h : History) (logs closed : ℕ → List LogEntry) (script : Script) (printed : Printed) → IsFollowing buckets sessions logs seen top script.records printed.lines → ((j : ℕ) → Closes (logs j) (closed j)) → Logged buckets h closed → seen ≤ length h →
+pub following_last : (buckets sessions seen top : ℕ) (h : History) (logs closed : ℕ → List LogEntry) (script : Script) (printed : Printed) →
+    IsFollowing buckets sessions logs seen top script.records printed.lines → ((j : ℕ) → Closes (logs j) (closed j)) → Logged buckets h closed → seen ≤ length h →
     AreTotalsBy sessions h closed (λ kind. told_removed kind printed.lines) printed.totals → IsSound replay script printed
 following_last buckets sessions seen top h logs closed script printed g closes logged saw totals =
     let replayed = following_ends buckets sessions h logs seen top script.records printed.lines g (logged_before buckets h logs closed closes logged) saw in

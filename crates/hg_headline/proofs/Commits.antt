@@ -29,7 +29,8 @@ put_pick c (d ∷ ds) j = go (nat_lt d.session c.session) refl (put_pick c ds j)
     apart : nat_lt d.session c.session ≡ true → (d.session == j) ≡ true → (c.session == j) ≡ true → ⊥
     apart less e f = grind (arith, nat_tests)
 
-    go : (b : Bool) → nat_lt d.session c.session ≡ b → of_session j (put_by_session c ds) ≡ cond (c.session == j) (c ∷ of_session j ds) (of_session j ds) → of_session j (if b then d ∷ put_by_session c ds else c ∷ d ∷ ds) ≡ cond (c.session == j) (c ∷ of_session j (d ∷ ds)) (of_session j (d ∷ ds))
+    go : (b : Bool) → nat_lt d.session c.session ≡ b → of_session j (put_by_session c ds) ≡ cond (c.session == j) (c ∷ of_session j ds) (of_session j ds) →
+        of_session j (if b then d ∷ put_by_session c ds else c ∷ d ∷ ds) ≡ cond (c.session == j) (c ∷ of_session j (d ∷ ds)) (of_session j (d ∷ ds))
     go true less ih = ap (λ xs. cond (d.session == j) (d ∷ xs) xs) ih ∙ swap (d.session == j) (c.session == j) (of_session j ds) (λ e f. grind (arith, nat_tests))
     go false less ih = refl
 
@@ -45,7 +46,8 @@ group_pick (p ∷ ps) n j = go (p.0 == n) (group_pick ps n j)
     none true xs ys e = e
     none false xs ys e = e
 
-    go : (b : Bool) → of_session j (group_of ps n) ≡ filter_map (pick n j) ps → of_session j (if b then put_by_session p.1 (group_of ps n) else group_of ps n) ≡ cons_option (if (p.1.session == j) && b then Some p.1 else None) (filter_map (pick n j) ps)
+    go : (b : Bool) → of_session j (group_of ps n) ≡ filter_map (pick n j) ps → of_session j (if b then put_by_session p.1 (group_of ps n) else group_of ps n) ≡ cons_option
+        (if (p.1.session == j) && b then Some p.1 else None) (filter_map (pick n j) ps)
     go true ih = put_pick p.1 (group_of ps n) j ∙ both (p.1.session == j) (of_session j (group_of ps n)) (filter_map (pick n j) ps) ih
     go false ih = none (p.1.session == j) (of_session j (group_of ps n)) (filter_map (pick n j) ps) ih
 
@@ -63,7 +65,8 @@ group_here n g gs = ap (λ b. if b then g else group_from (suc n) gs n) (same_nu
 pub group_later : (n i : ℕ) (g : Group) (gs : History) → group_from n (g ∷ gs) (n + suc i) ≡ group_from (suc n) gs (suc n + i)
 group_later n i g gs = ap (λ b. if b then g else group_from (suc n) gs (n + suc i)) (differs n (n + suc i) (omega arith)) ∙ ap (group_from (suc n) gs) (plus_suc n i)
 
-pub groups_pair : (ps : List (ℕ × Commit)) (gs : History) (n : ℕ) → ((i j : ℕ) → of_session j (group_from n gs (n + i)) ≡ of_session j (group_of ps (n + i))) → SameGroups gs (map (group_of ps) (numbers_from n (length gs)))
+pub groups_pair : (ps : List (ℕ × Commit)) (gs : History) (n : ℕ) → ((i j : ℕ) → of_session j (group_from n gs (n + i)) ≡ of_session j (group_of ps (n + i))) →
+    SameGroups gs (map (group_of ps) (numbers_from n (length gs)))
 groups_pair ps [] n f = tt
 groups_pair ps (g ∷ gs) n f = (
   λ j. ap (of_session j) (sym (group_here n g gs) ∙ ap (group_from n (g ∷ gs)) (sym (plus_zero n))) ∙ f zero j ∙ ap (λ m. of_session j (group_of ps m)) (plus_zero n),
@@ -77,7 +80,8 @@ group_within first (g ∷ gs) n = cases (first == n)
     (λ e. let same : first ≡ n = (Decides-eqb first n).0 e in inl (omega (arith, same), omega (arith, same)))
     (λ e. go e (group_within (suc first) gs n))
   where
-    go : (first == n) ≡ false → ((suc first ≤ n) × (n < suc first + length gs)) ⊎ (group_from (suc first) gs n ≡ []) → ((first ≤ n) × (n < first + suc (length gs))) ⊎ (group_from first (g ∷ gs) n ≡ [])
+    go : (first == n) ≡ false → ((suc first ≤ n) × (n < suc first + length gs)) ⊎ (group_from (suc first) gs n ≡ []) →
+        ((first ≤ n) × (n < first + suc (length gs))) ⊎ (group_from first (g ∷ gs) n ≡ [])
     go e (inl k) = let a : suc first ≤ n = k.0 in let b : n < suc first + length gs = k.1 in inl (omega (arith, a), omega (arith, b))
     go e (inr k) = inr (ap (λ b. if b then g else group_from (suc first) gs n) e ∙ k)
 
@@ -93,7 +97,8 @@ pub commits_numbers : (earlier xs : List Said) → map (λ p. p.0) (commits_from
 commits_numbers earlier [] = refl
 commits_numbers earlier (x ∷ xs) = go (committed x) (commits_numbers (x ∷ earlier) xs)
   where
-    go : (o : Option ℕ) → map (λ p. p.0) (commits_from (x ∷ earlier) xs) ≡ filter_map committed xs → map (λ p. p.0) (cons_option (option_map (λ c. (c, commit_by earlier x)) o) (commits_from (x ∷ earlier) xs)) ≡ cons_option o (filter_map committed xs)
+    go : (o : Option ℕ) → map (λ p. p.0) (commits_from (x ∷ earlier) xs) ≡ filter_map committed xs →
+        map (λ p. p.0) (cons_option (option_map (λ c. (c, commit_by earlier x)) o) (commits_from (x ∷ earlier) xs)) ≡ cons_option o (filter_map committed xs)
     go None e = e
     go (Some c) e = ap (λ ns. c ∷ ns) e
 
@@ -165,7 +170,9 @@ all_within (g ∷ gs) ps i m = first_picked (group_at (g ∷ gs) (1 + length gs)
 pub greatest_is : (h : History) (all : List Said) → IsHistory h → Matches h (commits all) → length h ≡ greatest_commit all
 greatest_is h all i m = equal_both (length h) (greatest_commit all)
     (subst (λ ns. length h ≤ greatest ns) (commits_numbers [] all) (all_within h (commits all) i m))
-    (subst (λ ns. greatest ns ≤ length h) (commits_numbers [] all) (greatest_within (length h) (map (λ p. p.0) (commits all)) (each_map (λ n. n ≤ length h) (λ p. p.0) (commits all) (each_keeps _ _ (λ p k. k.1) (commits all) (numbers_within h (commits all) m)))))
+    (subst (λ ns. greatest ns ≤ length h) (commits_numbers [] all)
+    (greatest_within (length h) (map (λ p. p.0) (commits all))
+    (each_map (λ n. n ≤ length h) (λ p. p.0) (commits all) (each_keeps _ _ (λ p k. k.1) (commits all) (numbers_within h (commits all) m)))))
 
 pub same_printed : (h : History) (all : List Said) → IsHistory h → Matches h (commits all) → SameGroups h (history_of all)
 same_printed h all i m =

@@ -121,17 +121,23 @@ add_nothing m n z e f = omega (arith, e, f)
 
 -- ---- the totals
 
-pub counts_are : (mode : Mode) (buckets sessions : ℕ) (h : History) (logs closed : ℕ → List LogEntry) (P : (ℕ → List LogEntry) → Record → Line → Type 0) (records : List Record) (lines : List Line) (totals : Totals) → ((ls : ℕ → List LogEntry) (r : Record) (line : Line) → P ls r line → AsCollected mode r.session r.statement line.reply.answer) → Each (CountsFor sessions) records →
-    Logged buckets h logs → Follows buckets P (λ j. []) (λ j. None) records lines logs → ((j : ℕ) → Closes (logs j) (closed j)) → IsCounted sessions h closed (said_from [] records lines) totals → AreTotals (said_from [] records lines) (history_of (said_from [] records lines)) totals
+pub counts_are : (mode : Mode) (buckets sessions : ℕ) (h : History) (logs closed : ℕ → List LogEntry) (P : (ℕ → List LogEntry) → Record → Line → Type 0) (records : List Record)
+    (lines : List Line) (totals : Totals) → ((ls : ℕ → List LogEntry) (r : Record) (line : Line) → P ls r line → AsCollected mode r.session r.statement line.reply.answer) →
+    Each (CountsFor sessions) records →
+    Logged buckets h logs → Follows buckets P (λ j. []) (λ j. None) records lines logs → ((j : ℕ) → Closes (logs j) (closed j)) →
+    IsCounted sessions h closed (said_from [] records lines) totals → AreTotals (said_from [] records lines) (history_of (said_from [] records lines)) totals
 counts_are mode buckets sessions h logs closed P records lines totals gc within logged follows c t =
     let all : List Said = said_from [] records lines in
     let k : History = history_of all in
     let places = places_of buckets logged.some in
-    let told = lines_told mode buckets h k logs all P (λ j l. ⊤) (λ j e l q. tt) places gc records lines (λ j. []) logs [] (λ j. ties_nothing j) (λ j. None) (λ j. left_nothing j) follows logged.judged logged.replied (λ j. tt) in
+    let told = lines_told mode buckets h k logs all P (λ j l. ⊤) (λ j e l q. tt) places gc records lines (λ j. []) logs [] (λ j. ties_nothing j) (λ j. None)
+    (λ j. left_nothing j) follows logged.judged logged.replied (λ j. tt) in
     let m : Matches h (commits all) = matches_all buckets h logs all logged told.1 in
     let tidy : (j : ℕ) → IsTidyBetween (logs j) = follows_tidy buckets h logs P records lines (λ j. []) logs (λ j. None) follows logged.judged logged.replied (λ j. (tt, refl)) in
-    let counted = λ (test : ℕ → ℕ → Bool). add_nothing (length (filter (passes test) (printed_firsts all))) (sum_to sessions (λ j. first_by (test j) (logs j))) (sum_to sessions (λ j. 0)) (sum_none sessions)
-    (lines_counted mode buckets sessions h k logs all test P places gc records lines (λ j. []) logs [] (λ j. ties_nothing j) (λ j. None) (λ j. left_nothing j) within follows logged.judged logged.replied) in
+    let counted = λ (test : ℕ → ℕ → Bool). add_nothing (length (filter (passes test) (printed_firsts all))) (sum_to sessions (λ j. first_by (test j) (logs j)))
+    (sum_to sessions (λ j. 0)) (sum_none sessions)
+    (lines_counted mode buckets sessions h k logs all test P places gc records lines (λ j. []) logs [] (λ j. ties_nothing j) (λ j. None)
+    (λ j. left_nothing j) within follows logged.judged logged.replied) in
     record {
       made =
           t.made
@@ -155,10 +161,13 @@ counts_are mode buckets sessions h logs closed P records lines totals gc within 
 
 -- ---- a replay
 
-pub replay_whole : (buckets sessions top : ℕ) (h : History) (logs closed : ℕ → List LogEntry) (script : Script) (printed : Printed) → HasReplayed buckets sessions h logs top script.records printed.lines → ((j : ℕ) → Closes (logs j) (closed j)) → IsCounted sessions h closed (said_from [] script.records printed.lines) printed.totals → IsSound replay script printed
+pub replay_whole : (buckets sessions top : ℕ) (h : History) (logs closed : ℕ → List LogEntry) (script : Script) (printed : Printed) →
+    HasReplayed buckets sessions h logs top script.records printed.lines → ((j : ℕ) → Closes (logs j) (closed j)) →
+    IsCounted sessions h closed (said_from [] script.records printed.lines) printed.totals → IsSound replay script printed
 replay_whole buckets sessions top h logs closed script printed r c t = record {
   lines = replay_sound buckets sessions top h logs script printed.lines r;
-  totals = counts_are replay buckets sessions h logs closed (IsMet sessions) script.records printed.lines printed.totals (λ ls q line m. met_collected sessions q.session ls q.statement line.reply.answer m)
+  totals = counts_are replay buckets sessions h logs closed (IsMet sessions) script.records printed.lines printed.totals
+      (λ ls q line m. met_collected sessions q.session ls q.statement line.reply.answer m)
       (each_keeps (λ (q : Record). (1 ≤ q.session) × (q.session ≤ sessions)) (CountsFor sessions) (λ q k. inl k) script.records r.within) r.logged r.follows c t;
 }
 
@@ -170,7 +179,9 @@ run_counts : (rounds sessions : ℕ) (records : List Record) → Each (λ (q : R
 run_counts rounds sessions records w =
     subst (Each (CountsFor sessions)) (sym (in_order_is rounds records))
     (each_append (CountsFor sessions) (flat_map (λ j. of_session j records) (sessions_of records)) _ (by_session (sessions_of records))
-    (each_append (CountsFor sessions) (rounds_of kinds.Group rounds) _ (of_rounds kinds.Group (numbers_from 1 rounds)) (each_append (CountsFor sessions) (rounds_of kinds.Table rounds) (rounds_of kinds.Interval rounds) (of_rounds kinds.Table (numbers_from 1 rounds)) (of_rounds kinds.Interval (numbers_from 1 rounds)))))
+    (each_append (CountsFor sessions) (rounds_of kinds.Group rounds) _ (of_rounds kinds.Group (numbers_from 1 rounds))
+    (each_append (CountsFor sessions) (rounds_of kinds.Table rounds) (rounds_of kinds.Interval rounds) (of_rounds kinds.Table (numbers_from 1 rounds))
+    (of_rounds kinds.Interval (numbers_from 1 rounds)))))
   where
     of_rounds : (kind : Kind) (ns : List ℕ) → Each (CountsFor sessions) (map (λ n. record { place = n; session = 0; statement = Gc kind }) ns)
     of_rounds kind [] = tt
@@ -178,13 +189,17 @@ run_counts rounds sessions records w =
 
     by_session : (js : List ℕ) → Each (CountsFor sessions) (flat_map (λ j. of_session j records) js)
     by_session [] = tt
-    by_session (j ∷ js) = each_append (CountsFor sessions) (of_session j records) (flat_map (λ i. of_session i records) js) (each_filter (CountsFor sessions) (λ (q : Record). q.session == j) records (each_keeps (λ (q : Record). (1 ≤ q.session) × (q.session ≤ sessions)) (CountsFor sessions) (λ q k. inl k) records w)) (by_session js)
+    by_session (j ∷ js) = each_append (CountsFor sessions) (of_session j records) (flat_map (λ i. of_session i records) js)
+        (each_filter (CountsFor sessions) (λ (q : Record). q.session == j) records (each_keeps (λ (q : Record). (1 ≤ q.session) × (q.session ≤ sessions)) (CountsFor sessions)
+        (λ q k. inl k) records w)) (by_session js)
 
-pub run_whole : (buckets sessions : ℕ) (h : History) (logs closed : ℕ → List LogEntry) (rounds : ℕ) (script : Script) (lines : ℕ → List Line) (group table interval : List Report) (totals : Totals) → HasRun buckets h logs rounds script.records lines group table interval → Each (λ (q : Record). q.session ≤ sessions) script.records → ((j : ℕ) → Closes (logs j) (closed j)) →
+pub run_whole : (buckets sessions : ℕ) (h : History) (logs closed : ℕ → List LogEntry) (rounds : ℕ) (script : Script) (lines : ℕ → List Line) (group table interval : List Report)
+    (totals : Totals) → HasRun buckets h logs rounds script.records lines group table interval → Each (λ (q : Record). q.session ≤ sessions) script.records → ((j : ℕ) → Closes (logs j) (closed j)) →
     let printed : List Line = run_lines script.records lines group table interval in
     IsCounted sessions h closed (said_from [] (in_order (run rounds) script.records) printed) totals → IsSound (run rounds) script (record { lines = printed; totals = totals })
 run_whole buckets sessions h logs closed rounds script lines group table interval totals r w c t = record {
   lines = run_sound buckets h logs rounds script lines group table interval r;
   totals = counts_are (run rounds) buckets sessions h logs closed (RunsGc rounds) (in_order (run rounds) script.records) (run_lines script.records lines group table interval) totals (λ ls q line m. m)
-      (run_counts rounds sessions script.records (each_pairs (λ (q : Record). 1 ≤ q.session) (λ q. q.session ≤ sessions) script.records r.numbered w)) r.logged (run_follows buckets h logs rounds script.records lines group table interval r) c t;
+      (run_counts rounds sessions script.records (each_pairs (λ (q : Record). 1 ≤ q.session) (λ q. q.session ≤ sessions) script.records r.numbered w)) r.logged
+      (run_follows buckets h logs rounds script.records lines group table interval r) c t;
 }

@@ -131,7 +131,12 @@ says_close j now l l1 o c mine ends_by tr cur at own numbers known begun made = 
   begun = λ d told e h. begun d told e (sym (close_begun o d told.number l1) ∙ h);
   published = λ n.
       close_made o n j l1 ∙ ap (λ cs. cs ++ made_at n o (commit_in j l1)) (made n)
-      ∙ (λ i. published n j l ++ made_at n (sym ends_by i) (record { session = sym mine i; transaction = sym tr i; at = (ap snapshot_number cur ∙ sym at) i; images = last_images ((own_is l1 c cur ∙ ap (λ m. writes_in m l1) (sym tr) ∙ sym (close_writes o now.transaction l1)) i) }));
+      ∙ (λ i. published n j l ++ made_at n (sym ends_by i) (record {
+        session = sym mine i;
+        transaction = sym tr i;
+        at = (ap snapshot_number cur ∙ sym at) i;
+        images = last_images ((own_is l1 c cur ∙ ap (λ m. writes_in m l1) (sym tr) ∙ sym (close_writes o now.transaction l1)) i);
+      }));
 }
 
 -- ---- a get, put, del or scan in a transaction
@@ -139,7 +144,8 @@ says_close j now l l1 o c mine ends_by tr cur at own numbers known begun made = 
 abbrev pub reply_of : Option ℕ → Answer → Option ℕ → Reply
 reply_of at a number = record { at = at; answer = a; number = number }
 
-pub says_within : (l after : List LogEntry) (opened : Said) (nxt : ℕ) (r : Record) (at : Option ℕ) (a : Answer) (number : Option ℕ) → Adds l after (stored_by r.statement a) a → IsAccessAnswer a → committed_by r.statement a ≡ None → at ≡ None → number ≡ None → opened.transaction ≡ begans l →
+pub says_within : (l after : List LogEntry) (opened : Said) (nxt : ℕ) (r : Record) (at : Option ℕ) (a : Answer) (number : Option ℕ) → Adds l after (stored_by r.statement a) a →
+    IsAccessAnswer a → committed_by r.statement a ≡ None → at ≡ None → number ≡ None → opened.transaction ≡ begans l →
     Says r.session (standing (Some opened) nxt r (reply_of at a number)) l after
 says_within l after opened nxt r at a number adds kind ends no_at no_number tr =
     let now : Said = standing (Some opened) nxt r (reply_of at a number) in
@@ -152,15 +158,19 @@ says_within l after opened nxt r at a number adds kind ends no_at no_number tr =
           let k = adds.known n h in (
             k.0,
             each_present (λ m. m ≤ n) (snapshot_of now) (committed now ∷ newer_of now ∷ []) (each_none (λ m. m ≤ n) (snapshot_of now) (access_snapshot a at kind ∙ no_at))
-                (each_present (λ m. m ≤ n) (committed now) (newer_of now ∷ []) (each_none (λ m. m ≤ n) (committed now) ends_by) (each_present (λ m. m ≤ n) (newer_of now) [] (access_newer n a k.1) tt)),
+                (each_present (λ m. m ≤ n) (committed now) (newer_of now ∷ []) (each_none (λ m. m ≤ n) (committed now) ends_by)
+                (each_present (λ m. m ≤ n) (newer_of now) [] (access_newer n a k.1) tt)),
           );
       begun = λ d told k h. inr (sym (adds.begun d told.number) ∙ h);
-      published = λ n. adds.made n r.session ∙ sym (ap (λ o. published n r.session l ++ made_at n o (record { session = now.session; transaction = now.transaction; at = now.at; images = last_images (writes_in now.transaction after) })) ends_by ∙ append_nil (published n r.session l));
+      published = λ n. adds.made n r.session ∙ sym (ap (λ o. published n r.session l ++ made_at n o
+          (record { session = now.session; transaction = now.transaction; at = now.at; images = last_images (writes_in now.transaction after) })) ends_by ∙ append_nil (published n r.session l));
     }
 
-pub says_inside : (buckets : ℕ) (u : Unprinted) (l : List LogEntry) (opened : Said) (nxt : ℕ) (r : Record) (at : Option ℕ) (a : Answer) (number : Option ℕ) → IsTrue (is_access r.statement) → FitsAnswer buckets u (own_writes l) r.statement a → at ≡ None → number ≡ None → opened.transaction ≡ begans l →
+pub says_inside : (buckets : ℕ) (u : Unprinted) (l : List LogEntry) (opened : Said) (nxt : ℕ) (r : Record) (at : Option ℕ) (a : Answer) (number : Option ℕ) →
+    IsTrue (is_access r.statement) → FitsAnswer buckets u (own_writes l) r.statement a → at ≡ None → number ≡ None → opened.transaction ≡ begans l →
     Says r.session (standing (Some opened) nxt r (reply_of at a number)) l (own_entries buckets u r.statement a ++ l)
-says_inside buckets u l opened nxt r at a number e f no_at no_number tr = says_within l (own_entries buckets u r.statement a ++ l) opened nxt r at a number (adds_access buckets u (own_writes l) r.statement a l e f) (access_answer buckets u (own_writes l) r.statement a e f) (access_commits r.statement a e) no_at no_number tr
+says_inside buckets u l opened nxt r at a number e f no_at no_number tr = says_within l (own_entries buckets u r.statement a ++ l) opened nxt r at a number
+    (adds_access buckets u (own_writes l) r.statement a l e f) (access_answer buckets u (own_writes l) r.statement a e f) (access_commits r.statement a e) no_at no_number tr
 
 pub no_end_opens : (b : Bool) (s : Said) → b ≡ false → (if b then None else Some s) ≡ Some s
 no_end_opens true s e = absurd (let k : true ≡ false = e in cc)
@@ -169,7 +179,8 @@ no_end_opens false s e = refl
 pub some_number : (n m : ℕ) → n ≡ m → 0 < m → nat_lt 0 n ≡ true
 some_number n m e h = (Decides-ltb 0 n).1 (omega (arith, e, h))
 
-pub stands_within : (l after : List LogEntry) (c : Snapshot) (opened : Said) (nxt : ℕ) (r : Record) (at : Option ℕ) (a : Answer) (number : Option ℕ) → Adds l after (stored_by r.statement a) a → is_end r.statement ≡ false → current l ≡ Some c → StandsIn (Some opened) (Some c) (begans l) →
+pub stands_within : (l after : List LogEntry) (c : Snapshot) (opened : Said) (nxt : ℕ) (r : Record) (at : Option ℕ) (a : Answer) (number : Option ℕ) →
+    Adds l after (stored_by r.statement a) a → is_end r.statement ≡ false → current l ≡ Some c → StandsIn (Some opened) (Some c) (begans l) →
     Stands (standing (Some opened) nxt r (reply_of at a number)) after
 stands_within l after c opened nxt r at a number adds goes_on cur s =
     let now : Said = standing (Some opened) nxt r (reply_of at a number) in
@@ -180,19 +191,23 @@ stands_within l after c opened nxt r at a number adds goes_on cur s =
           (subst (λ o. StandsIn (Some now) o (begans after)) (sym (adds.same ∙ cur)) (s.0 ∙ sym adds.count, s.1));
     }
 
-pub stands_inside : (buckets : ℕ) (u : Unprinted) (l : List LogEntry) (c : Snapshot) (opened : Said) (nxt : ℕ) (r : Record) (at : Option ℕ) (a : Answer) (number : Option ℕ) → IsTrue (is_access r.statement) → FitsAnswer buckets u (own_writes l) r.statement a → current l ≡ Some c → StandsIn (Some opened) (Some c) (begans l) →
+pub stands_inside : (buckets : ℕ) (u : Unprinted) (l : List LogEntry) (c : Snapshot) (opened : Said) (nxt : ℕ) (r : Record) (at : Option ℕ) (a : Answer) (number : Option ℕ) →
+    IsTrue (is_access r.statement) → FitsAnswer buckets u (own_writes l) r.statement a → current l ≡ Some c → StandsIn (Some opened) (Some c) (begans l) →
     Stands (standing (Some opened) nxt r (reply_of at a number)) (own_entries buckets u r.statement a ++ l)
-stands_inside buckets u l c opened nxt r at a number e f cur s = stands_within l (own_entries buckets u r.statement a ++ l) c opened nxt r at a number (adds_access buckets u (own_writes l) r.statement a l e f) (access_no_end r.statement e) cur s
+stands_inside buckets u l c opened nxt r at a number e f cur s = stands_within l (own_entries buckets u r.statement a ++ l) c opened nxt r at a number
+    (adds_access buckets u (own_writes l) r.statement a l e f) (access_no_end r.statement e) cur s
 
 -- ---- and outside
 
 -- a line that prints the snapshot
-pub shows_it : (d : Bool) (told : Told) (now : Said) (s : ℕ) → told.session ≡ now.session → snapshot_of now ≡ Some s → ((s == told.number) && (if d then is_declared now.scope else true)) ≡ true → shows_begun d told now ≡ true
+pub shows_it : (d : Bool) (told : Told) (now : Said) (s : ℕ) → told.session ≡ now.session → snapshot_of now ≡ Some s →
+    ((s == told.number) && (if d then is_declared now.scope else true)) ≡ true → shows_begun d told now ≡ true
 shows_it d told now s e f h =
     (λ i. ((now.session == e i) && option_map_or (λ n. n == told.number) (f i) false) && (if d then is_declared now.scope else true))
     ∙ ap (λ b. (b && (s == told.number)) && (if d then is_declared now.scope else true)) (same_number now.session) ∙ h
 
-pub says_outside : (buckets : ℕ) (u : Unprinted) (l : List LogEntry) (r : Record) (s : ℕ) (a : Answer) (number : Option ℕ) (nxt : ℕ) → IsTrue (is_access r.statement) → FitsAnswer buckets u (own_writes l) r.statement a → nxt ≡ suc (begans l) →
+pub says_outside : (buckets : ℕ) (u : Unprinted) (l : List LogEntry) (r : Record) (s : ℕ) (a : Answer) (number : Option ℕ) (nxt : ℕ) → IsTrue (is_access r.statement) →
+    FitsAnswer buckets u (own_writes l) r.statement a → nxt ≡ suc (begans l) →
     Says r.session (standing None nxt r (reply_of (Some s) a number)) l (close number ++ (own_entries buckets u r.statement a ++ (Began s (only (table_of r.statement)) ∷ l)))
 says_outside buckets u l r s a number nxt e f tr =
     let l0 : List LogEntry = Began s (only (table_of r.statement)) ∷ l in
@@ -208,16 +223,20 @@ says_outside buckets u l r s a number nxt e f tr =
     let m = adds.known n h in (
       m.0.1,
       each_present (λ i. i ≤ n) (snapshot_of now) (committed now ∷ newer_of now ∷ []) (each_some (λ i. i ≤ n) (snapshot_of now) s snap m.0.0)
-          (each_present (λ i. i ≤ n) (committed now) (newer_of now ∷ []) (subst (λ o. Each (λ i. i ≤ n) (cons_option o [])) (sym ends_by) k) (each_present (λ i. i ≤ n) (newer_of now) [] (access_newer n a m.1) tt)),
+          (each_present (λ i. i ≤ n) (committed now) (newer_of now ∷ []) (subst (λ o. Each (λ i. i ≤ n) (cons_option o [])) (sym ends_by) k)
+          (each_present (λ i. i ≤ n) (newer_of now) [] (access_newer n a m.1) tt)),
     ))
     (λ d told k h. go d told k snap (or_cases ((s == told.number) && (if d then is_declared (only (table_of r.statement)) else true)) (began_at d told.number l) (sym (adds.begun d told.number) ∙ h)))
     (λ n. adds.made n r.session)
   where
-    go : (d : Bool) (told : Told) → told.session ≡ r.session → snapshot_of (standing None nxt r (reply_of (Some s) a number)) ≡ Some s → (((s == told.number) && (if d then is_declared (only (table_of r.statement)) else true)) ≡ true) ⊎ (began_at d told.number l ≡ true) → (shows_begun d told (standing None nxt r (reply_of (Some s) a number)) ≡ true) ⊎ (began_at d told.number l ≡ true)
+    go : (d : Bool) (told : Told) → told.session ≡ r.session → snapshot_of (standing None nxt r (reply_of (Some s) a number)) ≡ Some s →
+        (((s == told.number) && (if d then is_declared (only (table_of r.statement)) else true)) ≡ true) ⊎ (began_at d told.number l ≡ true) →
+        (shows_begun d told (standing None nxt r (reply_of (Some s) a number)) ≡ true) ⊎ (began_at d told.number l ≡ true)
     go d told k snap (inl b) = inl (shows_it d told (standing None nxt r (reply_of (Some s) a number)) s k snap b)
     go d told k snap (inr b) = inr b
 
-pub stands_outside : (buckets : ℕ) (u : Unprinted) (l : List LogEntry) (r : Record) (s : ℕ) (a : Answer) (number : Option ℕ) (nxt : ℕ) → IsTrue (is_access r.statement) → FitsAnswer buckets u (own_writes l) r.statement a → nxt ≡ suc (begans l) →
+pub stands_outside : (buckets : ℕ) (u : Unprinted) (l : List LogEntry) (r : Record) (s : ℕ) (a : Answer) (number : Option ℕ) (nxt : ℕ) → IsTrue (is_access r.statement) →
+    FitsAnswer buckets u (own_writes l) r.statement a → nxt ≡ suc (begans l) →
     Stands (standing None nxt r (reply_of (Some s) a number)) (close number ++ (own_entries buckets u r.statement a ++ (Began s (only (table_of r.statement)) ∷ l)))
 stands_outside buckets u l r s a number nxt e f tr =
     let l0 : List LogEntry = Began s (only (table_of r.statement)) ∷ l in
@@ -244,10 +263,12 @@ says_begin last l place j scope at s number =
       numbers = λ x. sym (ap (λ o. cond (now.transaction == x) (cons_option o (numbers_in x l)) (numbers_in x l)) none ∙ cond_same (now.transaction == x) (numbers_in x l));
       known = λ n h. (h.1, (h.0, each_present (λ m. m ≤ n) (committed now) (None ∷ []) (each_none (λ m. m ≤ n) (committed now) none) tt));
       begun = λ d told k h. go d told k (or_cases ((s == told.number) && (if d then is_declared scope else true)) (began_at d told.number l) h);
-      published = λ n. sym (ap (λ o. published n j l ++ made_at n o (record { session = now.session; transaction = now.transaction; at = now.at; images = last_images (writes_in now.transaction (Began s scope ∷ l)) })) none ∙ append_nil (published n j l));
+      published = λ n. sym (ap (λ o. published n j l ++ made_at n o
+          (record { session = now.session; transaction = now.transaction; at = now.at; images = last_images (writes_in now.transaction (Began s scope ∷ l)) })) none ∙ append_nil (published n j l));
     }
   where
-    go : (d : Bool) (told : Told) → told.session ≡ j → (((s == told.number) && (if d then is_declared scope else true)) ≡ true) ⊎ (began_at d told.number l ≡ true) → (shows_begun d told (said_after last (record_of place j (Begin scope)) (reply_of at (Begun s) number) (Begin scope)) ≡ true) ⊎ (began_at d told.number l ≡ true)
+    go : (d : Bool) (told : Told) → told.session ≡ j → (((s == told.number) && (if d then is_declared scope else true)) ≡ true) ⊎ (began_at d told.number l ≡ true) →
+        (shows_begun d told (said_after last (record_of place j (Begin scope)) (reply_of at (Begun s) number) (Begin scope)) ≡ true) ⊎ (began_at d told.number l ≡ true)
     go d told k (inl b) = inl (shows_it d told (said_after last (record_of place j (Begin scope)) (reply_of at (Begun s) number) (Begin scope)) s k refl b)
     go d told k (inr b) = inr b
 
@@ -268,10 +289,13 @@ says_open last l place j table low high at s number =
       numbers = λ x. sym (ap (λ o. cond (now.transaction == x) (cons_option o (numbers_in x l)) (numbers_in x l)) none ∙ cond_same (now.transaction == x) (numbers_in x l));
       known = λ n h. (h.1, (h.0, each_present (λ m. m ≤ n) (committed now) (None ∷ []) (each_none (λ m. m ≤ n) (committed now) none) tt));
       begun = λ d told k h. go d told k (or_cases ((s == told.number) && (if d then is_declared (only (Some table)) else true)) (began_at d told.number l) h);
-      published = λ n. sym (ap (λ o. published n j l ++ made_at n o (record { session = now.session; transaction = now.transaction; at = now.at; images = last_images (writes_in now.transaction (Began s (only (Some table)) ∷ l)) })) none ∙ append_nil (published n j l));
+      published = λ n. sym (ap (λ o. published n j l ++ made_at n o
+          (record { session = now.session; transaction = now.transaction; at = now.at; images = last_images (writes_in now.transaction (Began s (only (Some table)) ∷ l)) })) none ∙
+          append_nil (published n j l));
     }
   where
-    go : (d : Bool) (told : Told) → told.session ≡ j → (((s == told.number) && (if d then is_declared (only (Some table)) else true)) ≡ true) ⊎ (began_at d told.number l ≡ true) → (shows_begun d told (said_after last (record_of place j (CursorOpen table low high)) (reply_of at (Begun s) number) (CursorOpen table low high)) ≡ true) ⊎ (began_at d told.number l ≡ true)
+    go : (d : Bool) (told : Told) → told.session ≡ j → (((s == told.number) && (if d then is_declared (only (Some table)) else true)) ≡ true) ⊎ (began_at d told.number l ≡ true) →
+        (shows_begun d told (said_after last (record_of place j (CursorOpen table low high)) (reply_of at (Begun s) number) (CursorOpen table low high)) ≡ true) ⊎ (began_at d told.number l ≡ true)
     go d told k (inl b) = inl (shows_it d told (said_after last (record_of place j (CursorOpen table low high)) (reply_of at (Begun s) number) (CursorOpen table low high)) s k refl b)
     go d told k (inr b) = inr b
 
@@ -281,29 +305,34 @@ stands_open last l place j table low high at s number next = record { some = som
 
 -- ---- commit and rollback: the end of the open transaction
 
-pub says_end : (opened : Said) (nxt : ℕ) (l l1 : List LogEntry) (c : Snapshot) (place j : ℕ) (s : Statement) (at : Option ℕ) (a : Answer) (number o : Option ℕ) → stored_by s a ≡ None → snapshot_in a at ≡ None → newer_in a ≡ None → committed_by s a ≡ o → Adds l l1 None Stored → current l ≡ Some c → StandsIn (Some opened) (Some c) (begans l) →
+pub says_end : (opened : Said) (nxt : ℕ) (l l1 : List LogEntry) (c : Snapshot) (place j : ℕ) (s : Statement) (at : Option ℕ) (a : Answer) (number o : Option ℕ) →
+    stored_by s a ≡ None → snapshot_in a at ≡ None → newer_in a ≡ None → committed_by s a ≡ o → Adds l l1 None Stored → current l ≡ Some c → StandsIn (Some opened) (Some c) (begans l) →
     Says j (standing (Some opened) nxt (record_of place j s) (reply_of at a number)) l (close o ++ l1)
 says_end opened nxt l l1 c place j s at a number o no_write no_snapshot no_newer ends_by adds cur st =
     let now : Said = standing (Some opened) nxt (record_of place j s) (reply_of at a number) in
     says_close j now l l1 o c refl ends_by (st.0 ∙ sym adds.count) (adds.same ∙ cur) st.1.0
-    (λ x. adds.writes x ∙ cond_same (begans l == x) (writes_in x l) ∙ sym (ap (λ w. cond (now.transaction == x) (cons_option w (writes_in x l)) (writes_in x l)) no_write ∙ cond_same (now.transaction == x) (writes_in x l)))
+    (λ x. adds.writes x ∙ cond_same (begans l == x) (writes_in x l) ∙ sym (ap (λ w. cond (now.transaction == x) (cons_option w (writes_in x l)) (writes_in x l)) no_write ∙
+    cond_same (now.transaction == x) (writes_in x l)))
     adds.numbers
     (λ n h k. (
       (adds.known n h).0,
       each_present (λ i. i ≤ n) (snapshot_of now) (committed now ∷ newer_of now ∷ []) (each_none (λ i. i ≤ n) (snapshot_of now) no_snapshot)
-          (each_present (λ i. i ≤ n) (committed now) (newer_of now ∷ []) (subst (λ p. Each (λ i. i ≤ n) (cons_option p [])) (sym ends_by) k) (each_present (λ i. i ≤ n) (newer_of now) [] (each_none (λ i. i ≤ n) (newer_of now) no_newer) tt)),
+          (each_present (λ i. i ≤ n) (committed now) (newer_of now ∷ []) (subst (λ p. Each (λ i. i ≤ n) (cons_option p [])) (sym ends_by) k)
+          (each_present (λ i. i ≤ n) (newer_of now) [] (each_none (λ i. i ≤ n) (newer_of now) no_newer) tt)),
     ))
     (λ d told k h. inr (sym (adds.begun d told.number) ∙ h))
     (λ n. adds.made n j)
 
-pub stands_end : (opened : Said) (nxt : ℕ) (l l1 : List LogEntry) (c : Snapshot) (place j : ℕ) (s : Statement) (reply : Reply) (o : Option ℕ) → is_end s ≡ true → Adds l l1 None Stored → current l ≡ Some c → StandsIn (Some opened) (Some c) (begans l) →
+pub stands_end : (opened : Said) (nxt : ℕ) (l l1 : List LogEntry) (c : Snapshot) (place j : ℕ) (s : Statement) (reply : Reply) (o : Option ℕ) → is_end s ≡ true →
+    Adds l l1 None Stored → current l ≡ Some c → StandsIn (Some opened) (Some c) (begans l) →
     Stands (standing (Some opened) nxt (record_of place j s) reply) (close o ++ l1)
 stands_end opened nxt l l1 c place j s reply o e adds cur st =
     let now : Said = standing (Some opened) nxt (record_of place j s) reply in
     record {
       some = some_number opened.transaction (begans l) st.0 (begans_positive l c cur);
       number = st.0 ∙ sym (close_count o l1 ∙ adds.count);
-      standing = subst (λ b. StandsIn (if b then None else Some now) (current (close o ++ l1)) (begans (close o ++ l1))) (sym e) (subst (λ q. StandsIn None q (begans (close o ++ l1))) (sym (close_current o l1)) tt);
+      standing = subst (λ b. StandsIn (if b then None else Some now) (current (close o ++ l1)) (begans (close o ++ l1))) (sym e)
+          (subst (λ q. StandsIn None q (begans (close o ++ l1))) (sym (close_current o l1)) tt);
     }
 
 pub adds_undone : (rids : List Rid) (l : List LogEntry) → Adds l (map Undid rids ++ l) None Stored
@@ -334,8 +363,10 @@ says_gc last l place j kind at a number no_at no_number f =
       known = λ n h. (
         h,
         each_present (λ m. m ≤ n) (snapshot_of now) (committed now ∷ newer_of now ∷ []) (each_none (λ m. m ≤ n) (snapshot_of now) (gc_snapshot a at f ∙ no_at))
-            (each_present (λ m. m ≤ n) (committed now) (newer_of now ∷ []) (each_none (λ m. m ≤ n) (committed now) none) (each_present (λ m. m ≤ n) (newer_of now) [] (each_none (λ m. m ≤ n) (newer_of now) (gc_newer a f)) tt)),
+            (each_present (λ m. m ≤ n) (committed now) (newer_of now ∷ []) (each_none (λ m. m ≤ n) (committed now) none)
+            (each_present (λ m. m ≤ n) (newer_of now) [] (each_none (λ m. m ≤ n) (newer_of now) (gc_newer a f)) tt)),
       );
       begun = λ d told k h. inr h;
-      published = λ n. sym (ap (λ o. published n j l ++ made_at n o (record { session = now.session; transaction = now.transaction; at = now.at; images = last_images (writes_in now.transaction l) })) none ∙ append_nil (published n j l));
+      published = λ n. sym (ap (λ o. published n j l ++ made_at n o
+          (record { session = now.session; transaction = now.transaction; at = now.at; images = last_images (writes_in now.transaction l) })) none ∙ append_nil (published n j l));
     }

@@ -77,10 +77,12 @@ first_writes_is (Over ∷ l) = first_writes_is l
 
 -- ---- the entries of a statement
 
-pub first_saws : (test : ℕ → Bool) (buckets : ℕ) (t : TableId) (low high : ℕ) (part : ℕ → List (ℕ × List Value)) (n : ℕ) (l : List LogEntry) → first_by test (saws buckets t low high part n ++ l) ≡ first_by test l
+pub first_saws : (test : ℕ → Bool) (buckets : ℕ) (t : TableId) (low high : ℕ) (part : ℕ → List (ℕ × List Value)) (n : ℕ) (l : List LogEntry) →
+    first_by test (saws buckets t low high part n ++ l) ≡ first_by test l
 first_saws test buckets t low high part n l = saws_keep (λ m. first_by test m ≡ first_by test l) buckets t low high part n l (λ b rows m e. e) refl
 
-pub first_access : (test : ℕ → Bool) (buckets : ℕ) (u : Unprinted) (own : List Write) (s : Statement) (a : Answer) (l : List LogEntry) → IsTrue (is_access s) → FitsAnswer buckets u own s a → first_by test (own_entries buckets u s a ++ l) ≡ first_with test (begans l) (own_writes l) (stored_by s a) (first_by test l)
+pub first_access : (test : ℕ → Bool) (buckets : ℕ) (u : Unprinted) (own : List Write) (s : Statement) (a : Answer) (l : List LogEntry) → IsTrue (is_access s) →
+    FitsAnswer buckets u own s a → first_by test (own_entries buckets u s a ++ l) ≡ first_with test (begans l) (own_writes l) (stored_by s a) (first_by test l)
 first_access test buckets u own (Get r) (Found row) l e f = refl
 first_access test buckets u own (Get r) Nothing l e f = refl
 first_access test buckets u own (Get r) (Undeclared t) l e f = refl
@@ -109,17 +111,20 @@ pub first_undone : (test : ℕ → Bool) (rids : List Rid) (l : List LogEntry) �
 first_undone test [] l = refl
 first_undone test (r ∷ rids) l = first_undone test rids l
 
-first_looks : (test : ℕ → Bool) (buckets : ℕ) (t : TableId) (low high : ℕ) (part : ℕ → List (ℕ × List Value)) (n : ℕ) (l : List LogEntry) → first_by test (looks buckets t low high part n ++ l) ≡ first_by test l
+first_looks : (test : ℕ → Bool) (buckets : ℕ) (t : TableId) (low high : ℕ) (part : ℕ → List (ℕ × List Value)) (n : ℕ) (l : List LogEntry) →
+    first_by test (looks buckets t low high part n ++ l) ≡ first_by test l
 first_looks test buckets t low high part zero l = refl
 first_looks test buckets t low high part (suc n) l = first_looks test buckets t low high part n l
 
-first_fetch : (test : ℕ → Bool) (buckets : ℕ) (rest : Option Rest) (part : ℕ → List (ℕ × List Value)) (looked : ℕ) (a : Answer) (l : List LogEntry) → first_by test (fetch_entries buckets rest part looked a ++ l) ≡ first_by test l
+first_fetch : (test : ℕ → Bool) (buckets : ℕ) (rest : Option Rest) (part : ℕ → List (ℕ × List Value)) (looked : ℕ) (a : Answer) (l : List LogEntry) →
+    first_by test (fetch_entries buckets rest part looked a ++ l) ≡ first_by test l
 first_fetch test buckets (Some rest) part looked (Rows rows) l = first_looks test buckets rest.table rest.low rest.high part looked l
 first_fetch test buckets (Some rest) part looked _ l = refl
 first_fetch test buckets None part looked a l = refl
 
 -- the entries of another statement have no write
-pub first_plain : (test : ℕ → Bool) (buckets : ℕ) (u : Unprinted) (s : Statement) (a : Answer) (l : List LogEntry) → is_access s ≡ false → (first_by test (own_entries buckets u s a ++ l) ≡ first_by test l) × (stored_by s a ≡ None)
+pub first_plain : (test : ℕ → Bool) (buckets : ℕ) (u : Unprinted) (s : Statement) (a : Answer) (l : List LogEntry) → is_access s ≡ false →
+    (first_by test (own_entries buckets u s a ++ l) ≡ first_by test l) × (stored_by s a ≡ None)
 first_plain test buckets u (Begin scope) (Begun n) l e = (refl, refl)
 first_plain test buckets u (Begin scope) _ l e = (refl, refl)
 first_plain test buckets u (CursorOpen table low high) (Begun n) l e = (refl, refl)
@@ -141,26 +146,30 @@ first_plain test buckets u (Scan t low high) a l e = absurd (true_false e)
 abbrev pub IsCountedLine : (ℕ → Bool) → List Said → Said → List LogEntry → List LogEntry → Type 0
 IsCountedLine test earlier now l after = first_by test after ≡ first_with test now.transaction (own_before earlier now) (stored now) (first_by test l)
 
-pub line_access : (test : ℕ → Bool) (buckets : ℕ) (earlier : List Said) (u : Unprinted) (l : List LogEntry) (place j : ℕ) (s : Statement) (reply : Reply) → Ties j earlier l → is_access s ≡ true → FitsAnswer buckets u (own_writes l) s reply.answer →
+pub line_access : (test : ℕ → Bool) (buckets : ℕ) (earlier : List Said) (u : Unprinted) (l : List LogEntry) (place j : ℕ) (s : Statement) (reply : Reply) → Ties j earlier l →
+    is_access s ≡ true → FitsAnswer buckets u (own_writes l) s reply.answer →
     (o : Option Said) (c : Option Snapshot) → open_of j earlier ≡ o → current l ≡ c → StandsIn o c (begans l) →
     IsCountedLine test earlier (standing o (next_after (last_of j earlier)) (record_of place j s) reply) l (log_with (is_alone c s) buckets u s reply l)
 line_access test buckets earlier u l place j s reply ties e f None (Some c) p q st = absurd st
 line_access test buckets earlier u l place j s reply ties e f (Some opened) None p q st = absurd st
 line_access test buckets earlier u l place j s reply ties e f (Some opened) (Some c) p q st =
     let now : Said = standing (Some opened) (next_after (last_of j earlier)) (record_of place j s) reply in
-    first_access test buckets u (own_writes l) s reply.answer l e f ∙ (λ i. first_with test (sym st.0 i) (sym (inside_own j earlier l c now ties refl st.0 q) i) (stored_by s reply.answer) (first_by test l))
+    first_access test buckets u (own_writes l) s reply.answer l e f ∙
+    (λ i. first_with test (sym st.0 i) (sym (inside_own j earlier l c now ties refl st.0 q) i) (stored_by s reply.answer) (first_by test l))
 line_access test buckets earlier u l place j s reply ties e f None None p q st =
     let nxt : ℕ = next_after (last_of j earlier) in
     let now : Said = standing None nxt (record_of place j s) reply in
     let l0 : List LogEntry = Began (unwrap_or reply.at 0) (only (table_of s)) ∷ l in
     let fresh : own_before earlier now ≡ [] = ties.own nxt ∙ writes_above nxt l (above nxt (begans l) ties.next) in
-    ap (λ b. first_by test (log_with b buckets u s reply l)) e ∙ first_close test reply.number (own_entries buckets u s reply.answer ++ l0) ∙ first_access test buckets u (own_writes l) s reply.answer l0 e f
+    ap (λ b. first_by test (log_with b buckets u s reply l)) e ∙ first_close test reply.number (own_entries buckets u s reply.answer ++ l0) ∙
+    first_access test buckets u (own_writes l) s reply.answer l0 e f
     ∙ (λ i. first_with test (sym ties.next i) (sym fresh i) (stored_by s reply.answer) (first_by test l))
 
 pub first_with_none : (test : ℕ → Bool) (x : ℕ) (own : List Write) (o : Option Write) (rest : ℕ) → o ≡ None → rest ≡ first_with test x own o rest
 first_with_none test x own o rest e = ap (λ p. first_with test x own p rest) (sym e)
 
-pub line_plain : (test : ℕ → Bool) (buckets : ℕ) (earlier : List Said) (u : Unprinted) (l : List LogEntry) (r : Record) (reply : Reply) → is_access r.statement ≡ false → IsCountedLine test earlier (said earlier r reply) l (log_after buckets u r.statement reply l)
+pub line_plain : (test : ℕ → Bool) (buckets : ℕ) (earlier : List Said) (u : Unprinted) (l : List LogEntry) (r : Record) (reply : Reply) → is_access r.statement ≡ false →
+    IsCountedLine test earlier (said earlier r reply) l (log_after buckets u r.statement reply l)
 line_plain test buckets earlier u l r reply e =
     let now : Said = said earlier r reply in
     let says = said_says (last_of r.session earlier) r reply r.statement in
@@ -168,11 +177,16 @@ line_plain test buckets earlier u l r reply e =
     ap (λ b. first_by test (log_with b buckets u r.statement reply l)) (not_alone (current l) r.statement e) ∙ plain.0
     ∙ first_with_none test now.transaction (own_before earlier now) (stored now) (first_by test l) ((λ i. stored_by (says.1 i) (says.2 i).answer) ∙ plain.1)
 
-pub line_counted : (test : ℕ → Bool) (buckets : ℕ) (earlier : List Said) (u : Unprinted) (l : List LogEntry) (place j : ℕ) (s : Statement) (reply : Reply) → Ties j earlier l → Fits buckets u l s reply → IsCountedLine test earlier (said earlier (record_of place j s) reply) l (log_after buckets u s reply l)
-line_counted test buckets earlier u l place j (Get r) reply ties f = line_access test buckets earlier u l place j (Get r) reply ties refl f.answer (open_of j earlier) (current l) refl refl ties.standing
-line_counted test buckets earlier u l place j (Put r row) reply ties f = line_access test buckets earlier u l place j (Put r row) reply ties refl f.answer (open_of j earlier) (current l) refl refl ties.standing
-line_counted test buckets earlier u l place j (Del r) reply ties f = line_access test buckets earlier u l place j (Del r) reply ties refl f.answer (open_of j earlier) (current l) refl refl ties.standing
-line_counted test buckets earlier u l place j (Scan t low high) reply ties f = line_access test buckets earlier u l place j (Scan t low high) reply ties refl f.answer (open_of j earlier) (current l) refl refl ties.standing
+pub line_counted : (test : ℕ → Bool) (buckets : ℕ) (earlier : List Said) (u : Unprinted) (l : List LogEntry) (place j : ℕ) (s : Statement) (reply : Reply) → Ties j earlier l →
+    Fits buckets u l s reply → IsCountedLine test earlier (said earlier (record_of place j s) reply) l (log_after buckets u s reply l)
+line_counted test buckets earlier u l place j (Get r) reply ties f = line_access test buckets earlier u l place j (Get r) reply ties refl f.answer (open_of j earlier)
+    (current l) refl refl ties.standing
+line_counted test buckets earlier u l place j (Put r row) reply ties f = line_access test buckets earlier u l place j (Put r row) reply ties refl f.answer (open_of j earlier)
+    (current l) refl refl ties.standing
+line_counted test buckets earlier u l place j (Del r) reply ties f = line_access test buckets earlier u l place j (Del r) reply ties refl f.answer (open_of j earlier)
+    (current l) refl refl ties.standing
+line_counted test buckets earlier u l place j (Scan t low high) reply ties f = line_access test buckets earlier u l place j (Scan t low high) reply ties refl f.answer
+    (open_of j earlier) (current l) refl refl ties.standing
 line_counted test buckets earlier u l place j s reply ties f = line_plain test buckets earlier u l (record_of place j s) reply refl
 
 -- ---- all lines
@@ -229,10 +243,14 @@ sum_with n j d f g (inr p) none there here =
     nothing_more : (a b c : ℕ) → b ≡ a + c → c ≡ 0 → b ≡ a
     nothing_more a b c e z = omega (arith, e, z)
 
-pub lines_counted : (mode : Mode) (buckets sessions : ℕ) (h k : History) (all_logs : ℕ → List LogEntry) (all : List Said) (test : ℕ → ℕ → Bool) (P : (ℕ → List LogEntry) → Record → Line → Type 0) → ((r : Rid) → bucket_of buckets r < buckets) → ((logs : ℕ → List LogEntry) (r : Record) (line : Line) → P logs r line → AsCollected mode r.session r.statement line.reply.answer) →
-    (rs : List Record) (lines : List Line) (logs final : ℕ → List LogEntry) (earlier : List Said) → ((j : ℕ) → Ties j earlier (logs j)) → (left : ℕ → Option Rest) → ((j : ℕ) → ShowsRest j earlier (left j)) → Each (CountsFor sessions) rs → Follows buckets P logs left rs lines final → ((j : ℕ) → Judged h (final j)) → ((j : ℕ) → AreReplied buckets h all_logs j (final j)) →
+pub lines_counted : (mode : Mode) (buckets sessions : ℕ) (h k : History) (all_logs : ℕ → List LogEntry) (all : List Said) (test : ℕ → ℕ → Bool) (P : (ℕ → List LogEntry) → Record →
+    Line → Type 0) → ((r : Rid) → bucket_of buckets r < buckets) → ((logs : ℕ → List LogEntry) (r : Record) (line : Line) → P logs r line → AsCollected mode r.session r.statement line.reply.answer) →
+    (rs : List Record) (lines : List Line) (logs final : ℕ → List LogEntry) (earlier : List Said) → ((j : ℕ) → Ties j earlier (logs j)) → (left : ℕ → Option Rest) →
+    ((j : ℕ) → ShowsRest j earlier (left j)) → Each (CountsFor sessions) rs → Follows buckets P logs left rs lines final → ((j : ℕ) → Judged h (final j)) →
+    ((j : ℕ) → AreReplied buckets h all_logs j (final j)) →
     length (filter (passes test) (first_writes_from earlier (said_from earlier rs lines))) + sum_to sessions (λ j. first_by (test j) (logs j)) ≡ sum_to sessions (λ j. first_by (test j) (final j))
-lines_counted mode buckets sessions h k all_logs all test P places gc [] [] logs final earlier t left shown w f d g = let same = sum_same sessions (λ j. first_by (test j) (final j)) (λ j. first_by (test j) (logs j)) (λ j le. ap (first_by (test j)) (sym (f j))) in omega (arith, same)
+lines_counted mode buckets sessions h k all_logs all test P places gc [] [] logs final earlier t left shown w f d g = let same = sum_same sessions
+    (λ j. first_by (test j) (final j)) (λ j. first_by (test j) (logs j)) (λ j le. ap (first_by (test j)) (sym (f j))) in omega (arith, same)
 lines_counted mode buckets sessions h k all_logs all test P places gc [] (line ∷ lines) logs final earlier t left shown w f d g = absurd f
 lines_counted mode buckets sessions h k all_logs all test P places gc (r ∷ rs) [] logs final earlier t left shown w f d g = absurd f
 lines_counted mode buckets sessions h k all_logs all test P places gc (r ∷ rs) (line ∷ lines) logs final earlier t left shown w f d g =
@@ -240,19 +258,28 @@ lines_counted mode buckets sessions h k all_logs all test P places gc (r ∷ rs)
     let l : List LogEntry = logs r.session in
     let after : List LogEntry = log_after buckets f.1.0 r.statement line.reply l in
     let next : ℕ → List LogEntry = put logs r.session after in
-    let judged : Judged h after = subst (Judged h) (put_here logs r.session after) (follows_first (λ j l. Judged h l) (judged_less h) buckets P rs lines next final (put left r.session (rest_after r.statement line.reply.answer (left r.session))) f.1.2 d r.session) in
-    let replied : AreReplied buckets h all_logs r.session after = subst (AreReplied buckets h all_logs r.session) (put_here logs r.session after) (follows_first (AreReplied buckets h all_logs) (replied_less buckets h all_logs) buckets P rs lines next final (put left r.session (rest_after r.statement line.reply.answer (left r.session))) f.1.2 g r.session) in
+    let judged : Judged h after = subst (Judged h) (put_here logs r.session after) (follows_first (λ j l. Judged h l) (judged_less h) buckets P rs lines next final
+    (put left r.session (rest_after r.statement line.reply.answer (left r.session))) f.1.2 d r.session) in
+    let replied : AreReplied buckets h all_logs r.session after = subst (AreReplied buckets h all_logs r.session) (put_here logs r.session after)
+    (follows_first (AreReplied buckets h all_logs) (replied_less buckets h all_logs) buckets P rs lines next final
+    (put left r.session (rest_after r.statement line.reply.answer (left r.session))) f.1.2 g r.session) in
     let right : Right h all_logs mode k all earlier now r.session after =
-    line_right mode buckets h k all_logs all earlier f.1.0 l r.place r.session r.statement line.reply places (t r.session) f.1.1 (gc logs r line f.0) judged replied (left r.session) (shown r.session) f.1.3 in
+    line_right mode buckets h k all_logs all earlier f.1.0 l r.place r.session r.statement line.reply places (t r.session) f.1.1 (gc logs r line f.0) judged replied
+    (left r.session) (shown r.session) f.1.3 in
     let says = said_says (last_of r.session earlier) r line.reply r.statement in
     let own : List Write = own_before earlier now in
     let more : ℕ = first_more (test now.session) now.transaction own (stored now) in
     let here : first_by (test r.session) (next r.session) ≡ first_by (test r.session) l + more =
     ap (first_by (test r.session)) (put_here logs r.session after) ∙ line_counted (test r.session) buckets earlier f.1.0 l r.place r.session r.statement line.reply (t r.session) f.1.1
-    ∙ first_adds (test r.session) now.transaction own (stored now) (first_by (test r.session) l) ∙ ap (λ j. first_by (test r.session) l + first_more (test j) now.transaction own (stored now)) (sym says.0) in
+    ∙ first_adds (test r.session) now.transaction own (stored now) (first_by (test r.session) l) ∙
+    ap (λ j. first_by (test r.session) l + first_more (test j) now.transaction own (stored now)) (sym says.0) in
     let grown : sum_to sessions (λ j. first_by (test j) (next j)) ≡ sum_to sessions (λ j. first_by (test j) (logs j)) + more =
-    sum_with sessions r.session more (λ j. first_by (test j) (logs j)) (λ j. first_by (test j) (next j)) w.0 (λ e. ap (first_more (test now.session) now.transaction own) ((λ i. stored_by (says.1 i) (says.2 i).answer) ∙ no_write r.statement line.reply.answer e)) (λ j z. ap (first_by (test j)) (put_else logs r.session j after z)) here in
+    sum_with sessions r.session more (λ j. first_by (test j) (logs j)) (λ j. first_by (test j) (next j)) w.0
+    (λ e. ap (first_more (test now.session) now.transaction own) ((λ i. stored_by (says.1 i) (says.2 i).answer) ∙ no_write r.statement line.reply.answer e))
+    (λ j z. ap (first_by (test j)) (put_else logs r.session j after z)) here in
     let rest = lines_counted mode buckets sessions h k all_logs all test P places gc rs lines next final (now ∷ earlier)
-    (by_number r.session (λ i b. Ties i (now ∷ earlier) (if b then after else logs i)) right.ties (λ i e. ties_other i earlier now (logs i) (differs_from now.session r.session i says.0 e) (t i))) (put left r.session (rest_after r.statement line.reply.answer (left r.session))) (left_step earlier r line.reply left shown) w.1 f.1.2 d g in
+    (by_number r.session (λ i b. Ties i (now ∷ earlier) (if b then after else logs i)) right.ties
+    (λ i e. ties_other i earlier now (logs i) (differs_from now.session r.session i says.0 e) (t i)))
+    (put left r.session (rest_after r.statement line.reply.answer (left r.session))) (left_step earlier r line.reply left shown) w.1 f.1.2 d g in
     let step = filter_step (passes test) now own (stored now) (first_writes_from (now ∷ earlier) (said_from (now ∷ earlier) rs lines)) (test now.session) refl in
     omega (arith, step, grown, rest)

@@ -51,7 +51,8 @@ up_to_less n j (Undid r) l k = k
 up_to_less n j Over l k = k
 
 -- what is known of a log's numbers with a reply's entries holds of those before
-pub up_to_before : (buckets : ℕ) (logs : ℕ → List LogEntry) (j : ℕ) (u : Unprinted) (s : Statement) (reply : Reply) (n : ℕ) → AreUpTo n (put logs j (log_after buckets u s reply (logs j))) → AreUpTo n logs
+pub up_to_before : (buckets : ℕ) (logs : ℕ → List LogEntry) (j : ℕ) (u : Unprinted) (s : Statement) (reply : Reply) (n : ℕ) →
+    AreUpTo n (put logs j (log_after buckets u s reply (logs j))) → AreUpTo n logs
 up_to_before buckets logs j u s reply n k =
     let after : List LogEntry = log_after buckets u s reply (logs j) in
     at_index j (λ i. UpTo n (logs i))
@@ -81,7 +82,8 @@ pub none_commits : (n : ℕ) (s : Statement) (a : Answer) (number : Option ℕ) 
 none_commits n s a None e k = subst (λ o. IfSome o (λ c. c ≤ n)) (sym e) tt
 none_commits n s a (Some c) e k = k
 
-pub access_printed : (buckets : ℕ) (u : Unprinted) (l : List LogEntry) (s : Statement) (at : Option ℕ) (a : Answer) (number : Option ℕ) (n : ℕ) (b : Bool) → IsTrue (is_access s) → is_some at ≡ b → is_some number ≡ (b && is_some (stored_by s a)) → FitsAnswer buckets u (own_writes l) s a →
+pub access_printed : (buckets : ℕ) (u : Unprinted) (l : List LogEntry) (s : Statement) (at : Option ℕ) (a : Answer) (number : Option ℕ) (n : ℕ) (b : Bool) → IsTrue (is_access s) →
+    is_some at ≡ b → is_some number ≡ (b && is_some (stored_by s a)) → FitsAnswer buckets u (own_writes l) s a →
     UpTo n (log_with b buckets u s (reply_with at a number) l) → ArePrinted n s (reply_with at a number)
 access_printed buckets u l s at a number n false e fat fnumber f k =
     let is : IsTrue (is_access s) = e in
@@ -100,15 +102,26 @@ access_printed buckets u l s at a number n true e fat fnumber f k =
       commit = none_commits n s a number (access_commits s a e) (of_head (λ m. m ≤ n) number closed.1);
     }
 
-pub begin_printed : (buckets : ℕ) (u : Unprinted) (l : List LogEntry) (scope : Scope) (at : Option ℕ) (a : Answer) (number : Option ℕ) (n : ℕ) → at ≡ None → number ≡ None → IsBegun a → UpTo n (own_entries buckets u (Begin scope) a ++ l) → ArePrinted n (Begin scope) (reply_with at a number)
-begin_printed buckets u l scope at (Begun m) number n no_at no_number f k = record { snapshot = k.0; newer = tt; commit = none_commits n (Begin scope) (Begun m) number refl (subst (λ o. IfSome o (λ c. c ≤ n)) (sym no_number) tt) }
+pub begin_printed : (buckets : ℕ) (u : Unprinted) (l : List LogEntry) (scope : Scope) (at : Option ℕ) (a : Answer) (number : Option ℕ) (n : ℕ) → at ≡ None → number ≡ None →
+    IsBegun a → UpTo n (own_entries buckets u (Begin scope) a ++ l) → ArePrinted n (Begin scope) (reply_with at a number)
+begin_printed buckets u l scope at (Begun m) number n no_at no_number f k = record {
+  snapshot = k.0;
+  newer = tt;
+  commit = none_commits n (Begin scope) (Begun m) number refl (subst (λ o. IfSome o (λ c. c ≤ n)) (sym no_number) tt);
+}
 begin_printed buckets u l scope at _ number n no_at no_number f k = absurd f
 
-pub open_printed : (buckets : ℕ) (u : Unprinted) (l : List LogEntry) (table : TableId) (low high : ℕ) (at : Option ℕ) (a : Answer) (number : Option ℕ) (n : ℕ) → at ≡ None → number ≡ None → IsBegun a → UpTo n (own_entries buckets u (CursorOpen table low high) a ++ l) → ArePrinted n (CursorOpen table low high) (reply_with at a number)
-open_printed buckets u l table low high at (Begun m) number n no_at no_number f k = record { snapshot = k.0; newer = tt; commit = none_commits n (CursorOpen table low high) (Begun m) number refl (subst (λ o. IfSome o (λ c. c ≤ n)) (sym no_number) tt) }
+pub open_printed : (buckets : ℕ) (u : Unprinted) (l : List LogEntry) (table : TableId) (low high : ℕ) (at : Option ℕ) (a : Answer) (number : Option ℕ) (n : ℕ) → at ≡ None →
+    number ≡ None → IsBegun a → UpTo n (own_entries buckets u (CursorOpen table low high) a ++ l) → ArePrinted n (CursorOpen table low high) (reply_with at a number)
+open_printed buckets u l table low high at (Begun m) number n no_at no_number f k = record {
+  snapshot = k.0;
+  newer = tt;
+  commit = none_commits n (CursorOpen table low high) (Begun m) number refl (subst (λ o. IfSome o (λ c. c ≤ n)) (sym no_number) tt);
+}
 open_printed buckets u l table low high at _ number n no_at no_number f k = absurd f
 
-pub fetch_printed : (buckets : ℕ) (u : Unprinted) (l : List LogEntry) (n : ℕ) (at : Option ℕ) (a : Answer) (number : Option ℕ) (m : ℕ) → at ≡ None → number ≡ None → IsFetchAnswer buckets n u.rest u.part u.looked a → UpTo m (own_entries buckets u (Fetch n) a ++ l) → ArePrinted m (Fetch n) (reply_with at a number)
+pub fetch_printed : (buckets : ℕ) (u : Unprinted) (l : List LogEntry) (n : ℕ) (at : Option ℕ) (a : Answer) (number : Option ℕ) (m : ℕ) → at ≡ None → number ≡ None →
+    IsFetchAnswer buckets n u.rest u.part u.looked a → UpTo m (own_entries buckets u (Fetch n) a ++ l) → ArePrinted m (Fetch n) (reply_with at a number)
 fetch_printed buckets u l n at a number m no_at no_number f k =
     let adds = (adds_fetch buckets n u.rest u.part u.looked a l f).known m k in record {
       snapshot = subst (λ o. IfSome o (λ i. i ≤ m)) (sym (access_snapshot a at (fetch_answer buckets n u.rest u.part u.looked a f) ∙ no_at)) tt;
@@ -124,7 +137,8 @@ close_printed at Ended number n no_at no_number f = record {
 }
 close_printed at _ number n no_at no_number f = absurd f
 
-pub commit_printed : (buckets : ℕ) (u : Unprinted) (l : List LogEntry) (wrote : Bool) (at : Option ℕ) (a : Answer) (number : Option ℕ) (n : ℕ) → at ≡ None → number ≡ None → IsCommitted wrote a → UpTo n (own_entries buckets u CommitIt a ++ l) → ArePrinted n CommitIt (reply_with at a number)
+pub commit_printed : (buckets : ℕ) (u : Unprinted) (l : List LogEntry) (wrote : Bool) (at : Option ℕ) (a : Answer) (number : Option ℕ) (n : ℕ) → at ≡ None → number ≡ None →
+    IsCommitted wrote a → UpTo n (own_entries buckets u CommitIt a ++ l) → ArePrinted n CommitIt (reply_with at a number)
 commit_printed buckets u l wrote at (Committed c) number n no_at no_number f k = record {
   snapshot = subst (λ o. IfSome o (λ m. m ≤ n)) (sym no_at) tt;
   newer = tt;
@@ -159,14 +173,16 @@ gc_printed kind at Beside number n no_at no_number f = record {
 gc_printed kind at _ number n no_at no_number f = absurd f
 
 -- a statement that is never a transaction of its own leaves its entries alone
-pub inside_entries : (buckets : ℕ) (u : Unprinted) (l : List LogEntry) (s : Statement) (reply : Reply) (n : ℕ) → is_access s ≡ false → UpTo n (log_after buckets u s reply l) → UpTo n (own_entries buckets u s reply.answer ++ l)
+pub inside_entries : (buckets : ℕ) (u : Unprinted) (l : List LogEntry) (s : Statement) (reply : Reply) (n : ℕ) → is_access s ≡ false → UpTo n (log_after buckets u s reply l) →
+    UpTo n (own_entries buckets u s reply.answer ++ l)
 inside_entries buckets u l s reply n e k = subst (λ b. UpTo n (log_with b buckets u s reply l)) (not_alone (current l) s e) k
 
 pub printed_known : (buckets : ℕ) (u : Unprinted) (l : List LogEntry) (s : Statement) (reply : Reply) (n : ℕ) → Fits buckets u l s reply → UpTo n (log_after buckets u s reply l) → ArePrinted n s reply
 printed_known buckets u l (Get r) reply n f k = access_printed buckets u l (Get r) reply.at reply.answer reply.number n (is_alone (current l) (Get r)) refl f.at f.number f.answer k
 printed_known buckets u l (Put r row) reply n f k = access_printed buckets u l (Put r row) reply.at reply.answer reply.number n (is_alone (current l) (Put r row)) refl f.at f.number f.answer k
 printed_known buckets u l (Del r) reply n f k = access_printed buckets u l (Del r) reply.at reply.answer reply.number n (is_alone (current l) (Del r)) refl f.at f.number f.answer k
-printed_known buckets u l (Scan t low high) reply n f k = access_printed buckets u l (Scan t low high) reply.at reply.answer reply.number n (is_alone (current l) (Scan t low high)) refl f.at f.number f.answer k
+printed_known buckets u l (Scan t low high) reply n f k = access_printed buckets u l (Scan t low high) reply.at reply.answer reply.number n
+    (is_alone (current l) (Scan t low high)) refl f.at f.number f.answer k
 printed_known buckets u l (Begin scope) reply n f k =
     let none = bare buckets u l (Begin scope) reply refl f in
     begin_printed buckets u l scope reply.at reply.answer reply.number n none.0 none.1 f.answer (inside_entries buckets u l (Begin scope) reply n refl k)
@@ -212,7 +228,8 @@ each_from_option P None xs k = (tt, k)
 each_from_option P (Some x) xs k = (k.0, k.1)
 
 -- what top_after is over
-pub after_covers : (top : ℕ) (s : Statement) (reply : Reply) → (top ≤ top_after top s reply) × IfSome (commit_in s reply) (λ c. c ≤ top_after top s reply) × Each (λ m. m ≤ top_after top s reply) (reads_in reply)
+pub after_covers : (top : ℕ) (s : Statement) (reply : Reply) → (top ≤ top_after top s reply) × IfSome (commit_in s reply) (λ c. c ≤ top_after top s reply) ×
+    Each (λ m. m ≤ top_after top s reply) (reads_in reply)
 after_covers top s reply =
     let next : ℕ = top_after top s reply in
     let all : Each (λ m. m ≤ next) (top ∷ cons_option (commit_in s reply) (reads_in reply)) = each_greatest (top ∷ cons_option (commit_in s reply) (reads_in reply)) next (omega arith) in
@@ -233,7 +250,8 @@ after_within n top s reply up p mark =
     reads a b c ka kb kc = front a (b ∷ c ∷ []) ka (front b (c ∷ []) kb (front c [] kc tt))
 
 -- a reply that is fresh in the logs is timely
-pub fresh_timely : (logs : ℕ → List LogEntry) (seen later top : ℕ) (s : Statement) (reply : Reply) → ((n : ℕ) → IsOver logs seen n → top ≤ n) → IsFreshIn logs seen later s reply → IsTimely top (top_after top s reply) s reply
+pub fresh_timely : (logs : ℕ → List LogEntry) (seen later top : ℕ) (s : Statement) (reply : Reply) → ((n : ℕ) → IsOver logs seen n → top ≤ n) → IsFreshIn logs seen later s reply →
+    IsTimely top (top_after top s reply) s reply
 fresh_timely logs seen later top s reply known f =
     let next : ℕ = top_after top s reply in
     let covers = after_covers top s reply in
@@ -257,9 +275,11 @@ fresh_timely logs seen later top s reply known f =
 
 -- After the next record, where its line shows what is open in the logs as they stand before it. Only the log of the record's
 -- session has gone on.
-pub following_more : (buckets sessions : ℕ) (logs : ℕ → List LogEntry) (seen later top : ℕ) (rs : List Record) (lines : List Line) (r : Record) (line : Line) (u : Unprinted) → IsFollowing buckets sessions logs seen top rs lines →
+pub following_more : (buckets sessions : ℕ) (logs : ℕ → List LogEntry) (seen later top : ℕ) (rs : List Record) (lines : List Line) (r : Record) (line : Line) (u : Unprinted) →
+    IsFollowing buckets sessions logs seen top rs lines →
     1 ≤ r.session → r.session ≤ sessions → line.session ≡ r.session → line.place ≡ r.place →
-    Fits buckets u (logs r.session) r.statement line.reply → HasRest r.statement u.rest (left_after (λ j. None) rs lines r.session) → IsMetAnswer sessions logs r.statement line.reply.answer → IsFreshIn logs seen later r.statement line.reply →
+    Fits buckets u (logs r.session) r.statement line.reply → HasRest r.statement u.rest (left_after (λ j. None) rs lines r.session) →
+    IsMetAnswer sessions logs r.statement line.reply.answer → IsFreshIn logs seen later r.statement line.reply →
     IsFollowing buckets sessions (put logs r.session (log_after buckets u r.statement line.reply (logs r.session))) later (top_after top r.statement line.reply) (rs ++ r ∷ []) (lines ++ line ∷ [])
 following_more buckets sessions logs seen later top rs lines r line u g some most session place fits left met fresh = record {
   within = each_snoc (λ (r : Record). (1 ≤ r.session) × (r.session ≤ sessions)) rs r g.within (some, most);
@@ -280,7 +300,8 @@ following_more buckets sessions logs seen later top rs lines r line u g some mos
 -- ---- at the end
 
 -- where the history is known at last
-pub following_ends : (buckets sessions : ℕ) (h : History) (logs : ℕ → List LogEntry) (seen top : ℕ) (rs : List Record) (lines : List Line) → IsFollowing buckets sessions logs seen top rs lines → Logged buckets h logs → seen ≤ length h → HasReplayed buckets sessions h logs top rs lines
+pub following_ends : (buckets sessions : ℕ) (h : History) (logs : ℕ → List LogEntry) (seen top : ℕ) (rs : List Record) (lines : List Line) →
+    IsFollowing buckets sessions logs seen top rs lines → Logged buckets h logs → seen ≤ length h → HasReplayed buckets sessions h logs top rs lines
 following_ends buckets sessions h logs seen top rs lines g logged saw = record {
   logged = logged;
   within = g.within;

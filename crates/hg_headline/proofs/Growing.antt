@@ -67,7 +67,8 @@ plain_published top n j (Undid r) l p = refl
 plain_published top n j Over l p = refl
 
 -- an entry that is right may be logged
-pub logged_entry : (buckets : ℕ) (h : History) (logs : ℕ → List LogEntry) (j : ℕ) (e : LogEntry) → Logged buckets h logs → IsPlainEntry (length h) e → Judge h e (logs j) → IsReplied buckets h logs j e (logs j) → Logged buckets h (put logs j (e ∷ logs j))
+pub logged_entry : (buckets : ℕ) (h : History) (logs : ℕ → List LogEntry) (j : ℕ) (e : LogEntry) → Logged buckets h logs → IsPlainEntry (length h) e → Judge h e (logs j) →
+    IsReplied buckets h logs j e (logs j) → Logged buckets h (put logs j (e ∷ logs j))
 logged_entry buckets h logs j e g p d q = record {
   some = g.some;
   history = g.history;
@@ -75,7 +76,8 @@ logged_entry buckets h logs j e g p d q = record {
   judged = by_number j (λ k b. Judged h (if b then e ∷ logs j else logs k)) (d, g.judged j) (λ k z. g.judged k);
   replied = replies_entry buckets h logs j e (plain_number (length h) e p) g.within q g.replied;
   within = by_number j (λ k b. UpTo (length h) (if b then e ∷ logs j else logs k)) (plain_within (length h) e (logs j) p (g.within j)) (λ k z. g.within k);
-  commits = λ n. by_number j (λ k b. of_session k (group_at h n) ≡ published n k (if b then e ∷ logs j else logs k)) (g.commits n j ∙ sym (plain_published (length h) n j e (logs j) p)) (λ k z. g.commits n k);
+  commits = λ n. by_number j (λ k b. of_session k (group_at h n) ≡ published n k (if b then e ∷ logs j else logs k)) (g.commits n j ∙
+      sym (plain_published (length h) n j e (logs j) p)) (λ k z. g.commits n k);
 }
 
 pub put_twice : (logs : ℕ → List LogEntry) (j : ℕ) (l m : List LogEntry) → put (put logs j l) j m ≡ put logs j m
@@ -89,15 +91,18 @@ pub put_same : (logs : ℕ → List LogEntry) (j : ℕ) → put logs j (logs j) 
 put_same logs j = λ i k. by_number j (λ k b. (if b then logs j else logs k) ≡ logs k) refl (λ k z. refl) k i
 
 -- and on top of others of the session
-pub logged_on : (buckets : ℕ) (h : History) (logs : ℕ → List LogEntry) (j : ℕ) (e : LogEntry) (l : List LogEntry) → Logged buckets h (put logs j l) → IsPlainEntry (length h) e → Judge h e l → IsReplied buckets h (put logs j l) j e l → Logged buckets h (put logs j (e ∷ l))
+pub logged_on : (buckets : ℕ) (h : History) (logs : ℕ → List LogEntry) (j : ℕ) (e : LogEntry) (l : List LogEntry) → Logged buckets h (put logs j l) → IsPlainEntry (length h) e →
+    Judge h e l → IsReplied buckets h (put logs j l) j e l → Logged buckets h (put logs j (e ∷ l))
 logged_on buckets h logs j e l g p d q =
     let here : put logs j l j ≡ l = put_here logs j l in
-    let more : Logged buckets h (put (put logs j l) j (e ∷ put logs j l j)) = logged_entry buckets h (put logs j l) j e g p (subst (Judge h e) (sym here) d) (subst (IsReplied buckets h (put logs j l) j e) (sym here) q) in
+    let more : Logged buckets h (put (put logs j l) j (e ∷ put logs j l j)) = logged_entry buckets h (put logs j l) j e g p (subst (Judge h e) (sym here) d)
+    (subst (IsReplied buckets h (put logs j l) j e) (sym here) q) in
     subst (Logged buckets h) (ap (λ m. put (put logs j l) j (e ∷ m)) here ∙ put_twice logs j l (e ∷ l)) more
 
 -- ---- a group more
 
-pub logged_published : (buckets : ℕ) (h : History) (logs : ℕ → List LogEntry) (js : List ℕ) → Logged buckets h logs → NoNumberTwice js → IsGroup (suc (length h)) (new_group logs js) → ((j : ℕ) → IsTrue (is_in js j) → IsPublish (logs j)) → Each (LosesNothing h) (new_group logs js) →
+pub logged_published : (buckets : ℕ) (h : History) (logs : ℕ → List LogEntry) (js : List ℕ) → Logged buckets h logs → NoNumberTwice js →
+    IsGroup (suc (length h)) (new_group logs js) → ((j : ℕ) → IsTrue (is_in js j) → IsPublish (logs j)) → Each (LosesNothing h) (new_group logs js) →
     Logged buckets (h ++ new_group logs js ∷ []) (published_logs logs js (suc (length h)))
 logged_published buckets h logs js g distinct group publish loses = record {
   some = g.some;
@@ -162,7 +167,8 @@ published_one logs j n = λ i k. by_number j (λ k b. (if is_in (j ∷ []) k the
     there k z = let e : (j == k) ≡ false = grind (arith, nat_tests) in ap (λ b. if b || false then Published n ∷ logs k else logs k) e
 
 -- one session publishes
-pub logged_commit : (buckets : ℕ) (h : History) (logs : ℕ → List LogEntry) (j : ℕ) → Logged buckets h logs → IsPublish (logs j) → is_written (own_writes (logs j)) ≡ true → snapshot_number (current (logs j)) ≤ length h → LosesNothing h (commit_in j (logs j)) →
+pub logged_commit : (buckets : ℕ) (h : History) (logs : ℕ → List LogEntry) (j : ℕ) → Logged buckets h logs → IsPublish (logs j) → is_written (own_writes (logs j)) ≡ true →
+    snapshot_number (current (logs j)) ≤ length h → LosesNothing h (commit_in j (logs j)) →
     Logged buckets (h ++ (commit_in j (logs j) ∷ []) ∷ []) (put logs j (Published (suc (length h)) ∷ logs j))
 logged_commit buckets h logs j g publish wrote at loses =
     subst (Logged buckets (h ++ (commit_in j (logs j) ∷ []) ∷ [])) (published_one logs j (suc (length h)))

@@ -9,7 +9,8 @@ use Rattle.hg_core.specs.Events.{put}
 use Rattle.hg_core.proofs.Indices.{by_number}
 use Rattle.hg_headline.proofs.Whole.{said_says, differs_from}
 
-pub left_step : (earlier : List Said) (r : Record) (reply : Reply) (left : ℕ → Option Rest) → ((j : ℕ) → ShowsRest j earlier (left j)) → (j : ℕ) → ShowsRest j (said earlier r reply ∷ earlier) (put left r.session (rest_after r.statement reply.answer (left r.session)) j)
+pub left_step : (earlier : List Said) (r : Record) (reply : Reply) (left : ℕ → Option Rest) → ((j : ℕ) → ShowsRest j earlier (left j)) → (j : ℕ) →
+    ShowsRest j (said earlier r reply ∷ earlier) (put left r.session (rest_after r.statement reply.answer (left r.session)) j)
 left_step earlier r reply left h j =
     let now : Said = said earlier r reply in
     let says = said_says (last_of r.session earlier) r reply r.statement in

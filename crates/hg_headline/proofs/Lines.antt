@@ -26,7 +26,8 @@ use Rattle.hg_core.specs.Logs.{current, begans, own_writes, UpTo}
 use Rattle.hg_core.specs.Judged.{Judged}
 use Rattle.hg_core.specs.Contents.{bucket_of}
 use Rattle.hg_core.specs.Replies.{AreReplied}
-use Rattle.hg_core.specs.Reading.{Unprinted, own_entries, begin_entries, commit_entries, is_access, is_alone, close, log_with, log_after, FitsAnswer, FitsScope, IsGcAnswer, Fits, fetch_entries, IsFetchAnswer, FitsIn, HasRest}
+use Rattle.hg_core.specs.Reading.{Unprinted, own_entries, begin_entries, commit_entries, is_access, is_alone, close, log_with, log_after, FitsAnswer, FitsScope, IsGcAnswer, Fits}
+use Rattle.hg_core.specs.Reading.{fetch_entries, IsFetchAnswer, FitsIn, HasRest}
 use Rattle.hg_core.proofs.Answering.{scope_alone, not_alone}
 use Rattle.hg_core.proofs.Right.{answer_right, fetch_right}
 use Rattle.hg_headline.specs.Timely.{commit_in}
@@ -34,7 +35,8 @@ use Rattle.hg_headline.proofs.Words.{none_of_no, none_is_not_some, some_is_some}
 use Rattle.hg_base.proofs.Resting.{ShowsRest}
 use Rattle.hg_headline.proofs.Ties.{Ties, StandsIn, ties_step, ties_beside}
 use Rattle.hg_headline.proofs.Adds.{adds_nothing, access_answer, access_snapshot, access_commits, adds_fetch, fetch_answer}
-use Rattle.hg_headline.proofs.Entries.{reply_of, record_of, writes_above, own_is, says_inside, stands_inside, says_outside, stands_outside, says_begin, stands_begin, says_end, stands_end, adds_undone, says_gc, gc_snapshot, says_within, stands_within, says_open, stands_open}
+use Rattle.hg_headline.proofs.Entries.{reply_of, record_of, writes_above, own_is, says_inside, stands_inside, says_outside, stands_outside, says_begin, stands_begin, says_end, stands_end}
+use Rattle.hg_headline.proofs.Entries.{adds_undone, says_gc, gc_snapshot, says_within, stands_within, says_open, stands_open}
 use Rattle.hg_headline.proofs.Right.{Reads, StillIn, conflict_right, seen_is}
 
 -- the snapshot of a line is at least what the session's lines before it print
@@ -70,7 +72,8 @@ pub rising_none : (earlier : List Said) (now : Said) → snapshot_of now ≡ Non
 rising_none earlier now e = subst (λ o. IfSome o (λ s. Each (λ n. n ≤ s) (known now.session earlier))) (sym e) tt
 
 pub rising_some : (j : ℕ) (earlier : List Said) (l : List LogEntry) (now : Said) (s : ℕ) → Ties j earlier l → now.session ≡ j → snapshot_of now ≡ Some s → UpTo s l → IsRising earlier now
-rising_some j earlier l now s t mine e h = subst (λ o. IfSome o (λ m. Each (λ n. n ≤ m) (known now.session earlier))) (sym e) (subst (λ i. Each (λ n. n ≤ s) (known i earlier)) (sym mine) (t.known s h))
+rising_some j earlier l now s t mine e h = subst (λ o. IfSome o (λ m. Each (λ n. n ≤ m) (known now.session earlier))) (sym e)
+    (subst (λ i. Each (λ n. n ≤ s) (known i earlier)) (sym mine) (t.known s h))
 
 -- ---- what was judged of a log was judged of its beginning
 
@@ -100,14 +103,17 @@ judged_snapshot h (Over ∷ l) c d e = absurd (none_is_not_some c e)
 
 -- ---- get, put, del and scan
 
-pub inside_own : (j : ℕ) (earlier : List Said) (l : List LogEntry) (c : Snapshot) (now : Said) → Ties j earlier l → now.session ≡ j → now.transaction ≡ begans l → current l ≡ Some c → own_before earlier now ≡ own_writes l
+pub inside_own : (j : ℕ) (earlier : List Said) (l : List LogEntry) (c : Snapshot) (now : Said) → Ties j earlier l → now.session ≡ j → now.transaction ≡ begans l →
+    current l ≡ Some c → own_before earlier now ≡ own_writes l
 inside_own j earlier l c now t mine tr cur = (λ i. stored_in (mine i) (tr i) earlier) ∙ t.own (begans l) ∙ sym (own_is l c cur)
 
 pub above : (m i : ℕ) → m ≡ suc i → i < m
 above m i z = omega (arith, z)
 
-pub access_line : (mode : Mode) (buckets : ℕ) (h k : History) (logs : ℕ → List LogEntry) (all earlier : List Said) (u : Unprinted) (l : List LogEntry) (place j : ℕ) (s : Statement) (at : Option ℕ) (a : Answer) (number : Option ℕ) → ((r : Rid) → bucket_of buckets r < buckets) → Ties j earlier l → is_access s ≡ true → FitsAnswer buckets u (own_writes l) s a →
-    (o : Option Said) (c : Option Snapshot) → open_of j earlier ≡ o → current l ≡ c → StandsIn o c (begans l) → is_some at ≡ is_alone c s → is_some number ≡ (is_alone c s && is_some (stored_by s a)) → IfSome c (λ snapshot. FitsScope snapshot.scope s a) →
+pub access_line : (mode : Mode) (buckets : ℕ) (h k : History) (logs : ℕ → List LogEntry) (all earlier : List Said) (u : Unprinted) (l : List LogEntry) (place j : ℕ) (s : Statement)
+    (at : Option ℕ) (a : Answer) (number : Option ℕ) → ((r : Rid) → bucket_of buckets r < buckets) → Ties j earlier l → is_access s ≡ true → FitsAnswer buckets u (own_writes l) s a →
+    (o : Option Said) (c : Option Snapshot) → open_of j earlier ≡ o → current l ≡ c → StandsIn o c (begans l) → is_some at ≡ is_alone c s →
+    is_some number ≡ (is_alone c s && is_some (stored_by s a)) → IfSome c (λ snapshot. FitsScope snapshot.scope s a) →
     Judged h (log_with (is_alone c s) buckets u s (reply_of at a number) l) → AreReplied buckets h logs j (log_with (is_alone c s) buckets u s (reply_of at a number) l) →
     Right h logs mode k all earlier (standing o (next_after (last_of j earlier)) (record_of place j s) (reply_of at a number)) j (log_with (is_alone c s) buckets u s (reply_of at a number) l)
 access_line mode buckets h k logs all earlier u l place j s at a number places ties e f None (Some c) p q st fat fnumber declared d g = absurd st
@@ -124,7 +130,8 @@ access_line mode buckets h k logs all earlier u l place j s at a number places t
         at = fat;
         number = fnumber;
         snapshot = subst (λ n. n ≤ length k) (sym st.1.0) (subst (λ n. c.at ≤ n) t.count small);
-        answer = subst (λ sees. IsAnswer mode sees (is_written (own_before earlier now)) (rest_in now.session now.transaction earlier) now s) (seen_is h k logs all earlier now (own_writes l) c.at t st.1.0 own)
+        answer = subst (λ sees. IsAnswer mode sees (is_written (own_before earlier now)) (rest_in now.session now.transaction earlier) now s)
+            (seen_is h k logs all earlier now (own_writes l) c.at t st.1.0 own)
             (answer_right mode buckets h logs (is_written (own_before earlier now)) (rest_in now.session now.transaction earlier) u j (own_writes l) s now l c places q st.1.1 e f declared g);
       };
       conflict = λ t still. conflict_right mode buckets h k logs all earlier now u j s l c t refl st.1.0 own still q g;
@@ -132,10 +139,13 @@ access_line mode buckets h k logs all earlier u l place j s at a number places t
       commit = none_or number (committed_by s a) (none_of_no number fnumber);
     }
 access_line mode buckets h k logs all earlier u l place j s at a number places ties e f None None p q st fat fnumber declared d g =
-    subst (λ b. Judged h (log_with b buckets u s (reply_of at a number) l) → AreReplied buckets h logs j (log_with b buckets u s (reply_of at a number) l) → Right h logs mode k all earlier (standing None (next_after (last_of j earlier)) (record_of place j s) (reply_of at a number)) j (log_with b buckets u s (reply_of at a number) l)) (sym e)
+    subst (λ b. Judged h (log_with b buckets u s (reply_of at a number) l) → AreReplied buckets h logs j (log_with b buckets u s (reply_of at a number) l) →
+    Right h logs mode k all earlier (standing None (next_after (last_of j earlier)) (record_of place j s) (reply_of at a number)) j (log_with b buckets u s (reply_of at a number) l)) (sym e)
     (go at (fat ∙ e)) d g
   where
-    go : (at : Option ℕ) → is_some at ≡ true → Judged h (log_with true buckets u s (reply_of at a number) l) → AreReplied buckets h logs j (log_with true buckets u s (reply_of at a number) l) → Right h logs mode k all earlier (standing None (next_after (last_of j earlier)) (record_of place j s) (reply_of at a number)) j (log_with true buckets u s (reply_of at a number) l)
+    go : (at : Option ℕ) → is_some at ≡ true → Judged h (log_with true buckets u s (reply_of at a number) l) →
+        AreReplied buckets h logs j (log_with true buckets u s (reply_of at a number) l) →
+        Right h logs mode k all earlier (standing None (next_after (last_of j earlier)) (record_of place j s) (reply_of at a number)) j (log_with true buckets u s (reply_of at a number) l)
     go None not_there d g = absurd (let z : false ≡ true = not_there in cc)
     go (Some n) is_there d g =
         let now : Said = standing None (next_after (last_of j earlier)) (record_of place j s) (reply_of (Some n) a number) in
@@ -144,7 +154,8 @@ access_line mode buckets h k logs all earlier u l place j s at a number places t
         let l0 : List LogEntry = Began n scope ∷ l in
         let replied : AreReplied buckets h logs j (own_entries buckets u s a ++ l0) = close_replied buckets h logs j number (own_entries buckets u s a ++ l0) g in
         let began : Judged h l0 = append_judged h (own_entries buckets u s a) l0 (close_judged h number (own_entries buckets u s a ++ l0) d) in
-        let fresh : own_before earlier now ≡ [] = ties.own (next_after (last_of j earlier)) ∙ writes_above (next_after (last_of j earlier)) l (above (next_after (last_of j earlier)) (begans l) ties.next) in
+        let fresh : own_before earlier now ≡ [] = ties.own (next_after (last_of j earlier)) ∙
+        writes_above (next_after (last_of j earlier)) l (above (next_after (last_of j earlier)) (begans l) ties.next) in
         record {
           ties = ties_step j earlier now l (close number ++ (own_entries buckets u s a ++ l0)) ties
               (says_outside buckets u l (record_of place j s) n a number (next_after (last_of j earlier)) e f ties.next)
@@ -154,7 +165,8 @@ access_line mode buckets h k logs all earlier u l place j s at a number places t
             number = fnumber ∙ ap (λ b. b && is_some (stored_by s a)) e;
             snapshot = subst (λ m. n ≤ m) t.count began.0.within;
             answer = subst (λ sees. IsAnswer mode sees (is_written (own_before earlier now)) (rest_in now.session now.transaction earlier) now s) (seen_is h k logs all earlier now [] n t refl fresh)
-                (answer_right mode buckets h logs (is_written (own_before earlier now)) (rest_in now.session now.transaction earlier) u j (own_writes l) s now l0 c places refl refl e f (scope_alone s a) replied);
+                (answer_right mode buckets h logs (is_written (own_before earlier now)) (rest_in now.session now.transaction earlier) u j
+                (own_writes l) s now l0 c places refl refl e f (scope_alone s a) replied);
           };
           conflict = λ t still. conflict_right mode buckets h k logs all earlier now u j s l0 c t refl refl fresh still refl replied;
           rising = rising_some j earlier l now n ties refl (access_snapshot a (Some n) (access_answer buckets u (own_writes l) s a e f)) began.0.over;
@@ -170,8 +182,10 @@ bare buckets u l s reply e f = (
   none_of_no reply.number (f.number ∙ ap (λ b. b && is_some (stored_by s reply.answer)) (not_alone (current l) s e)),
 )
 
-pub begin_line : (mode : Mode) (h k : History) (logs : ℕ → List LogEntry) (all earlier : List Said) (l : List LogEntry) (place j : ℕ) (scope : Scope) (at : Option ℕ) (a : Answer) (number : Option ℕ) → Ties j earlier l → at ≡ None → number ≡ None → IsBegun a →
-    Judged h (begin_entries scope a ++ l) → Right h logs mode k all earlier (said_after (last_of j earlier) (record_of place j (Begin scope)) (reply_of at a number) (Begin scope)) j (begin_entries scope a ++ l)
+pub begin_line : (mode : Mode) (h k : History) (logs : ℕ → List LogEntry) (all earlier : List Said) (l : List LogEntry) (place j : ℕ) (scope : Scope) (at : Option ℕ) (a : Answer)
+    (number : Option ℕ) → Ties j earlier l → at ≡ None → number ≡ None → IsBegun a →
+    Judged h (begin_entries scope a ++ l) → Right h logs mode k all earlier (said_after (last_of j earlier) (record_of place j (Begin scope)) (reply_of at a number) (Begin scope))
+    j (begin_entries scope a ++ l)
 begin_line mode h k logs all earlier l place j scope at (Begun n) number ties no_at no_number f d =
     let now : Said = said_after (last_of j earlier) (record_of place j (Begin scope)) (reply_of at (Begun n) number) (Begin scope) in
     record {
@@ -183,12 +197,15 @@ begin_line mode h k logs all earlier l place j scope at (Begun n) number ties no
     }
 begin_line mode h k logs all earlier l place j scope at _ number ties no_at no_number f d = absurd f
 
-pub open_line : (mode : Mode) (h k : History) (logs : ℕ → List LogEntry) (all earlier : List Said) (l : List LogEntry) (place j : ℕ) (table : TableId) (low high : ℕ) (at : Option ℕ) (a : Answer) (number : Option ℕ) → Ties j earlier l → at ≡ None → number ≡ None → IsBegun a →
-    Judged h (begin_entries (only (Some table)) a ++ l) → Right h logs mode k all earlier (said_after (last_of j earlier) (record_of place j (CursorOpen table low high)) (reply_of at a number) (CursorOpen table low high)) j (begin_entries (only (Some table)) a ++ l)
+pub open_line : (mode : Mode) (h k : History) (logs : ℕ → List LogEntry) (all earlier : List Said) (l : List LogEntry) (place j : ℕ) (table : TableId) (low high : ℕ)
+    (at : Option ℕ) (a : Answer) (number : Option ℕ) → Ties j earlier l → at ≡ None → number ≡ None → IsBegun a →
+    Judged h (begin_entries (only (Some table)) a ++ l) → Right h logs mode k all earlier
+    (said_after (last_of j earlier) (record_of place j (CursorOpen table low high)) (reply_of at a number) (CursorOpen table low high)) j (begin_entries (only (Some table)) a ++ l)
 open_line mode h k logs all earlier l place j table low high at (Begun n) number ties no_at no_number f d =
     let now : Said = said_after (last_of j earlier) (record_of place j (CursorOpen table low high)) (reply_of at (Begun n) number) (CursorOpen table low high) in
     record {
-      ties = ties_step j earlier now l (Began n (only (Some table)) ∷ l) ties (says_open (last_of j earlier) l place j table low high at n number) (stands_open (last_of j earlier) l place j table low high at n number ties.next);
+      ties = ties_step j earlier now l (Began n (only (Some table)) ∷ l) ties (says_open (last_of j earlier) l place j table low high at n number)
+          (stands_open (last_of j earlier) l place j table low high at n number ties.next);
       reply = λ t. record { at = ap is_some no_at; number = ap is_some no_number; snapshot = subst (λ m. n ≤ m) t.count d.0.within; answer = tt };
       conflict = λ t still. tt;
       rising = rising_some j earlier l now n ties refl refl d.0.over;
@@ -211,7 +228,8 @@ undone_judged h rids l d = (subst IsSome (undone_current rids l) d.0.opened, app
 pub inside_small : (h k : History) (l : List LogEntry) (c : Snapshot) (at : ℕ) → length h ≡ length k → at ≡ c.at → Judged h l → current l ≡ Some c → at ≤ length k
 inside_small h k l c at count e d q = subst (λ n. n ≤ length k) (sym e) (subst (λ n. c.at ≤ n) count (judged_snapshot h l c d q))
 
-pub commit_line : (mode : Mode) (h k : History) (logs : ℕ → List LogEntry) (all earlier : List Said) (l : List LogEntry) (place j : ℕ) (at : Option ℕ) (a : Answer) (number : Option ℕ) → Ties j earlier l → at ≡ None → number ≡ None → IsCommitted (is_written (own_writes l)) a → Judged h l →
+pub commit_line : (mode : Mode) (h k : History) (logs : ℕ → List LogEntry) (all earlier : List Said) (l : List LogEntry) (place j : ℕ) (at : Option ℕ) (a : Answer)
+    (number : Option ℕ) → Ties j earlier l → at ≡ None → number ≡ None → IsCommitted (is_written (own_writes l)) a → Judged h l →
     (o : Option Said) (c : Option Snapshot) → current l ≡ c → StandsIn o c (begans l) → IsSome c →
     Right h logs mode k all earlier (standing o (next_after (last_of j earlier)) (record_of place j CommitIt) (reply_of at a number)) j (commit_entries a ++ l)
 commit_line mode h k logs all earlier l place j at a number ties no_at no_number f d None None q st is = absurd (let z : false ≡ true = is in cc)
@@ -223,7 +241,12 @@ commit_line mode h k logs all earlier l place j at (Committed n) number ties no_
       ties = ties_step j earlier now l (Over ∷ Published n ∷ l) ties
           (says_end opened (next_after (last_of j earlier)) l l c place j CommitIt at (Committed n) number (Some n) refl no_at refl refl (adds_nothing l Stored tt) q st)
           (stands_end opened (next_after (last_of j earlier)) l l c place j CommitIt (reply_of at (Committed n) number) (Some n) refl (adds_nothing l Stored tt) q st);
-      reply = λ t. record { at = ap is_some no_at; number = ap is_some no_number; snapshot = inside_small h k l c opened.at t.count st.1.0 d q; answer = ap is_written (inside_own j earlier l c now ties refl st.0 q) ∙ f };
+      reply = λ t. record {
+        at = ap is_some no_at;
+        number = ap is_some no_number;
+        snapshot = inside_small h k l c opened.at t.count st.1.0 d q;
+        answer = ap is_written (inside_own j earlier l c now ties refl st.0 q) ∙ f;
+      };
       conflict = λ t still. tt;
       rising = rising_none earlier now no_at;
       commit = none_or number (committed now) no_number;
@@ -234,14 +257,20 @@ commit_line mode h k logs all earlier l place j at Ended number ties no_at no_nu
       ties = ties_step j earlier now l (Over ∷ l) ties
           (says_end opened (next_after (last_of j earlier)) l l c place j CommitIt at Ended number None refl no_at refl refl (adds_nothing l Stored tt) q st)
           (stands_end opened (next_after (last_of j earlier)) l l c place j CommitIt (reply_of at Ended number) None refl (adds_nothing l Stored tt) q st);
-      reply = λ t. record { at = ap is_some no_at; number = ap is_some no_number; snapshot = inside_small h k l c opened.at t.count st.1.0 d q; answer = ap is_written (inside_own j earlier l c now ties refl st.0 q) ∙ f };
+      reply = λ t. record {
+        at = ap is_some no_at;
+        number = ap is_some no_number;
+        snapshot = inside_small h k l c opened.at t.count st.1.0 d q;
+        answer = ap is_written (inside_own j earlier l c now ties refl st.0 q) ∙ f;
+      };
       conflict = λ t still. tt;
       rising = rising_none earlier now no_at;
       commit = none_or number (committed now) no_number;
     }
 commit_line mode h k logs all earlier l place j at _ number ties no_at no_number f d (Some opened) (Some c) q st is = absurd f
 
-pub rollback_line : (mode : Mode) (h k : History) (logs : ℕ → List LogEntry) (all earlier : List Said) (u : Unprinted) (l : List LogEntry) (place j : ℕ) (at : Option ℕ) (a : Answer) (number : Option ℕ) → Ties j earlier l → at ≡ None → number ≡ None → IsUndone a → Judged h l →
+pub rollback_line : (mode : Mode) (h k : History) (logs : ℕ → List LogEntry) (all earlier : List Said) (u : Unprinted) (l : List LogEntry) (place j : ℕ) (at : Option ℕ)
+    (a : Answer) (number : Option ℕ) → Ties j earlier l → at ≡ None → number ≡ None → IsUndone a → Judged h l →
     (o : Option Said) (c : Option Snapshot) → current l ≡ c → StandsIn o c (begans l) → IsSome c →
     Right h logs mode k all earlier (standing o (next_after (last_of j earlier)) (record_of place j Rollback) (reply_of at a number)) j (Over ∷ (map Undid u.undone ++ l))
 rollback_line mode h k logs all earlier u l place j at a number ties no_at no_number f d None None q st is = absurd (let z : false ≡ true = is in cc)
@@ -260,7 +289,8 @@ rollback_line mode h k logs all earlier u l place j at Undone number ties no_at 
     }
 rollback_line mode h k logs all earlier u l place j at _ number ties no_at no_number f d (Some opened) (Some c) q st is = absurd f
 
-pub close_line : (mode : Mode) (h k : History) (logs : ℕ → List LogEntry) (all earlier : List Said) (l : List LogEntry) (place j : ℕ) (at : Option ℕ) (a : Answer) (number : Option ℕ) → Ties j earlier l → at ≡ None → number ≡ None → IsEnded a → Judged h l →
+pub close_line : (mode : Mode) (h k : History) (logs : ℕ → List LogEntry) (all earlier : List Said) (l : List LogEntry) (place j : ℕ) (at : Option ℕ) (a : Answer)
+    (number : Option ℕ) → Ties j earlier l → at ≡ None → number ≡ None → IsEnded a → Judged h l →
     (o : Option Said) (c : Option Snapshot) → current l ≡ c → StandsIn o c (begans l) → IsSome c →
     Right h logs mode k all earlier (standing o (next_after (last_of j earlier)) (record_of place j CursorClose) (reply_of at a number)) j (Over ∷ l)
 close_line mode h k logs all earlier l place j at a number ties no_at no_number f d None None q st is = absurd (let z : false ≡ true = is in cc)
@@ -280,8 +310,10 @@ close_line mode h k logs all earlier l place j at Ended number ties no_at no_num
 close_line mode h k logs all earlier l place j at _ number ties no_at no_number f d (Some opened) (Some c) q st is = absurd f
 
 -- the rows of a fetch are those of what its cursor has left
-pub fetch_line : (mode : Mode) (buckets : ℕ) (h k : History) (logs : ℕ → List LogEntry) (all earlier : List Said) (u : Unprinted) (l : List LogEntry) (place j n : ℕ) (at : Option ℕ) (a : Answer) (number : Option ℕ) → Ties j earlier l → at ≡ None → number ≡ None → IsFetchAnswer buckets n u.rest u.part u.looked a →
-    Judged h (fetch_entries buckets u.rest u.part u.looked a ++ l) → AreReplied buckets h logs j (fetch_entries buckets u.rest u.part u.looked a ++ l) → (left : Option Rest) → ShowsRest j earlier left → u.rest ≡ left →
+pub fetch_line : (mode : Mode) (buckets : ℕ) (h k : History) (logs : ℕ → List LogEntry) (all earlier : List Said) (u : Unprinted) (l : List LogEntry) (place j n : ℕ)
+    (at : Option ℕ) (a : Answer) (number : Option ℕ) → Ties j earlier l → at ≡ None → number ≡ None → IsFetchAnswer buckets n u.rest u.part u.looked a →
+    Judged h (fetch_entries buckets u.rest u.part u.looked a ++ l) → AreReplied buckets h logs j (fetch_entries buckets u.rest u.part u.looked a ++ l) → (left : Option Rest) →
+    ShowsRest j earlier left → u.rest ≡ left →
     (o : Option Said) (c : Option Snapshot) → open_of j earlier ≡ o → current l ≡ c → StandsIn o c (begans l) → FitsIn c (Fetch n) →
     Right h logs mode k all earlier (standing o (next_after (last_of j earlier)) (record_of place j (Fetch n)) (reply_of at a number)) j (fetch_entries buckets u.rest u.part u.looked a ++ l)
 fetch_line mode buckets h k logs all earlier u l place j n at a number ties no_at no_number f d g left shown rest o None p q st inside = absurd (let z : false ≡ true = inside in cc)
@@ -309,7 +341,8 @@ fetch_line mode buckets h k logs all earlier u l place j n at a number ties no_a
       commit = none_or number None no_number;
     }
 
-pub gc_line : (mode : Mode) (h k : History) (logs : ℕ → List LogEntry) (all earlier : List Said) (l : List LogEntry) (place j : ℕ) (kind : Kind) (at : Option ℕ) (a : Answer) (number : Option ℕ) → Ties j earlier l → at ≡ None → number ≡ None → IsGcAnswer a → IsCollected mode j a →
+pub gc_line : (mode : Mode) (h k : History) (logs : ℕ → List LogEntry) (all earlier : List Said) (l : List LogEntry) (place j : ℕ) (kind : Kind) (at : Option ℕ) (a : Answer)
+    (number : Option ℕ) → Ties j earlier l → at ≡ None → number ≡ None → IsGcAnswer a → IsCollected mode j a →
     Right h logs mode k all earlier (said_after (last_of j earlier) (record_of place j (Gc kind)) (reply_of at a number) (Gc kind)) j l
 gc_line mode h k logs all earlier l place j kind at a number ties no_at no_number is f =
     let now : Said = said_after (last_of j earlier) (record_of place j (Gc kind)) (reply_of at a number) (Gc kind) in
@@ -326,12 +359,18 @@ gc_line mode h k logs all earlier l place j kind at a number ties no_at no_numbe
 pub plain_after : (buckets : ℕ) (u : Unprinted) (s : Statement) (reply : Reply) (l : List LogEntry) → is_access s ≡ false → own_entries buckets u s reply.answer ++ l ≡ log_after buckets u s reply l
 plain_after buckets u s reply l e = sym (ap (λ b. log_with b buckets u s reply l) (not_alone (current l) s e))
 
-pub line_right : (mode : Mode) (buckets : ℕ) (h k : History) (logs : ℕ → List LogEntry) (all earlier : List Said) (u : Unprinted) (l : List LogEntry) (place j : ℕ) (s : Statement) (reply : Reply) → ((r : Rid) → bucket_of buckets r < buckets) → Ties j earlier l → Fits buckets u l s reply → AsCollected mode j s reply.answer →
-    Judged h (log_after buckets u s reply l) → AreReplied buckets h logs j (log_after buckets u s reply l) → (left : Option Rest) → ShowsRest j earlier left → HasRest s u.rest left → Right h logs mode k all earlier (said earlier (record_of place j s) reply) j (log_after buckets u s reply l)
-line_right mode buckets h k logs all earlier u l place j (Get r) reply places ties f gc d g left shown rest = access_line mode buckets h k logs all earlier u l place j (Get r) reply.at reply.answer reply.number places ties refl f.answer (open_of j earlier) (current l) refl refl ties.standing f.at f.number f.scope d g
-line_right mode buckets h k logs all earlier u l place j (Put r row) reply places ties f gc d g left shown rest = access_line mode buckets h k logs all earlier u l place j (Put r row) reply.at reply.answer reply.number places ties refl f.answer (open_of j earlier) (current l) refl refl ties.standing f.at f.number f.scope d g
-line_right mode buckets h k logs all earlier u l place j (Del r) reply places ties f gc d g left shown rest = access_line mode buckets h k logs all earlier u l place j (Del r) reply.at reply.answer reply.number places ties refl f.answer (open_of j earlier) (current l) refl refl ties.standing f.at f.number f.scope d g
-line_right mode buckets h k logs all earlier u l place j (Scan table low high) reply places ties f gc d g left shown rest = access_line mode buckets h k logs all earlier u l place j (Scan table low high) reply.at reply.answer reply.number places ties refl f.answer (open_of j earlier) (current l) refl refl ties.standing f.at f.number f.scope d g
+pub line_right : (mode : Mode) (buckets : ℕ) (h k : History) (logs : ℕ → List LogEntry) (all earlier : List Said) (u : Unprinted) (l : List LogEntry) (place j : ℕ) (s : Statement)
+    (reply : Reply) → ((r : Rid) → bucket_of buckets r < buckets) → Ties j earlier l → Fits buckets u l s reply → AsCollected mode j s reply.answer →
+    Judged h (log_after buckets u s reply l) → AreReplied buckets h logs j (log_after buckets u s reply l) → (left : Option Rest) → ShowsRest j earlier left →
+    HasRest s u.rest left → Right h logs mode k all earlier (said earlier (record_of place j s) reply) j (log_after buckets u s reply l)
+line_right mode buckets h k logs all earlier u l place j (Get r) reply places ties f gc d g left shown rest = access_line mode buckets h k logs all earlier u l place j
+    (Get r) reply.at reply.answer reply.number places ties refl f.answer (open_of j earlier) (current l) refl refl ties.standing f.at f.number f.scope d g
+line_right mode buckets h k logs all earlier u l place j (Put r row) reply places ties f gc d g left shown rest = access_line mode buckets h k logs all earlier u l place j
+    (Put r row) reply.at reply.answer reply.number places ties refl f.answer (open_of j earlier) (current l) refl refl ties.standing f.at f.number f.scope d g
+line_right mode buckets h k logs all earlier u l place j (Del r) reply places ties f gc d g left shown rest = access_line mode buckets h k logs all earlier u l place j
+    (Del r) reply.at reply.answer reply.number places ties refl f.answer (open_of j earlier) (current l) refl refl ties.standing f.at f.number f.scope d g
+line_right mode buckets h k logs all earlier u l place j (Scan table low high) reply places ties f gc d g left shown rest = access_line mode buckets h k logs all earlier u l place
+    j (Scan table low high) reply.at reply.answer reply.number places ties refl f.answer (open_of j earlier) (current l) refl refl ties.standing f.at f.number f.scope d g
 line_right mode buckets h k logs all earlier u l place j (Begin scope) reply places ties f gc d g left shown rest =
     let no = bare buckets u l (Begin scope) reply refl f in
     let e = plain_after buckets u (Begin scope) reply l refl in
@@ -346,7 +385,8 @@ line_right mode buckets h k logs all earlier u l place j (Fetch n) reply places 
     let no = bare buckets u l (Fetch n) reply refl f in
     let e = plain_after buckets u (Fetch n) reply l refl in
     subst (Right h logs mode k all earlier (said earlier (record_of place j (Fetch n)) reply) j) e
-    (fetch_line mode buckets h k logs all earlier u l place j n reply.at reply.answer reply.number ties no.0 no.1 f.answer (subst (Judged h) (sym e) d) (subst (AreReplied buckets h logs j) (sym e) g) left shown rest (open_of j earlier) (current l) refl refl ties.standing f.inside)
+    (fetch_line mode buckets h k logs all earlier u l place j n reply.at reply.answer reply.number ties no.0 no.1 f.answer (subst (Judged h) (sym e) d)
+    (subst (AreReplied buckets h logs j) (sym e) g) left shown rest (open_of j earlier) (current l) refl refl ties.standing f.inside)
 line_right mode buckets h k logs all earlier u l place j CursorClose reply places ties f gc d g left shown rest =
     let no = bare buckets u l CursorClose reply refl f in
     let e = plain_after buckets u CursorClose reply l refl in

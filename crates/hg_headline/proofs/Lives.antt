@@ -23,7 +23,8 @@ among_filtered p k [] = go (p k)
     go false = refl
 among_filtered p k (r ∷ rs) = go (same_rid k r) refl (p r) refl (p k) refl (among_filtered p k rs)
   where
-    go : (s : Bool) → same_rid k r ≡ s → (a : Bool) → p r ≡ a → (b : Bool) → p k ≡ b → is_among k (filter p rs) ≡ (if b then is_among k rs else false) → is_among k (cond a (r ∷ filter p rs) (filter p rs)) ≡ (if b then (s || is_among k rs) else false)
+    go : (s : Bool) → same_rid k r ≡ s → (a : Bool) → p r ≡ a → (b : Bool) → p k ≡ b → is_among k (filter p rs) ≡ (if b then is_among k rs else false) →
+        is_among k (cond a (r ∷ filter p rs) (filter p rs)) ≡ (if b then (s || is_among k rs) else false)
     go true e true f true g ih = ap (λ t. t || is_among k (filter p rs)) e
     go true e true f false g ih = absurd (true_false (sym f ∙ ap p (sym (same_rid_equal k r e)) ∙ g))
     go true e false f true g ih = absurd (true_false (sym g ∙ ap p (same_rid_equal k r e) ∙ f))
@@ -40,11 +41,13 @@ take_one k (r ∷ rs) n e = go (same_rid r k) refl (λ q. take_one k rs n.1 q)
     none_left [] h = refl
     none_left (x ∷ xs) h = kept (same_rid x k) refl (none_left xs (or_right (same_rid k x) (is_among k xs) h))
       where
-        kept : (b : Bool) → same_rid x k ≡ b → length (filter (λ o. not (same_rid o k)) xs) ≡ length xs → length (cond (not b) (x ∷ filter (λ o. not (same_rid o k)) xs) (filter (λ o. not (same_rid o k)) xs)) ≡ suc (length xs)
+        kept : (b : Bool) → same_rid x k ≡ b → length (filter (λ o. not (same_rid o k)) xs) ≡ length xs →
+            length (cond (not b) (x ∷ filter (λ o. not (same_rid o k)) xs) (filter (λ o. not (same_rid o k)) xs)) ≡ suc (length xs)
         kept true q ih = absurd (true_false (sym (same_rid_sym x k q) ∙ or_left (same_rid k x) (is_among k xs) h))
         kept false q ih = ap suc ih
 
-    go : (b : Bool) → same_rid r k ≡ b → (is_among k rs ≡ true → suc (length (filter (λ o. not (same_rid o k)) rs)) ≡ length rs) → suc (length (cond (not b) (r ∷ filter (λ o. not (same_rid o k)) rs) (filter (λ o. not (same_rid o k)) rs))) ≡ suc (length rs)
+    go : (b : Bool) → same_rid r k ≡ b → (is_among k rs ≡ true → suc (length (filter (λ o. not (same_rid o k)) rs)) ≡ length rs) →
+        suc (length (cond (not b) (r ∷ filter (λ o. not (same_rid o k)) rs) (filter (λ o. not (same_rid o k)) rs))) ≡ suc (length rs)
     go true q ih = ap suc (none_left rs (ap (λ x. is_among x rs) (sym (same_rid_equal r k q)) ∙ n.0))
     go false q ih = ap suc (ih (rest (same_rid k r) refl e))
       where
@@ -71,7 +74,8 @@ once_among : (k : Rid) (rs : List Rid) → is_among k (once rs) ≡ is_among k r
 once_among k [] = refl
 once_among k (r ∷ rs) = go (same_rid k r) refl (among_filtered (λ other. not (same_rid other r)) k (once rs) ∙ ap (λ b. if not (same_rid k r) then b else false) (once_among k rs))
   where
-    go : (b : Bool) → same_rid k r ≡ b → is_among k (filter (λ other. not (same_rid other r)) (once rs)) ≡ (if not (same_rid k r) then is_among k rs else false) → (b || is_among k (filter (λ other. not (same_rid other r)) (once rs))) ≡ (b || is_among k rs)
+    go : (b : Bool) → same_rid k r ≡ b → is_among k (filter (λ other. not (same_rid other r)) (once rs)) ≡ (if not (same_rid k r) then is_among k rs else false) →
+        (b || is_among k (filter (λ other. not (same_rid other r)) (once rs))) ≡ (b || is_among k rs)
     go true e h = refl
     go false e h = h ∙ ap (λ b. if not b then is_among k rs else false) e
 
@@ -85,7 +89,8 @@ image_among : (r : Rid) (ws : List Write) → is_some (image_in r ws) ≡ is_amo
 image_among r [] = refl
 image_among r (w ∷ ws) = go (same_rid w.rid r) refl (same_rid r w.rid) refl (image_among r ws)
   where
-    go : (a : Bool) → same_rid w.rid r ≡ a → (b : Bool) → same_rid r w.rid ≡ b → is_some (image_in r ws) ≡ is_among r (rids_of ws) → is_some (if a then Some w.image else image_in r ws) ≡ (b || is_among r (rids_of ws))
+    go : (a : Bool) → same_rid w.rid r ≡ a → (b : Bool) → same_rid r w.rid ≡ b → is_some (image_in r ws) ≡ is_among r (rids_of ws) →
+        is_some (if a then Some w.image else image_in r ws) ≡ (b || is_among r (rids_of ws))
     go true e true f ih = refl
     go false e false f ih = ih
     go true e false f ih = absurd (true_false (sym (same_rid_sym w.rid r e) ∙ f))
@@ -95,21 +100,25 @@ group_among : (r : Rid) (g : Group) → is_some (group_image r g) ≡ is_among r
 group_among r [] = refl
 group_among r (c ∷ cs) = go (image_in r c.images) (image_among r c.images) (group_among r cs) ∙ sym (any_append (same_rid r) (rids_of c.images) (group_rids cs))
   where
-    go : (o : Option Image) → is_some o ≡ is_among r (rids_of c.images) → is_some (group_image r cs) ≡ is_among r (group_rids cs) → is_some (option_or o (group_image r cs)) ≡ (is_among r (rids_of c.images) || is_among r (group_rids cs))
+    go : (o : Option Image) → is_some o ≡ is_among r (rids_of c.images) → is_some (group_image r cs) ≡ is_among r (group_rids cs) →
+        is_some (option_or o (group_image r cs)) ≡ (is_among r (rids_of c.images) || is_among r (group_rids cs))
     go None e ih = ih ∙ ap (λ b. b || is_among r (group_rids cs)) e
     go (Some i) e ih = ap (λ b. b || is_among r (group_rids cs)) e
 
 history_among : (n : ℕ) (h : History) (r : Rid) → is_any (writes_from n h r) ≡ is_among r (flat_map group_rids h)
 history_among n [] r = refl
-history_among n (g ∷ gs) r = or_same (is_among r (group_rids g)) (is_among r (flat_map group_rids gs)) n (group_image r g) (writes_from (suc n) gs r) (group_among r g) (history_among (suc n) gs r) ∙ sym (any_append (same_rid r) (group_rids g) (flat_map group_rids gs))
+history_among n (g ∷ gs) r = or_same (is_among r (group_rids g)) (is_among r (flat_map group_rids gs)) n (group_image r g) (writes_from (suc n) gs r) (group_among r g)
+    (history_among (suc n) gs r) ∙ sym (any_append (same_rid r) (group_rids g) (flat_map group_rids gs))
 
 pub lives_same : (h k : History) → SameGroups h k → IsHistory h → length (live h) ≡ length (live k)
 lives_same h k s i =
     let row : History → Rid → Bool = λ f r. is_some (visible f r (length f)).row in
-    as_many_records (live h) (live k) (filtered_once (row h) (once (flat_map group_rids h)) (once_once (flat_map group_rids h))) (filtered_once (row k) (once (flat_map group_rids k)) (once_once (flat_map group_rids k)))
+    as_many_records (live h) (live k) (filtered_once (row h) (once (flat_map group_rids h)) (once_once (flat_map group_rids h)))
+    (filtered_once (row k) (once (flat_map group_rids k)) (once_once (flat_map group_rids k)))
     (λ r. let same : writes h r ≡ writes k r = writes_same 1 h k r s i in
     among_filtered (row h) r (once (flat_map group_rids h))
-    ∙ (λ z. if (is_some (last_image (filter (λ (w : ℕ × Image). nat_le w.0 (length_same h k s z)) (same z))).row) then ((once_among r (flat_map group_rids h) ∙ sym (history_among 1 h r) ∙ ap is_any same ∙ history_among 1 k r ∙ sym (once_among r (flat_map group_rids k))) z) else false)
+    ∙ (λ z. if (is_some (last_image (filter (λ (w : ℕ × Image). nat_le w.0 (length_same h k s z)) (same z))).row) then
+    ((once_among r (flat_map group_rids h) ∙ sym (history_among 1 h r) ∙ ap is_any same ∙ history_among 1 k r ∙ sym (once_among r (flat_map group_rids k))) z) else false)
     ∙ sym (among_filtered (row k) r (once (flat_map group_rids k))))
 
 -- ---- the live records of a history

@@ -20,7 +20,9 @@ use Rattle.hg_headline.specs.Replayed.{HasReplayed}
 use Rattle.hg_headline.proofs.Growing.{logged_opened}
 
 -- the next record, of any session
-pub follows_snoc : (buckets : ℕ) (P : (ℕ → List LogEntry) → Record → Line → Type 0) (logs final : ℕ → List LogEntry) (left : ℕ → Option Rest) (rs : List Record) (lines : List Line) (r : Record) (line : Line) (u : Unprinted) → Follows buckets P logs left rs lines final → P final r line → Fits buckets u (final r.session) r.statement line.reply → HasRest r.statement u.rest (left_after left rs lines r.session) →
+pub follows_snoc : (buckets : ℕ) (P : (ℕ → List LogEntry) → Record → Line → Type 0) (logs final : ℕ → List LogEntry) (left : ℕ → Option Rest) (rs : List Record) (lines : List Line)
+    (r : Record) (line : Line) (u : Unprinted) → Follows buckets P logs left rs lines final → P final r line → Fits buckets u (final r.session) r.statement line.reply →
+    HasRest r.statement u.rest (left_after left rs lines r.session) →
     Follows buckets P logs left (rs ++ r ∷ []) (lines ++ line ∷ []) (put final r.session (log_after buckets u r.statement line.reply (final r.session)))
 follows_snoc buckets P logs final left [] [] r line u t p f hr =
     let same : final ≡ logs = λ i j. t j i in
@@ -29,9 +31,19 @@ follows_snoc buckets P logs final left [] [] r line u t p f hr =
     subst Q same now
 follows_snoc buckets P logs final left [] (e ∷ es) r line u t p f hr = absurd t
 follows_snoc buckets P logs final left (q ∷ qs) [] r line u t p f hr = absurd t
-follows_snoc buckets P logs final left (q ∷ qs) (e ∷ es) r line u t p f hr = (t.0, (t.1.0, t.1.1, follows_snoc buckets P (put logs q.session (log_after buckets t.1.0 q.statement e.reply (logs q.session))) final (put left q.session (rest_after q.statement e.reply.answer (left q.session))) qs es r line u t.1.2 p f hr, t.1.3))
+follows_snoc buckets P logs final left (q ∷ qs) (e ∷ es) r line u t p f hr = (
+  t.0,
+  (
+    t.1.0,
+    t.1.1,
+    follows_snoc buckets P (put logs q.session (log_after buckets t.1.0 q.statement e.reply (logs q.session))) final
+        (put left q.session (rest_after q.statement e.reply.answer (left q.session))) qs es r line u t.1.2 p f hr,
+    t.1.3,
+  ),
+)
 
-pub rises_snoc : (top last next : ℕ) (rs : List Record) (lines : List Line) (r : Record) (line : Line) → Rises top rs lines last → IsTimely last next r.statement line.reply → Rises top (rs ++ r ∷ []) (lines ++ line ∷ []) next
+pub rises_snoc : (top last next : ℕ) (rs : List Record) (lines : List Line) (r : Record) (line : Line) → Rises top rs lines last → IsTimely last next r.statement line.reply →
+    Rises top (rs ++ r ∷ []) (lines ++ line ∷ []) next
 rises_snoc top last next [] [] r line f t = (next, lower f t, same next)
   where
     same : (n : ℕ) → n ≤ n
@@ -71,9 +83,11 @@ pub replayed_opened : (buckets sessions : ℕ) → 0 < buckets → HasReplayed b
 replayed_opened buckets sessions some = record { logged = logged_opened buckets some; within = tt; shape = tt; follows = λ j. refl; rises = omega arith; below = omega arith }
 
 -- after the next record, where the history and the logs are known to have gone on, and the line to be right
-pub replayed_more : (buckets sessions : ℕ) (h more : History) (logs : ℕ → List LogEntry) (top next : ℕ) (rs : List Record) (lines : List Line) (r : Record) (line : Line) (u : Unprinted) → HasReplayed buckets sessions h logs top rs lines →
+pub replayed_more : (buckets sessions : ℕ) (h more : History) (logs : ℕ → List LogEntry) (top next : ℕ) (rs : List Record) (lines : List Line) (r : Record) (line : Line)
+    (u : Unprinted) → HasReplayed buckets sessions h logs top rs lines →
     1 ≤ r.session → r.session ≤ sessions → line.session ≡ r.session → line.place ≡ r.place →
-    IsMet sessions logs r line → Fits buckets u (logs r.session) r.statement line.reply → HasRest r.statement u.rest (left_after (λ j. None) rs lines r.session) → IsTimely top next r.statement line.reply → next ≤ length more → Logged buckets more (put logs r.session (log_after buckets u r.statement line.reply (logs r.session))) →
+    IsMet sessions logs r line → Fits buckets u (logs r.session) r.statement line.reply → HasRest r.statement u.rest (left_after (λ j. None) rs lines r.session) →
+    IsTimely top next r.statement line.reply → next ≤ length more → Logged buckets more (put logs r.session (log_after buckets u r.statement line.reply (logs r.session))) →
     HasReplayed buckets sessions more (put logs r.session (log_after buckets u r.statement line.reply (logs r.session))) next (rs ++ r ∷ []) (lines ++ line ∷ [])
 replayed_more buckets sessions h more logs top next rs lines r line u g some most session place met fits left timely below logged = record {
   logged = logged;

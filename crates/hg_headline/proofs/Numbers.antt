@@ -87,21 +87,26 @@ pub record IsBelow (top : ℕ) (earlier : List Said) : Type 0 where
 pub below_nothing : (top : ℕ) → IsBelow top []
 below_nothing top = record { commits = tt; reads = tt; marks = λ kind. tt }
 
-pub below_more : (top next : ℕ) (earlier : List Said) (now : Said) → IsBelow top earlier → IsTimely top next now.statement now.reply → committed now ≡ commit_in now.statement now.reply → IsBelow next (now ∷ earlier)
+pub below_more : (top next : ℕ) (earlier : List Said) (now : Said) → IsBelow top earlier → IsTimely top next now.statement now.reply →
+    committed now ≡ commit_in now.statement now.reply → IsBelow next (now ∷ earlier)
 below_more top next earlier now b t e = record {
   commits = each_cons (λ c. c ≤ next) (committed now) (filter_map committed earlier)
-      (subst (λ o. IfSome o (λ c. c ≤ next)) (sym e) (if_some_keeps (commit_in now.statement now.reply) (λ c. (top < c) × (c ≤ next) × Each (λ n. n < c) (reads_in now.reply)) (λ c. c ≤ next) (λ c k. k.1) t.commit))
+      (subst (λ o. IfSome o (λ c. c ≤ next)) (sym e) (if_some_keeps (commit_in now.statement now.reply) (λ c. (top < c) × (c ≤ next) × Each (λ n. n < c) (reads_in now.reply))
+      (λ c. c ≤ next) (λ c k. k.1) t.commit))
       (each_up top next (filter_map committed earlier) t.grows b.commits);
   reads = each_append (λ n. n ≤ next) (reads_in now.reply) (all_reads earlier) t.reads (each_up top next (all_reads earlier) t.grows b.reads);
-  marks = λ kind. each_cons (λ n. n ≤ next) (mark_of kind now) (filter_map (mark_of kind) earlier) (report_mark (λ n. n ≤ next) kind (report_of now.reply) (of_reads (λ n. n ≤ next) now.reply t.reads).2) (each_up top next (filter_map (mark_of kind) earlier) t.grows (b.marks kind));
+  marks = λ kind. each_cons (λ n. n ≤ next) (mark_of kind now) (filter_map (mark_of kind) earlier)
+      (report_mark (λ n. n ≤ next) kind (report_of now.reply) (of_reads (λ n. n ≤ next) now.reply t.reads).2) (each_up top next (filter_map (mark_of kind) earlier) t.grows (b.marks kind));
 }
 
 -- a mark at or over top is at or over each mark before
-pub over_marks : (top : ℕ) (earlier : List Said) → IsBelow top earlier → (o : Option Sweep) → IfSome (option_map (λ sweep. sweep.mark) o) (λ m. top ≤ m) → IfSome o (λ sweep. Each (λ m. m ≤ sweep.mark) (filter_map (mark_of sweep.kind) earlier))
+pub over_marks : (top : ℕ) (earlier : List Said) → IsBelow top earlier → (o : Option Sweep) → IfSome (option_map (λ sweep. sweep.mark) o) (λ m. top ≤ m) →
+    IfSome o (λ sweep. Each (λ m. m ≤ sweep.mark) (filter_map (mark_of sweep.kind) earlier))
 over_marks top earlier b None k = tt
 over_marks top earlier b (Some sweep) k = each_up top sweep.mark (filter_map (mark_of sweep.kind) earlier) k (b.marks sweep.kind)
 
-pub line_ordered : (top next last : ℕ) (earlier : List Said) (now : Said) → IsBelow top earlier → IsTimely top next now.statement now.reply → next ≤ last → committed now ≡ commit_in now.statement now.reply → IsOrdered last earlier now
+pub line_ordered : (top next last : ℕ) (earlier : List Said) (now : Said) → IsBelow top earlier → IsTimely top next now.statement now.reply → next ≤ last →
+    committed now ≡ commit_in now.statement now.reply → IsOrdered last earlier now
 line_ordered top next last earlier now b t k e = record {
   reads = each_up next last (reads_in now.reply) k t.reads;
   snapshot = if_some_keeps (snapshot_in now.reply) (λ s. top ≤ s) (λ s. Each (λ c. c ≤ s) (filter_map committed earlier)) (λ s q. each_up top s (filter_map committed earlier) q b.commits) t.snapshot;
@@ -113,7 +118,8 @@ line_ordered top next last earlier now b t k e = record {
       (λ c q. each_append (λ m. m < c) (reads_in now.reply) (all_reads earlier) q.2 (each_below top c (all_reads earlier) q.0 b.reads)) t.commit);
 }
 
-pub lines_ordered : (rs : List Record) (lines : List Line) (top last : ℕ) (earlier : List Said) → IsBelow top earlier → Rises top rs lines last → EachAfter (λ es now. committed now ≡ commit_in now.statement now.reply) earlier (said_from earlier rs lines) → EachAfter (IsOrdered last) earlier (said_from earlier rs lines)
+pub lines_ordered : (rs : List Record) (lines : List Line) (top last : ℕ) (earlier : List Said) → IsBelow top earlier → Rises top rs lines last →
+    EachAfter (λ es now. committed now ≡ commit_in now.statement now.reply) earlier (said_from earlier rs lines) → EachAfter (IsOrdered last) earlier (said_from earlier rs lines)
 lines_ordered [] lines top last earlier b f e = tt
 lines_ordered (r ∷ rs) [] top last earlier b f e = tt
 lines_ordered (r ∷ rs) (line ∷ lines) top last earlier b f e =
@@ -125,17 +131,21 @@ lines_ordered (r ∷ rs) (line ∷ lines) top last earlier b f e =
 -- ---- later commit numbers
 
 -- a number that was read is below each commit number that is printed later
-pub later_over : (last m : ℕ) (earlier rest : List Said) → ((P : ℕ → Type 0) → Each P (all_reads earlier) → P m) → EachAfter (IsOrdered last) earlier rest → Each (λ c. m < c) (filter_map committed rest)
+pub later_over : (last m : ℕ) (earlier rest : List Said) → ((P : ℕ → Type 0) → Each P (all_reads earlier) → P m) → EachAfter (IsOrdered last) earlier rest →
+    Each (λ c. m < c) (filter_map committed rest)
 later_over last m earlier [] a h = tt
 later_over last m earlier (now ∷ later) a h =
     each_cons (λ c. m < c) (committed now) (filter_map committed later)
-    (if_some_keeps (committed now) (λ c. Each (λ i. i < c) (all_reads (now ∷ earlier))) (λ c. m < c) (λ c k. a (λ i. i < c) (each_left (λ i. i < c) (reads_in now.reply) (all_reads earlier) k).1) h.0.commit)
+    (if_some_keeps (committed now) (λ c. Each (λ i. i < c) (all_reads (now ∷ earlier))) (λ c. m < c)
+    (λ c k. a (λ i. i < c) (each_left (λ i. i < c) (reads_in now.reply) (all_reads earlier) k).1) h.0.commit)
     (later_over last m (now ∷ earlier) later (λ P k. a P (each_left P (reads_in now.reply) (all_reads earlier) k).1) h.1)
 
-pub now_over : (last m : ℕ) (earlier : List Said) (now : Said) (later : List Said) → ((P : ℕ → Type 0) → Each P (reads_in now.reply) → P m) → EachAfter (IsOrdered last) earlier (now ∷ later) → Each (λ c. m < c) (filter_map committed (now ∷ later))
+pub now_over : (last m : ℕ) (earlier : List Said) (now : Said) (later : List Said) → ((P : ℕ → Type 0) → Each P (reads_in now.reply) → P m) →
+    EachAfter (IsOrdered last) earlier (now ∷ later) → Each (λ c. m < c) (filter_map committed (now ∷ later))
 now_over last m earlier now later a h =
     each_cons (λ c. m < c) (committed now) (filter_map committed later)
-    (if_some_keeps (committed now) (λ c. Each (λ i. i < c) (all_reads (now ∷ earlier))) (λ c. m < c) (λ c k. a (λ i. i < c) (each_left (λ i. i < c) (reads_in now.reply) (all_reads earlier) k).0) h.0.commit)
+    (if_some_keeps (committed now) (λ c. Each (λ i. i < c) (all_reads (now ∷ earlier))) (λ c. m < c)
+    (λ c k. a (λ i. i < c) (each_left (λ i. i < c) (reads_in now.reply) (all_reads earlier) k).0) h.0.commit)
     (later_over last m (now ∷ earlier) later (λ P k. a P (each_left P (reads_in now.reply) (all_reads earlier) k).0) h.1)
 
 pub none_equal : (n : ℕ) (xs : List ℕ) → Each (λ c. n < c) xs → list_any (λ m. m == n) xs ≡ false
@@ -147,7 +157,8 @@ none_equal n (x ∷ xs) h = ap (λ b. b || list_any (λ m. m == n) xs) (over x n
 
 pub any_below : (n : ℕ) (xs : List ℕ) → list_any (λ m. m == n) xs ≡ true → n ≤ greatest xs
 any_below n [] e = absurd (true_false (sym e))
-any_below n (x ∷ xs) e = cases (x == n) (λ q. max_has n x (greatest xs) ((Decides-eqb x n).0 q)) (λ q. max_keeps n x (greatest xs) (any_below n xs (sym (ap (λ b. b || list_any (λ m. m == n) xs) q) ∙ e)))
+any_below n (x ∷ xs) e = cases (x == n) (λ q. max_has n x (greatest xs) ((Decides-eqb x n).0 q))
+    (λ q. max_keeps n x (greatest xs) (any_below n xs (sym (ap (λ b. b || list_any (λ m. m == n) xs) q) ∙ e)))
 
 pub any_from_onto : {X : Type 0} (p : X → Bool) (xs es : List X) → list_any p xs ≡ true → list_any p (onto xs es) ≡ true
 any_from_onto p [] es e = absurd (true_false (sym e))
@@ -172,18 +183,24 @@ all_printed h all i m zero a b = absurd (omega (arith, a))
 all_printed h all i m (suc n) a b =
     let number : 1 + n ≡ suc n = omega arith in
     let at : 0 < length (group_at h (suc n)) = subst (λ k. 0 < length (group_at h k)) number (group_some 1 h n i (omega (arith, b))) in
-    let some : list_any (λ k. k == suc n) (map (λ p. p.0) (commits all)) ≡ true = first_picked (group_at h (suc n)) at (list_any (λ k. k == suc n) (map (λ p. p.0) (commits all)) ≡ true) (λ j f. picked_any (suc n) j (commits all) (λ e. f (sym (m (suc n) j) ∙ e))) in
-    ap (list_any (λ k. k == suc n)) (picked_onto committed all []) ∙ any_from_onto (λ k. k == suc n) (filter_map committed all) [] (sym (ap (list_any (λ k. k == suc n)) (commits_numbers [] all)) ∙ some)
+    let some : list_any (λ k. k == suc n) (map (λ p. p.0) (commits all)) ≡ true = first_picked (group_at h (suc n)) at
+    (list_any (λ k. k == suc n) (map (λ p. p.0) (commits all)) ≡ true) (λ j f. picked_any (suc n) j (commits all) (λ e. f (sym (m (suc n) j) ∙ e))) in
+    ap (list_any (λ k. k == suc n)) (picked_onto committed all []) ∙
+    any_from_onto (λ k. k == suc n) (filter_map committed all) [] (sym (ap (list_any (λ k. k == suc n)) (commits_numbers [] all)) ∙ some)
 
-pub printed_before : (mark n : ℕ) (earlier rest : List Said) → AllPrinted mark (onto rest earlier) → 1 ≤ n → n ≤ mark → Each (λ c. n < c) (filter_map committed rest) → list_any (λ m. m == n) (filter_map committed earlier) ≡ true
-printed_before mark n earlier rest w a b over = go (any_onto (λ m. m == n) (filter_map committed rest) (filter_map committed earlier) (sym (ap (list_any (λ m. m == n)) (picked_onto committed rest earlier)) ∙ w n a b))
+pub printed_before : (mark n : ℕ) (earlier rest : List Said) → AllPrinted mark (onto rest earlier) → 1 ≤ n → n ≤ mark → Each (λ c. n < c) (filter_map committed rest) →
+    list_any (λ m. m == n) (filter_map committed earlier) ≡ true
+printed_before mark n earlier rest w a b over = go (any_onto (λ m. m == n) (filter_map committed rest) (filter_map committed earlier)
+    (sym (ap (list_any (λ m. m == n)) (picked_onto committed rest earlier)) ∙ w n a b))
   where
     go : (list_any (λ m. m == n) (filter_map committed rest) ≡ true) ⊎ (list_any (λ m. m == n) (filter_map committed earlier) ≡ true) → list_any (λ m. m == n) (filter_map committed earlier) ≡ true
     go (inl e) = absurd (true_false (sym e ∙ none_equal n (filter_map committed rest) over))
     go (inr e) = e
 
 -- a number that is at least all printed before, and below all printed later, is the greatest before
-pub is_greatest : (mark n : ℕ) (earlier rest : List Said) → AllPrinted mark (onto rest earlier) → n ≤ mark → Each (λ c. c ≤ n) (filter_map committed earlier) → Each (λ c. n < c) (filter_map committed rest) → n ≡ greatest_commit earlier
+pub is_greatest : (mark n : ℕ) (earlier rest : List Said) → AllPrinted mark (onto rest earlier) → n ≤ mark → Each (λ c. c ≤ n) (filter_map committed earlier) →
+    Each (λ c. n < c) (filter_map committed rest) → n ≡ greatest_commit earlier
 is_greatest mark zero earlier rest w b since over = equal_both zero (greatest_commit earlier) (omega arith) (greatest_within zero (filter_map committed earlier) since)
 is_greatest mark (suc n) earlier rest w b since over =
-    equal_both (suc n) (greatest_commit earlier) (any_below (suc n) (filter_map committed earlier) (printed_before mark (suc n) earlier rest w (omega arith) b over)) (greatest_within (suc n) (filter_map committed earlier) since)
+    equal_both (suc n) (greatest_commit earlier) (any_below (suc n) (filter_map committed earlier) (printed_before mark (suc n) earlier rest w (omega arith) b over))
+    (greatest_within (suc n) (filter_map committed earlier) since)

@@ -33,7 +33,11 @@ last_of_none j (o ∷ os) h = ap (λ b. cond (b && nat_lt 0 o.transaction) (Some
 
 pub none_named : (j : ℕ) (earlier : List Said) → greatest (map (λ (s : Said). s.session) earlier) < j → NoneOf j earlier
 none_named j [] h = tt
-none_named j (s ∷ ss) h = (differs s.session j (left_below s.session (greatest (map (λ (q : Said). q.session) ss)) j h), none_named j ss (right_below s.session (greatest (map (λ (q : Said). q.session) ss)) j h))
+none_named j (s ∷ ss) h = (
+  differs s.session j (left_below s.session (greatest (map (λ (q : Said). q.session) ss)) j h),
+  none_named j ss
+      (right_below s.session (greatest (map (λ (q : Said). q.session) ss)) j h),
+)
 
 -- ---- the open transactions
 
@@ -60,11 +64,14 @@ picked_few f n zero many k h = picked_none f n many (λ j i. h j (omega (arith, 
 picked_few f n (suc few) zero k h = absurd (omega (arith, k))
 picked_few f n (suc few) (suc many) k h = ap (cons_option (f n)) (picked_few f (suc n) few many (omega (arith, k)) (λ j i. h j (omega (arith, i))))
 
-pub live_is_open : (sessions : ℕ) (logs : ℕ → List LogEntry) (earlier : List Said) → ((j : ℕ) → Ties j earlier (logs j)) → Each (λ (s : Said). s.session ≤ sessions) earlier → live_in sessions logs ≡ open_snapshots earlier
+pub live_is_open : (sessions : ℕ) (logs : ℕ → List LogEntry) (earlier : List Said) → ((j : ℕ) → Ties j earlier (logs j)) → Each (λ (s : Said). s.session ≤ sessions) earlier →
+    live_in sessions logs ≡ open_snapshots earlier
 live_is_open sessions logs earlier t w =
     let top : ℕ = greatest (map (λ (s : Said). s.session) earlier) in
-    picked_same (λ j. live_of j (current (logs j))) (λ j. open_snapshot j (open_of j earlier)) (λ j. stands_at j (open_of j earlier) (current (logs j)) (begans (logs j)) (t j).standing) (numbers_from 1 sessions)
-    ∙ picked_few (λ j. open_snapshot j (open_of j earlier)) 1 top sessions (greatest_within sessions (map (λ (s : Said). s.session) earlier) (each_map (λ n. n ≤ sessions) (λ (s : Said). s.session) earlier w))
+    picked_same (λ j. live_of j (current (logs j))) (λ j. open_snapshot j (open_of j earlier))
+    (λ j. stands_at j (open_of j earlier) (current (logs j)) (begans (logs j)) (t j).standing) (numbers_from 1 sessions)
+    ∙ picked_few (λ j. open_snapshot j (open_of j earlier)) 1 top sessions
+    (greatest_within sessions (map (λ (s : Said). s.session) earlier) (each_map (λ n. n ≤ sessions) (λ (s : Said). s.session) earlier w))
     (λ j k. ap (λ o. open_snapshot j (open_after o)) (last_of_none j earlier (none_named j earlier (omega (arith, k)))))
 
 -- ---- what is held ascends, and was begun
@@ -77,7 +84,8 @@ pub live_over : (logs : ℕ → List LogEntry) (n many least : ℕ) → least �
 live_over logs n zero least k = tt
 live_over logs n (suc many) least k = go (current (logs n)) (live_over logs (suc n) many least (omega (arith, k)))
   where
-    go : (o : Option Snapshot) → Each (λ m. least ≤ m) (map (λ (p : ℕ × ℕ). p.0) (live_from logs (suc n) many)) → Each (λ m. least ≤ m) (map (λ (p : ℕ × ℕ). p.0) (cons_option (live_of n o) (live_from logs (suc n) many)))
+    go : (o : Option Snapshot) → Each (λ m. least ≤ m) (map (λ (p : ℕ × ℕ). p.0) (live_from logs (suc n) many)) →
+        Each (λ m. least ≤ m) (map (λ (p : ℕ × ℕ). p.0) (cons_option (live_of n o) (live_from logs (suc n) many)))
     go None h = h
     go (Some c) h = (k, h)
 
@@ -85,9 +93,11 @@ pub live_ascends : (logs : ℕ → List LogEntry) (n many : ℕ) → Ascends (ma
 live_ascends logs n zero = tt
 live_ascends logs n (suc many) = go (current (logs n)) (live_ascends logs (suc n) many) (live_over logs (suc n) many (suc n) (omega arith))
   where
-    go : (o : Option Snapshot) → Ascends (map (λ (p : ℕ × ℕ). p.0) (live_from logs (suc n) many)) → Each (λ m. suc n ≤ m) (map (λ (p : ℕ × ℕ). p.0) (live_from logs (suc n) many)) → Ascends (map (λ (p : ℕ × ℕ). p.0) (cons_option (live_of n o) (live_from logs (suc n) many)))
+    go : (o : Option Snapshot) → Ascends (map (λ (p : ℕ × ℕ). p.0) (live_from logs (suc n) many)) → Each (λ m. suc n ≤ m) (map (λ (p : ℕ × ℕ). p.0) (live_from logs (suc n) many)) →
+        Ascends (map (λ (p : ℕ × ℕ). p.0) (cons_option (live_of n o) (live_from logs (suc n) many)))
     go None h k = h
-    go (Some c) h k = ascends_cons n (map (λ (p : ℕ × ℕ). p.0) (live_from logs (suc n) many)) (each_keeps (λ m. suc n ≤ m) (λ m. n < m) (λ m q. q) (map (λ (p : ℕ × ℕ). p.0) (live_from logs (suc n) many)) k) h
+    go (Some c) h k = ascends_cons n (map (λ (p : ℕ × ℕ). p.0) (live_from logs (suc n) many))
+        (each_keeps (λ m. suc n ≤ m) (λ m. n < m) (λ m q. q) (map (λ (p : ℕ × ℕ). p.0) (live_from logs (suc n) many)) k) h
 
 -- a pair of a session and the snapshot of its open transaction
 abbrev pub IsLive : (ℕ → List LogEntry) → ℕ × ℕ → Type 0
@@ -114,7 +124,8 @@ pub began_open : (d : Bool) (l : List LogEntry) (c : Snapshot) → current l ≡
 began_open d [] c e k = absurd (none_is_not_some c e)
 began_open d (Began at scope ∷ l) c e k =
     let same : c ≡ record { at = at; scope = scope } = sym (some_is_some (record { at = at; scope = scope }) c e) in
-    or_left _ (began_at d c.at l) (subst (λ (x : Snapshot). ((x.at == c.at) && (if d then is_declared x.scope else true)) ≡ true) same (ap (λ b. b && (if d then is_declared c.scope else true)) (same_number c.at) ∙ k))
+    or_left _ (began_at d c.at l) (subst (λ (x : Snapshot). ((x.at == c.at) && (if d then is_declared x.scope else true)) ≡ true) same
+    (ap (λ b. b && (if d then is_declared c.scope else true)) (same_number c.at) ∙ k))
 began_open d (Saw t low high b rows ∷ l) c e k = began_open d l c e k
 began_open d (Refused r a ∷ l) c e k = began_open d l c e k
 began_open d (Outside t ∷ l) c e k = began_open d l c e k
@@ -137,12 +148,14 @@ begins_less final j (Undid r) l q d n k = q d n k
 begins_less final j (Published m) l q d n k = q d n k
 begins_less final j Over l q d n k = q d n k
 
-pub was_live : (logs final : ℕ → List LogEntry) → ((j : ℕ) → Begins final j (logs j)) → (told : Told) → IsLive logs (told.session, told.number) → MatchBool told.moved (HasDeclared logs told) ⊤ → WasLive final told
+pub was_live : (logs final : ℕ → List LogEntry) → ((j : ℕ) → Begins final j (logs j)) → (told : Told) → IsLive logs (told.session, told.number) →
+    MatchBool told.moved (HasDeclared logs told) ⊤ → WasLive final told
 was_live logs final more told (c, e, at) moved = record {
   begun = more told.session false told.number (subst (λ n. began_at false n (logs told.session) ≡ true) at (began_open false (logs told.session) c e refl));
   declared = go told.moved moved;
 }
   where
     go : (b : Bool) → MatchBool b (HasDeclared logs told) ⊤ → MatchBool b (IsTrue (began_at true told.number (final told.session))) ⊤
-    go true h = more told.session true told.number (subst (λ n. began_at true n (logs told.session) ≡ true) at (began_open true (logs told.session) c e (of_some (current (logs told.session)) (λ snapshot. IsTrue (is_declared snapshot.scope)) c e h)))
+    go true h = more told.session true told.number (subst (λ n. began_at true n (logs told.session) ≡ true) at
+        (began_open true (logs told.session) c e (of_some (current (logs told.session)) (λ snapshot. IsTrue (is_declared snapshot.scope)) c e h)))
     go false h = tt

@@ -39,7 +39,8 @@ still_open h x r (Outside t ∷ l) d e k = still_open h x r l d.1 e k
 still_open h x r (Undid q ∷ l) d e k = still_open h x r l d.1 e k
 still_open h x r (Wrote q image ∷ l) d e k = go (begans l == x) refl k (λ m. still_open h x r l d.1 e m)
   where
-    go : (b : Bool) → (begans l == x) ≡ b → IsSome (image_in r (if b then record { rid = q; image = image } ∷ writes_in x l else writes_in x l)) → (IsSome (image_in r (writes_in x l)) → IsSome (current l) × (begans l ≡ x)) → IsSome (current l) × (begans l ≡ x)
+    go : (b : Bool) → (begans l == x) ≡ b → IsSome (image_in r (if b then record { rid = q; image = image } ∷ writes_in x l else writes_in x l)) →
+        (IsSome (image_in r (writes_in x l)) → IsSome (current l) × (begans l ≡ x)) → IsSome (current l) × (begans l ≡ x)
     go true same m before = (d.0, (Decides-eqb (begans l) x).0 same)
     go false same m before = before m
 still_open h x r (Published n ∷ l) d e k =
@@ -49,7 +50,8 @@ still_open h x r (Over ∷ l) d e k =
     let before = still_open h x r l d.1 (or_right (begans l == x) (has_end x l) e) k in
     absurd (true_false (sym ((Decides-eqb (begans l) x).1 before.1) ∙ or_left (begans l == x) (has_end x l) e))
 
-pub open_write : (h : History) (logs : ℕ → List LogEntry) (r : Rid) (w : Writer) → Judged h (logs w.session) → has_end w.transaction (logs w.session) ≡ false → IsSome (image_in r (writes_in w.transaction (logs w.session))) → IsOpenWrite logs r w
+pub open_write : (h : History) (logs : ℕ → List LogEntry) (r : Rid) (w : Writer) → Judged h (logs w.session) → has_end w.transaction (logs w.session) ≡ false →
+    IsSome (image_in r (writes_in w.transaction (logs w.session))) → IsOpenWrite logs r w
 open_write h logs r w d e k =
     let l : List LogEntry = logs w.session in
     let opened = still_open h w.transaction r l d e k in
@@ -63,15 +65,19 @@ open_write h logs r w d e k =
 abbrev pub DoesWrite : (ℕ → List LogEntry) → Rid → Writer → Type 0
 DoesWrite more r w = IsSome (image_in r (writes_in w.transaction (more w.session)))
 
-pub entry_does : (h : History) (more : ℕ → List LogEntry) (j : ℕ) (r : Rid) (w : Writer) (l : List LogEntry) (o : Option Snapshot) (c : Snapshot) → o ≡ Some c → IfSome o (λ snapshot. IsTrue (has snapshot.scope r.table) × (IsFalse (is_some (image_in r (own_writes l))) × Refuses h more j snapshot.at r (OpenBy w))) → DoesWrite more r w
-entry_does h more j r w l o c e g = (of_some o (λ snapshot. IsTrue (has snapshot.scope r.table) × (IsFalse (is_some (image_in r (own_writes l))) × Refuses h more j snapshot.at r (OpenBy w))) c e g).1.1.does
+pub entry_does : (h : History) (more : ℕ → List LogEntry) (j : ℕ) (r : Rid) (w : Writer) (l : List LogEntry) (o : Option Snapshot) (c : Snapshot) → o ≡ Some c →
+    IfSome o (λ snapshot. IsTrue (has snapshot.scope r.table) × (IsFalse (is_some (image_in r (own_writes l))) × Refuses h more j snapshot.at r (OpenBy w))) → DoesWrite more r w
+entry_does h more j r w l o c e g = (of_some o (λ snapshot. IsTrue (has snapshot.scope r.table) ×
+    (IsFalse (is_some (image_in r (own_writes l))) × Refuses h more j snapshot.at r (OpenBy w))) c e g).1.1.does
 
-pub put_does : (buckets : ℕ) (h : History) (more : ℕ → List LogEntry) (j : ℕ) (u : Unprinted) (r : Rid) (row : List Value) (at number : Option ℕ) (w : Writer) (l : List LogEntry) (o : Option Snapshot) → current l ≡ o → AreReplied buckets h more j (log_with (is_alone o (Put r row)) buckets u (Put r row) (reply_with at (OpenBy w) number) l) → DoesWrite more r w
+pub put_does : (buckets : ℕ) (h : History) (more : ℕ → List LogEntry) (j : ℕ) (u : Unprinted) (r : Rid) (row : List Value) (at number : Option ℕ) (w : Writer) (l : List LogEntry)
+    (o : Option Snapshot) → current l ≡ o → AreReplied buckets h more j (log_with (is_alone o (Put r row)) buckets u (Put r row) (reply_with at (OpenBy w) number) l) → DoesWrite more r w
 put_does buckets h more j u r row at number w l (Some c) e g = entry_does h more j r w l (current l) c e g.0
 put_does buckets h more j u r row at None w l None e g = g.1.0.1.1.does
 put_does buckets h more j u r row at (Some n) w l None e g = g.1.1.0.1.1.does
 
-pub del_does : (buckets : ℕ) (h : History) (more : ℕ → List LogEntry) (j : ℕ) (u : Unprinted) (r : Rid) (at number : Option ℕ) (w : Writer) (l : List LogEntry) (o : Option Snapshot) → current l ≡ o → AreReplied buckets h more j (log_with (is_alone o (Del r)) buckets u (Del r) (reply_with at (OpenBy w) number) l) → DoesWrite more r w
+pub del_does : (buckets : ℕ) (h : History) (more : ℕ → List LogEntry) (j : ℕ) (u : Unprinted) (r : Rid) (at number : Option ℕ) (w : Writer) (l : List LogEntry)
+    (o : Option Snapshot) → current l ≡ o → AreReplied buckets h more j (log_with (is_alone o (Del r)) buckets u (Del r) (reply_with at (OpenBy w) number) l) → DoesWrite more r w
 del_does buckets h more j u r at number w l (Some c) e g = entry_does h more j r w (saw buckets r ((r.key, u.found) ∷ []) ∷ l) (current l) c e g.0
 del_does buckets h more j u r at None w l None e g = g.1.0.1.1.does
 del_does buckets h more j u r at (Some n) w l None e g = g.1.1.0.1.1.does
@@ -79,15 +85,25 @@ del_does buckets h more j u r at (Some n) w l None e g = g.1.1.0.1.1.does
 -- ---- the answer of a replay
 
 -- from the logs of all sessions, where a history is known
-pub knows_open : (buckets : ℕ) (h : History) (logs more : ℕ → List LogEntry) (j : ℕ) (after : List LogEntry) (w : Writer) → Logged buckets h more → more j ≡ after → more w.session ≡ logs w.session → has_end w.transaction (logs w.session) ≡ false → KnowsOpen buckets logs j after w
-knows_open buckets h logs more j after w g here there goes = record { history = h; more = more; here = here; there = there; replied = g.replied j; judged = subst (Judged h) there (g.judged w.session); goes = goes }
+pub knows_open : (buckets : ℕ) (h : History) (logs more : ℕ → List LogEntry) (j : ℕ) (after : List LogEntry) (w : Writer) → Logged buckets h more → more j ≡ after →
+    more w.session ≡ logs w.session → has_end w.transaction (logs w.session) ≡ false → KnowsOpen buckets logs j after w
+knows_open buckets h logs more j after w g here there goes = record {
+  history = h;
+  more = more;
+  here = here;
+  there = there;
+  replied = g.replied j;
+  judged = subst (Judged h) there (g.judged w.session);
+  goes = goes;
+}
 
 pub write_met : (logs : ℕ → List LogEntry) (r : Rid) (a : Answer) → ((w : Writer) → a ≡ OpenBy w → IsOpenWrite logs r w) → IsMetWrite logs r a
 write_met logs r (OpenBy w) f = f w refl
 write_met logs r _ f = tt
 
 -- the other's write is open in the logs before the statement
-pub known_open : (buckets : ℕ) (logs : ℕ → List LogEntry) (j : ℕ) (u : Unprinted) (s : Statement) (reply : Reply) (r : Rid) (w : Writer) → reply.answer ≡ OpenBy w → (k : KnowsOpen buckets logs j (log_after buckets u s reply (logs j)) w) →
+pub known_open : (buckets : ℕ) (logs : ℕ → List LogEntry) (j : ℕ) (u : Unprinted) (s : Statement) (reply : Reply) (r : Rid) (w : Writer) → reply.answer ≡ OpenBy w →
+    (k : KnowsOpen buckets logs j (log_after buckets u s reply (logs j)) w) →
     (AreReplied buckets k.history k.more j (log_with (is_alone (current (logs j)) s) buckets u s (reply_with reply.at (OpenBy w) reply.number) (logs j)) → DoesWrite k.more r w) → IsOpenWrite logs r w
 known_open buckets logs j u s reply r w e k does =
     let l : List LogEntry = logs j in
@@ -99,7 +115,9 @@ known_open buckets logs j u s reply r w e k does =
 -- one shows that it goes on.
 pub met_answer : (buckets sessions : ℕ) (logs : ℕ → List LogEntry) (j : ℕ) (u : Unprinted) (s : Statement) (reply : Reply) → IsMetIfGc sessions logs s reply.answer →
     ((w : Writer) → reply.answer ≡ OpenBy w → KnowsOpen buckets logs j (log_after buckets u s reply (logs j)) w) → IsMetAnswer sessions logs s reply.answer
-met_answer buckets sessions logs j u (Put r row) reply gc knows = write_met logs r reply.answer (λ w e. let k = knows w e in known_open buckets logs j u (Put r row) reply r w e k (put_does buckets k.history k.more j u r row reply.at reply.number w (logs j) (current (logs j)) refl))
-met_answer buckets sessions logs j u (Del r) reply gc knows = write_met logs r reply.answer (λ w e. let k = knows w e in known_open buckets logs j u (Del r) reply r w e k (del_does buckets k.history k.more j u r reply.at reply.number w (logs j) (current (logs j)) refl))
+met_answer buckets sessions logs j u (Put r row) reply gc knows = write_met logs r reply.answer (λ w e. let k = knows w e in
+    known_open buckets logs j u (Put r row) reply r w e k (put_does buckets k.history k.more j u r row reply.at reply.number w (logs j) (current (logs j)) refl))
+met_answer buckets sessions logs j u (Del r) reply gc knows = write_met logs r reply.answer (λ w e. let k = knows w e in
+    known_open buckets logs j u (Del r) reply r w e k (del_does buckets k.history k.more j u r reply.at reply.number w (logs j) (current (logs j)) refl))
 met_answer buckets sessions logs j u (Gc kind) reply gc knows = gc
 met_answer buckets sessions logs j u _ reply gc knows = tt

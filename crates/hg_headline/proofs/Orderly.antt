@@ -32,7 +32,8 @@ orderly_other j earlier now e o =
     record {
       top = (inl e, subst (λ l. Each (BelowIn j (next_after l)) earlier) (sym last) o.top);
       numbered = λ s k. o.numbered s (sym last ∙ k);
-      going = λ s k. ap (λ b. list_any ends (cond (b && (now.transaction == s.transaction)) (now ∷ filter (is_of j s.transaction) earlier) (filter (is_of j s.transaction) earlier))) e ∙ o.going s (ap open_after (sym last) ∙ k);
+      going = λ s k. ap (λ b. list_any ends (cond (b && (now.transaction == s.transaction)) (now ∷ filter (is_of j s.transaction) earlier)
+          (filter (is_of j s.transaction) earlier))) e ∙ o.going s (ap open_after (sym last) ∙ k);
     }
 
 pub below_wider : (j n m : ℕ) → n ≤ m → (xs : List Said) → Each (BelowIn j n) xs → Each (BelowIn j m) xs
@@ -61,7 +62,8 @@ next_over (Some s) = omega arith
 pub last_is_now : (j : ℕ) (earlier : List Said) (now : Said) → (now.session == j) ≡ true → nat_lt 0 now.transaction ≡ true → last_of j (now ∷ earlier) ≡ Some now
 last_is_now j earlier now e k = ap (λ b. cond (b && nat_lt 0 now.transaction) (Some now) (last_of j earlier)) e ∙ ap (λ b. cond b (Some now) (last_of j earlier)) k
 
-pub any_with : (j n : ℕ) (earlier : List Said) (now : Said) → (now.session == j) ≡ true → ends now ≡ false → list_any ends (filter (is_of j n) earlier) ≡ false → list_any ends (filter (is_of j n) (now ∷ earlier)) ≡ false
+pub any_with : (j n : ℕ) (earlier : List Said) (now : Said) → (now.session == j) ≡ true → ends now ≡ false → list_any ends (filter (is_of j n) earlier) ≡ false →
+    list_any ends (filter (is_of j n) (now ∷ earlier)) ≡ false
 any_with j n earlier now e goes_on h = ap (λ b. list_any ends (cond (b && (now.transaction == n)) (now ∷ filter (is_of j n) earlier) (filter (is_of j n) earlier))) e ∙ go (now.transaction == n)
   where
     go : (b : Bool) → list_any ends (cond b (now ∷ filter (is_of j n) earlier) (filter (is_of j n) earlier)) ≡ false
@@ -93,23 +95,34 @@ orderly_next j earlier now e z o =
     let last : last_of j (now ∷ earlier) ≡ Some now = last_is_now j earlier now e number in
     let before : filter (is_of j now.transaction) earlier ≡ [] = none_above j now.transaction earlier (subst (λ n. Each (BelowIn j n) earlier) (sym z) o.top) in
     record {
-      top = subst (λ l. Each (BelowIn j (next_after l)) (now ∷ earlier)) (sym last) (inr (omega arith), below_wider j (next_after (last_of j earlier)) (suc now.transaction) (omega (arith, z)) earlier o.top);
+      top = subst (λ l. Each (BelowIn j (next_after l)) (now ∷ earlier)) (sym last) (
+        inr (omega arith),
+        below_wider j (next_after (last_of j earlier)) (suc now.transaction)
+            (omega (arith, z)) earlier o.top,
+      );
       numbered = λ s k. subst (λ t. nat_lt 0 t.transaction ≡ true) (some_is_some now s (sym last ∙ k)) number;
       going = λ s k. opens (ends now) refl before s (ap open_after (sym last) ∙ k);
     }
   where
-    opens : (b : Bool) → ends now ≡ b → filter (is_of j now.transaction) earlier ≡ [] → (s : Said) → (if b then None else Some now) ≡ Some s → list_any ends (filter (is_of j s.transaction) (now ∷ earlier)) ≡ false
+    opens : (b : Bool) → ends now ≡ b → filter (is_of j now.transaction) earlier ≡ [] → (s : Said) → (if b then None else Some now) ≡ Some s →
+        list_any ends (filter (is_of j s.transaction) (now ∷ earlier)) ≡ false
     opens true goes_on before s k = absurd (none_is_not_some s k)
-    opens false goes_on before s k = subst (λ t. list_any ends (filter (is_of j t.transaction) (now ∷ earlier)) ≡ false) (some_is_some now s k) (any_with j now.transaction earlier now e goes_on (ap (list_any ends) before))
+    opens false goes_on before s k = subst (λ t. list_any ends (filter (is_of j t.transaction) (now ∷ earlier)) ≡ false) (some_is_some now s k)
+        (any_with j now.transaction earlier now e goes_on (ap (list_any ends) before))
 
 -- a line of the open transaction
-pub orderly_in : (j : ℕ) (earlier : List Said) (now : Said) (opened : Said) → (now.session == j) ≡ true → open_of j earlier ≡ Some opened → now.transaction ≡ opened.transaction → Orderly j earlier → Orderly j (now ∷ earlier)
+pub orderly_in : (j : ℕ) (earlier : List Said) (now : Said) (opened : Said) → (now.session == j) ≡ true → open_of j earlier ≡ Some opened → now.transaction ≡ opened.transaction →
+    Orderly j earlier → Orderly j (now ∷ earlier)
 orderly_in j earlier now opened e f z o =
     let was : last_of j earlier ≡ Some opened = the_last (last_of j earlier) f in
     let number : nat_lt 0 now.transaction ≡ true = ap (nat_lt 0) z ∙ o.numbered opened was in
     let last : last_of j (now ∷ earlier) ≡ Some now = last_is_now j earlier now e number in
     record {
-      top = subst (λ l. Each (BelowIn j (next_after l)) (now ∷ earlier)) (sym last) (inr (omega arith), below_wider j (suc opened.transaction) (suc now.transaction) (omega (arith, z)) earlier (subst (λ l. Each (BelowIn j (next_after l)) earlier) was o.top));
+      top = subst (λ l. Each (BelowIn j (next_after l)) (now ∷ earlier)) (sym last) (
+        inr (omega arith),
+        below_wider j (suc opened.transaction) (suc now.transaction)
+            (omega (arith, z)) earlier (subst (λ l. Each (BelowIn j (next_after l)) earlier) was o.top),
+      );
       numbered = λ s k. subst (λ t. nat_lt 0 t.transaction ≡ true) (some_is_some now s (sym last ∙ k)) number;
       going = λ s k. opens (ends now) refl s (ap open_after (sym last) ∙ k);
     }
@@ -124,15 +137,19 @@ orderly_in j earlier now opened e f z o =
 
     opens : (b : Bool) → ends now ≡ b → (s : Said) → (if b then None else Some now) ≡ Some s → list_any ends (filter (is_of j s.transaction) (now ∷ earlier)) ≡ false
     opens true goes_on s k = absurd (none_is_not_some s k)
-    opens false goes_on s k = subst (λ t. list_any ends (filter (is_of j t.transaction) (now ∷ earlier)) ≡ false) (some_is_some now s k) (any_with j now.transaction earlier now e goes_on (ap (λ n. list_any ends (filter (is_of j n) earlier)) z ∙ o.going opened f))
+    opens false goes_on s k = subst (λ t. list_any ends (filter (is_of j t.transaction) (now ∷ earlier)) ≡ false) (some_is_some now s k)
+        (any_with j now.transaction earlier now e goes_on (ap (λ n. list_any ends (filter (is_of j n) earlier)) z ∙ o.going opened f))
 
-pub orderly_stands : (earlier : List Said) (r : Record) (reply : Reply) (q : Option Said) → open_of r.session earlier ≡ q → Orderly r.session earlier → Orderly r.session (standing q (next_after (last_of r.session earlier)) r reply ∷ earlier)
+pub orderly_stands : (earlier : List Said) (r : Record) (reply : Reply) (q : Option Said) → open_of r.session earlier ≡ q → Orderly r.session earlier →
+    Orderly r.session (standing q (next_after (last_of r.session earlier)) r reply ∷ earlier)
 orderly_stands earlier r reply None f o = orderly_next r.session earlier (standing None (next_after (last_of r.session earlier)) r reply) (same_number r.session) refl o
 orderly_stands earlier r reply (Some opened) f o = orderly_in r.session earlier (standing (Some opened) (next_after (last_of r.session earlier)) r reply) opened (same_number r.session) f refl o
 
-pub orderly_own : (earlier : List Said) (place j : ℕ) (reply : Reply) (s : Statement) → Orderly j earlier → Orderly j (said earlier (record { place = place; session = j; statement = s }) reply ∷ earlier)
+pub orderly_own : (earlier : List Said) (place j : ℕ) (reply : Reply) (s : Statement) → Orderly j earlier →
+    Orderly j (said earlier (record { place = place; session = j; statement = s }) reply ∷ earlier)
 orderly_own earlier place j reply (Begin scope) o = orderly_next j earlier (said earlier (record { place = place; session = j; statement = Begin scope }) reply) (same_number j) refl o
-orderly_own earlier place j reply (CursorOpen table low high) o = orderly_next j earlier (said earlier (record { place = place; session = j; statement = CursorOpen table low high }) reply) (same_number j) refl o
+orderly_own earlier place j reply (CursorOpen table low high) o = orderly_next j earlier
+    (said earlier (record { place = place; session = j; statement = CursorOpen table low high }) reply) (same_number j) refl o
 orderly_own earlier place j reply (Gc kind) o = orderly_beside j earlier (said earlier (record { place = place; session = j; statement = Gc kind }) reply) (same_number j) refl refl o
 orderly_own earlier place j reply s o = orderly_stands earlier (record { place = place; session = j; statement = s }) reply (open_of j earlier) refl o
 

@@ -52,7 +52,8 @@ firsts_over buckets (Wrote r image ∷ l) h =
     let n : ℕ = if not (is_some (image_in r (own_writes l))) then 1 else 0 in
     let one = one_bucket buckets (bucket_of buckets r) n (places_of buckets h r) in
     let add = below_add buckets (λ b. if (bucket_of buckets r == b) && not (is_some (image_in r (own_writes l))) then 1 else 0) (λ b. first_writes (is_of buckets b) l) in
-    let same : sum_below buckets (λ b. if (bucket_of buckets r == b) && not (is_some (image_in r (own_writes l))) then 1 else 0) ≡ sum_below buckets (λ b. if bucket_of buckets r == b then n else 0) = below_same buckets _ _ (λ b le. both (bucket_of buckets r == b) (not (is_some (image_in r (own_writes l))))) in
+    let same : sum_below buckets (λ b. if (bucket_of buckets r == b) && not (is_some (image_in r (own_writes l))) then 1 else 0) ≡ sum_below buckets
+    (λ b. if bucket_of buckets r == b then n else 0) = below_same buckets _ _ (λ b le. both (bucket_of buckets r == b) (not (is_some (image_in r (own_writes l))))) in
     let ih = firsts_over buckets l h in
     omega (arith, one, add, same, ih)
   where
@@ -83,10 +84,12 @@ undos_over buckets (Published n ∷ l) h = undos_over buckets l h
 undos_over buckets (Over ∷ l) h = undos_over buckets l h
 
 pub made_over : (buckets sessions : ℕ) (logs : ℕ → List LogEntry) → 0 < buckets → sum_below buckets (λ b. sum_to sessions (λ j. first_writes (is_of buckets b) (logs j))) ≡ made_in sessions logs
-made_over buckets sessions logs h = sums_swap buckets sessions (λ b j. first_writes (is_of buckets b) (logs j)) ∙ sum_same sessions (λ j. first_writes every (logs j)) (λ j. sum_below buckets (λ b. first_writes (is_of buckets b) (logs j))) (λ j le. firsts_over buckets (logs j) h)
+made_over buckets sessions logs h = sums_swap buckets sessions (λ b j. first_writes (is_of buckets b) (logs j)) ∙
+    sum_same sessions (λ j. first_writes every (logs j)) (λ j. sum_below buckets (λ b. first_writes (is_of buckets b) (logs j))) (λ j le. firsts_over buckets (logs j) h)
 
 pub undone_over : (buckets sessions : ℕ) (logs : ℕ → List LogEntry) → 0 < buckets → sum_below buckets (λ b. sum_to sessions (λ j. undos (is_of buckets b) (logs j))) ≡ undone_in sessions logs
-undone_over buckets sessions logs h = sums_swap buckets sessions (λ b j. undos (is_of buckets b) (logs j)) ∙ sum_same sessions (λ j. undos every (logs j)) (λ j. sum_below buckets (λ b. undos (is_of buckets b) (logs j))) (λ j le. undos_over buckets (logs j) h)
+undone_over buckets sessions logs h = sums_swap buckets sessions (λ b j. undos (is_of buckets b) (logs j)) ∙
+    sum_same sessions (λ j. undos every (logs j)) (λ j. sum_below buckets (λ b. undos (is_of buckets b) (logs j))) (λ j le. undos_over buckets (logs j) h)
 
 -- ---- what visits have
 
@@ -98,8 +101,10 @@ removed_over kind buckets (v ∷ vs) h =
     let ih = removed_over kind buckets vs h.1 in
     omega (arith, one, add, ih)
 
-pub all_removed_over : (kind : Kind) (buckets passes : ℕ) (visits : ℕ → List Visit) → ((p : ℕ) → Each (λ (v : Visit). v.bucket < buckets) (visits p)) → sum_below buckets (λ b. sum_below passes (λ p. removed_in kind b (visits p))) ≡ sum_below passes (λ p. removed_all kind (visits p))
-all_removed_over kind buckets passes visits h = swap_below buckets passes (λ b p. removed_in kind b (visits p)) ∙ below_same passes (λ p. removed_all kind (visits p)) (λ p. sum_below buckets (λ b. removed_in kind b (visits p))) (λ p le. removed_over kind buckets (visits p) (h p))
+pub all_removed_over : (kind : Kind) (buckets passes : ℕ) (visits : ℕ → List Visit) → ((p : ℕ) → Each (λ (v : Visit). v.bucket < buckets) (visits p)) →
+    sum_below buckets (λ b. sum_below passes (λ p. removed_in kind b (visits p))) ≡ sum_below passes (λ p. removed_all kind (visits p))
+all_removed_over kind buckets passes visits h = swap_below buckets passes (λ b p. removed_in kind b (visits p)) ∙
+    below_same passes (λ p. removed_all kind (visits p)) (λ p. sum_below buckets (λ b. removed_in kind b (visits p))) (λ p le. removed_over kind buckets (visits p) (h p))
 
 -- ---- live records
 
@@ -108,7 +113,8 @@ filtered_over buckets [] h = below_none buckets
 filtered_over buckets (r ∷ rs) h =
     let one = one_bucket buckets (bucket_of buckets r) 1 (places_of buckets h r) in
     let add = below_add buckets (λ b. if bucket_of buckets r == b then 1 else 0) (λ b. length (filter (is_of buckets b) rs)) in
-    let same : sum_below buckets (λ b. length (filter (is_of buckets b) (r ∷ rs))) ≡ sum_below buckets (λ b. (if bucket_of buckets r == b then 1 else 0) + length (filter (is_of buckets b) rs)) = below_same buckets _ _ (λ b le. kept (bucket_of buckets r == b) (filter (is_of buckets b) rs)) in
+    let same : sum_below buckets (λ b. length (filter (is_of buckets b) (r ∷ rs))) ≡ sum_below buckets
+    (λ b. (if bucket_of buckets r == b then 1 else 0) + length (filter (is_of buckets b) rs)) = below_same buckets _ _ (λ b le. kept (bucket_of buckets r == b) (filter (is_of buckets b) rs)) in
     let ih = filtered_over buckets rs h in
     omega (arith, one, add, same, ih)
   where
@@ -133,10 +139,12 @@ pub always_logged : Always (λ s. 0 < s.buckets → Logged s.buckets s.history s
 always_logged sessions tables buckets passes quota steps r some = state_logged _ (steady_after sessions tables buckets passes quota steps r) some
 
 pub state_made : (s : CoreState) → IsSteady s → 0 < s.buckets → sum_below s.buckets (λ b. (s.counters b).made) ≡ made_in s.sessions s.log
-state_made s h some = below_same s.buckets (λ b. sum_to s.sessions (λ j. first_writes (is_of s.buckets b) (s.log j))) (λ b. (s.counters b).made) (λ b le. h.counters_balance.made b) ∙ made_over s.buckets s.sessions s.log some
+state_made s h some = below_same s.buckets (λ b. sum_to s.sessions (λ j. first_writes (is_of s.buckets b) (s.log j))) (λ b. (s.counters b).made)
+    (λ b le. h.counters_balance.made b) ∙ made_over s.buckets s.sessions s.log some
 
 pub state_undone : (s : CoreState) → IsSteady s → 0 < s.buckets → sum_below s.buckets (λ b. (s.counters b).undone) ≡ undone_in s.sessions s.log
-state_undone s h some = below_same s.buckets (λ b. sum_to s.sessions (λ j. undos (is_of s.buckets b) (s.log j))) (λ b. (s.counters b).undone) (λ b le. h.counters_balance.undone b) ∙ undone_over s.buckets s.sessions s.log some
+state_undone s h some = below_same s.buckets (λ b. sum_to s.sessions (λ j. undos (is_of s.buckets b) (s.log j))) (λ b. (s.counters b).undone)
+    (λ b le. h.counters_balance.undone b) ∙ undone_over s.buckets s.sessions s.log some
 
 pub state_removed : (s : CoreState) (kind : Kind) → IsSteady s → sum_below s.buckets (λ b. removed_by kind (s.counters b).removed) ≡ sum_below s.passes (λ p. removed_all kind (s.visits p))
 state_removed s kind h =
@@ -153,7 +161,8 @@ pub always_removed : Always (λ s. (kind : Kind) → sum_below s.buckets (λ b. 
 always_removed sessions tables buckets passes quota steps r kind = state_removed _ kind (steady_after sessions tables buckets passes quota steps r)
 
 pub state_left : (s : CoreState) → IsSteady s → 0 < s.buckets → ((b : ℕ) → b < s.buckets → IsSettled s b) → sum_below s.buckets (λ b. total (s.bucket b)) ≡ length (live s.history)
-state_left s h some settled = below_same s.buckets (λ b. length (filter (is_of s.buckets b) (live s.history))) (λ b. total (s.bucket b)) (λ b le. rows_left s h b (settled b le)) ∙ filtered_over s.buckets (live s.history) some
+state_left s h some settled = below_same s.buckets (λ b. length (filter (is_of s.buckets b) (live s.history))) (λ b. total (s.bucket b)) (λ b le. rows_left s h b (settled b le)) ∙
+    filtered_over s.buckets (live s.history) some
 
 pub always_left : Always (λ s. 0 < s.buckets → ((b : ℕ) → b < s.buckets → IsSettled s b) → sum_below s.buckets (λ b. total (s.bucket b)) ≡ length (live s.history))
 always_left sessions tables buckets passes quota steps r = state_left _ (steady_after sessions tables buckets passes quota steps r)

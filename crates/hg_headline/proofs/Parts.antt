@@ -38,8 +38,13 @@ pub passing_contained : {X : Type 0} (p : X → ℕ) (b : ℕ) (xs : List X) →
 passing_contained p b [] = tt
 passing_contained p b (x ∷ xs) = go (p x == b) refl (passing_contained p b xs)
   where
-    go : (t : Bool) → (p x == b) ≡ t → Each (λ z. (p z == b) ≡ true → Contains (filter (λ z. p z == b) xs) z) xs → Each (λ z. (p z == b) ≡ true → Contains (cond t (x ∷ filter (λ z. p z == b) xs) (filter (λ z. p z == b) xs)) z) (x ∷ xs)
-    go true e h = (λ k. contains_first x (filter (λ z. p z == b) xs), each_keeps _ (λ z. (p z == b) ≡ true → Contains (x ∷ filter (λ z. p z == b) xs) z) (λ z f k. contains_more x z (filter (λ z. p z == b) xs) (f k)) xs h)
+    go : (t : Bool) → (p x == b) ≡ t → Each (λ z. (p z == b) ≡ true → Contains (filter (λ z. p z == b) xs) z) xs →
+        Each (λ z. (p z == b) ≡ true → Contains (cond t (x ∷ filter (λ z. p z == b) xs) (filter (λ z. p z == b) xs)) z) (x ∷ xs)
+    go true e h = (
+      λ k. contains_first x (filter (λ z. p z == b) xs),
+      each_keeps _ (λ z. (p z == b) ≡ true → Contains (x ∷ filter (λ z. p z == b) xs) z)
+          (λ z f k. contains_more x z (filter (λ z. p z == b) xs) (f k)) xs h,
+    )
     go false e h = (λ k. absurd (let q : false ≡ true = sym e ∙ k in cc), h)
 
 -- ---- ascending keys
@@ -80,22 +85,31 @@ bucket_in buckets table p = bucket_of buckets (record { table = table; key = p.0
 abbrev pub part_of : ℕ → TableId → List (ℕ × List Value) → ℕ → List (ℕ × List Value)
 part_of buckets table rows b = filter (λ p. bucket_in buckets table p == b) rows
 
-pub parts_join : (buckets : ℕ) (table : TableId) (look : ℕ → Image) (low high : ℕ) (rows : List (ℕ × List Value)) → ((r : Rid) → bucket_of buckets r < buckets) → AreRows look low high rows → Joins (IsReached buckets table low high) (part_of buckets table rows) rows
+pub parts_join : (buckets : ℕ) (table : TableId) (look : ℕ → Image) (low high : ℕ) (rows : List (ℕ × List Value)) → ((r : Rid) → bucket_of buckets r < buckets) →
+    AreRows look low high rows → Joins (IsReached buckets table low high) (part_of buckets table rows) rows
 parts_join buckets table look low high rows places are = record {
   ascend = are.ascend;
   each = own rows rows (λ b. passing_contained (bucket_in buckets table) b rows) are.each;
   every = λ b k. filter_contained (λ (p : ℕ × List Value). bucket_in buckets table p == b) rows;
 }
   where
-    own : (all xs : List (ℕ × List Value)) → ((b : ℕ) → Each (λ p. (bucket_in buckets table p == b) ≡ true → Contains (part_of buckets table all b) p) xs) → Each (λ p. (low ≤ p.0) × (p.0 ≤ high) × ((look p.0).row ≡ Some p.1)) xs → Each (λ (p : ℕ × List Value). (b : ℕ) × IsReached buckets table low high b × Contains (part_of buckets table all b) p) xs
+    own : (all xs : List (ℕ × List Value)) → ((b : ℕ) → Each (λ p. (bucket_in buckets table p == b) ≡ true → Contains (part_of buckets table all b) p) xs) →
+        Each (λ p. (low ≤ p.0) × (p.0 ≤ high) × ((look p.0).row ≡ Some p.1)) xs →
+        Each (λ (p : ℕ × List Value). (b : ℕ) × IsReached buckets table low high b × Contains (part_of buckets table all b) p) xs
     own all [] f h = tt
     own all (x ∷ xs) f h = (
-      (bucket_in buckets table x, (places (record { table = table; key = x.0 }), reached buckets table low high x.0 h.0.0 h.0.1), (f (bucket_in buckets table x)).0 (same_number (bucket_in buckets table x))),
+      (
+        bucket_in buckets table x,
+        (places (record { table = table; key = x.0 }), reached buckets table low high x.0 h.0.0 h.0.1),
+        (f (bucket_in buckets table x)).0
+            (same_number (bucket_in buckets table x)),
+      ),
       own all xs (λ b. (f b).1) h.1,
     )
 
 -- the rows of one bucket are those that it shows
-pub part_rows : (buckets b : ℕ) (table : TableId) (f : Rid → Image) (low high : ℕ) (rows : List (ℕ × List Value)) → AreRows (λ key. f (record { table = table; key = key })) low high rows → AreRows (in_bucket buckets b table f) low high (part_of buckets table rows b)
+pub part_rows : (buckets b : ℕ) (table : TableId) (f : Rid → Image) (low high : ℕ) (rows : List (ℕ × List Value)) →
+    AreRows (λ key. f (record { table = table; key = key })) low high rows → AreRows (in_bucket buckets b table f) low high (part_of buckets table rows b)
 part_rows buckets b table f low high rows a = record {
   ascend = ascends_filtered (λ (p : ℕ × List Value). p.0) (λ p. bucket_in buckets table p == b) rows a.ascend;
   each = own rows a.each;
@@ -116,22 +130,29 @@ part_rows buckets b table f low high rows a = record {
         go true e k = ((h.0.0, h.0.1, ap (λ t. (if t then f (record { table = table; key = x.0 }) else nothing).row) e ∙ h.0.2), k)
         go false e k = k
 
-    any_kept : (key : ℕ) (xs : List (ℕ × List Value)) → (bucket_of buckets (record { table = table; key = key }) == b) ≡ true → list_any (λ (p : ℕ × List Value). p.0 == key) xs ≡ true → list_any (λ (p : ℕ × List Value). p.0 == key) (part_of buckets table xs b) ≡ true
+    any_kept : (key : ℕ) (xs : List (ℕ × List Value)) → (bucket_of buckets (record { table = table; key = key }) == b) ≡ true →
+        list_any (λ (p : ℕ × List Value). p.0 == key) xs ≡ true → list_any (λ (p : ℕ × List Value). p.0 == key) (part_of buckets table xs b) ≡ true
     any_kept key [] e h = h
     any_kept key (x ∷ xs) e h = go (x.0 == key) refl h (any_kept key xs e)
       where
-        more : (t : Bool) → list_any (λ (p : ℕ × List Value). p.0 == key) (part_of buckets table xs b) ≡ true → list_any (λ (p : ℕ × List Value). p.0 == key) (cond t (x ∷ part_of buckets table xs b) (part_of buckets table xs b)) ≡ true
+        more : (t : Bool) → list_any (λ (p : ℕ × List Value). p.0 == key) (part_of buckets table xs b) ≡ true →
+            list_any (λ (p : ℕ × List Value). p.0 == key) (cond t (x ∷ part_of buckets table xs b) (part_of buckets table xs b)) ≡ true
         more true k = or_right (x.0 == key) (list_any (λ (p : ℕ × List Value). p.0 == key) (part_of buckets table xs b)) k
         more false k = k
 
-        go : (t : Bool) → (x.0 == key) ≡ t → (t || list_any (λ (p : ℕ × List Value). p.0 == key) xs) ≡ true → (list_any (λ (p : ℕ × List Value). p.0 == key) xs ≡ true → list_any (λ (p : ℕ × List Value). p.0 == key) (part_of buckets table xs b) ≡ true) → list_any (λ (p : ℕ × List Value). p.0 == key) (part_of buckets table (x ∷ xs) b) ≡ true
+        go : (t : Bool) → (x.0 == key) ≡ t → (t || list_any (λ (p : ℕ × List Value). p.0 == key) xs) ≡ true →
+            (list_any (λ (p : ℕ × List Value). p.0 == key) xs ≡ true → list_any (λ (p : ℕ × List Value). p.0 == key) (part_of buckets table xs b) ≡ true) →
+            list_any (λ (p : ℕ × List Value). p.0 == key) (part_of buckets table (x ∷ xs) b) ≡ true
         go true q k f =
             let same : x.0 ≡ key = (Decides-eqb x.0 key).0 q in
             let mine : (bucket_in buckets table x == b) ≡ true = ap (λ n. bucket_of buckets (record { table = table; key = n }) == b) same ∙ e in
-            ap (λ t. list_any (λ (p : ℕ × List Value). p.0 == key) (cond t (x ∷ part_of buckets table xs b) (part_of buckets table xs b))) mine ∙ or_left (x.0 == key) (list_any (λ (p : ℕ × List Value). p.0 == key) (part_of buckets table xs b)) q
+            ap (λ t. list_any (λ (p : ℕ × List Value). p.0 == key) (cond t (x ∷ part_of buckets table xs b) (part_of buckets table xs b))) mine ∙
+            or_left (x.0 == key) (list_any (λ (p : ℕ × List Value). p.0 == key) (part_of buckets table xs b)) q
         go false q k f = more (bucket_in buckets table x == b) (f k)
 
-    here : (key : ℕ) (t : Bool) → (bucket_of buckets (record { table = table; key = key }) == b) ≡ t → IsTrue (list_any (λ (p : ℕ × List Value). p.0 == key) rows) ⊎ ((f (record { table = table; key = key })).row ≡ None) → IsTrue (list_any (λ (p : ℕ × List Value). p.0 == key) (part_of buckets table rows b)) ⊎ ((if t then f (record { table = table; key = key }) else nothing).row ≡ None)
+    here : (key : ℕ) (t : Bool) → (bucket_of buckets (record { table = table; key = key }) == b) ≡ t →
+        IsTrue (list_any (λ (p : ℕ × List Value). p.0 == key) rows) ⊎ ((f (record { table = table; key = key })).row ≡ None) →
+        IsTrue (list_any (λ (p : ℕ × List Value). p.0 == key) (part_of buckets table rows b)) ⊎ ((if t then f (record { table = table; key = key }) else nothing).row ≡ None)
     here key true e (inl k) = inl (any_kept key rows e k)
     here key true e (inr k) = inr k
     here key false e k = inr refl

@@ -20,6 +20,7 @@ removed_said kind earlier [] (line ∷ lines) h = absurd h
 removed_said kind earlier (r ∷ rs) [] h = absurd h
 removed_said kind earlier (r ∷ rs) (line ∷ lines) h =
     let now : Said = said earlier r line.reply in
-    let one : removed_by kind now ≡ told_by kind line = ap (λ (reply : Reply). option_map_or (λ sweep. if same_kind sweep.kind kind then sweep.removed else 0) (report_of reply) 0) (said_says (last_of r.session earlier) r line.reply r.statement).2 in
+    let one : removed_by kind now ≡ told_by kind line = ap (λ (reply : Reply). option_map_or (λ sweep. if same_kind sweep.kind kind then sweep.removed else 0) (report_of reply) 0)
+    (said_says (last_of r.session earlier) r line.reply r.statement).2 in
     let rest = removed_said kind (now ∷ earlier) rs lines h.1 in
     omega (arith, one, rest, sum_by-cons (removed_by kind) now (said_from (now ∷ earlier) rs lines), sum_by-cons (told_by kind) line lines)

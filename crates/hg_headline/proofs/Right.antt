@@ -44,7 +44,9 @@ StillIn earlier r _ = ⊤
 
 -- ---- conflicts
 
-pub cause_right : (mode : Mode) (h k : History) (logs : ℕ → List LogEntry) (all earlier : List Said) (now : Said) (j s : ℕ) (own : List Write) (r : Rid) (a : Answer) → Reads h k logs all → now.session ≡ j → now.at ≡ s → own_before earlier now ≡ own → OnReplay mode (StillIn earlier r a) → IsFalse (is_some (image_in r own)) × Refuses h logs j s r a → ShowsCause mode k all earlier now r a
+pub cause_right : (mode : Mode) (h k : History) (logs : ℕ → List LogEntry) (all earlier : List Said) (now : Said) (j s : ℕ) (own : List Write) (r : Rid) (a : Answer) →
+    Reads h k logs all → now.session ≡ j → now.at ≡ s → own_before earlier now ≡ own → OnReplay mode (StillIn earlier r a) → IsFalse (is_some (image_in r own)) ×
+    Refuses h logs j s r a → ShowsCause mode k all earlier now r a
 cause_right mode h k logs all earlier now j s own r (Newer c) t mine at same still (none, f) = (
   ap (λ ws. is_some (image_in r ws)) same ∙ none,
   record {
@@ -64,21 +66,35 @@ cause_right mode h k logs all earlier now j s own r (OpenBy w) t mine at same st
 )
 cause_right mode h k logs all earlier now j s own r _ t mine at same still (none, f) = absurd f
 
-pub put_shown : (mode : Mode) (buckets : ℕ) (h k : History) (logs : ℕ → List LogEntry) (all earlier : List Said) (now : Said) (j : ℕ) (r : Rid) (row : List Value) (a : Answer) (l : List LogEntry) (c : Snapshot) → Reads h k logs all → now.session ≡ j → now.at ≡ c.at → own_before earlier now ≡ own_writes l → OnReplay mode (StillIn earlier r a) → current l ≡ Some c → AreReplied buckets h logs j (put_entries r row a ++ l) → ShowsCause mode k all earlier now r a
-put_shown mode buckets h k logs all earlier now j r row (Newer n) l c t mine at same still e g = cause_right mode h k logs all earlier now j c.at (own_writes l) r (Newer n) t mine at same still (of_some (current l) _ c e g.0).1
-put_shown mode buckets h k logs all earlier now j r row (OpenBy w) l c t mine at same still e g = cause_right mode h k logs all earlier now j c.at (own_writes l) r (OpenBy w) t mine at same still (of_some (current l) _ c e g.0).1
+pub put_shown : (mode : Mode) (buckets : ℕ) (h k : History) (logs : ℕ → List LogEntry) (all earlier : List Said) (now : Said) (j : ℕ) (r : Rid) (row : List Value) (a : Answer)
+    (l : List LogEntry) (c : Snapshot) → Reads h k logs all → now.session ≡ j → now.at ≡ c.at → own_before earlier now ≡ own_writes l → OnReplay mode (StillIn earlier r a) →
+    current l ≡ Some c → AreReplied buckets h logs j (put_entries r row a ++ l) → ShowsCause mode k all earlier now r a
+put_shown mode buckets h k logs all earlier now j r row (Newer n) l c t mine at same still e g = cause_right mode h k logs all earlier now j c.at (own_writes l) r
+    (Newer n) t mine at same still (of_some (current l) _ c e g.0).1
+put_shown mode buckets h k logs all earlier now j r row (OpenBy w) l c t mine at same still e g = cause_right mode h k logs all earlier now j c.at (own_writes l) r
+    (OpenBy w) t mine at same still (of_some (current l) _ c e g.0).1
 put_shown mode buckets h k logs all earlier now j r row _ l c t mine at same still e g = tt
 
-pub del_shown : (mode : Mode) (buckets : ℕ) (h k : History) (logs : ℕ → List LogEntry) (all earlier : List Said) (now : Said) (j : ℕ) (found : List Value) (r : Rid) (a : Answer) (l : List LogEntry) (c : Snapshot) → Reads h k logs all → now.session ≡ j → now.at ≡ c.at → own_before earlier now ≡ own_writes l → OnReplay mode (StillIn earlier r a) → current l ≡ Some c → AreReplied buckets h logs j (del_entries buckets found r a ++ l) → ShowsCause mode k all earlier now r a
-del_shown mode buckets h k logs all earlier now j found r (Newer n) l c t mine at same still e g = cause_right mode h k logs all earlier now j c.at (own_writes l) r (Newer n) t mine at same still (of_some (current l) _ c e g.0).1
-del_shown mode buckets h k logs all earlier now j found r (OpenBy w) l c t mine at same still e g = cause_right mode h k logs all earlier now j c.at (own_writes l) r (OpenBy w) t mine at same still (of_some (current l) _ c e g.0).1
+pub del_shown : (mode : Mode) (buckets : ℕ) (h k : History) (logs : ℕ → List LogEntry) (all earlier : List Said) (now : Said) (j : ℕ) (found : List Value) (r : Rid) (a : Answer)
+    (l : List LogEntry) (c : Snapshot) → Reads h k logs all → now.session ≡ j → now.at ≡ c.at → own_before earlier now ≡ own_writes l → OnReplay mode (StillIn earlier r a) →
+    current l ≡ Some c → AreReplied buckets h logs j (del_entries buckets found r a ++ l) → ShowsCause mode k all earlier now r a
+del_shown mode buckets h k logs all earlier now j found r (Newer n) l c t mine at same still e g = cause_right mode h k logs all earlier now j c.at (own_writes l) r
+    (Newer n) t mine at same still (of_some (current l) _ c e g.0).1
+del_shown mode buckets h k logs all earlier now j found r (OpenBy w) l c t mine at same still e g = cause_right mode h k logs all earlier now j c.at (own_writes l) r
+    (OpenBy w) t mine at same still (of_some (current l) _ c e g.0).1
 del_shown mode buckets h k logs all earlier now j found r _ l c t mine at same still e g = tt
 
-pub conflict_right : (mode : Mode) (buckets : ℕ) (h k : History) (logs : ℕ → List LogEntry) (all earlier : List Said) (now : Said) (u : Unprinted) (j : ℕ) (s : Statement) (l : List LogEntry) (c : Snapshot) → Reads h k logs all → now.session ≡ j → now.at ≡ c.at → own_before earlier now ≡ own_writes l → IfSome (target s) (λ r. OnReplay mode (StillIn earlier r now.reply.answer)) → current l ≡ Some c → AreReplied buckets h logs j (own_entries buckets u s now.reply.answer ++ l) → IfSome (target s) (λ r. ShowsCause mode k all earlier now r now.reply.answer)
-conflict_right mode buckets h k logs all earlier now u j (Put r row) l c t mine at same still e g = put_shown mode buckets h k logs all earlier now j r row now.reply.answer l c t mine at same still e g
-conflict_right mode buckets h k logs all earlier now u j (Del r) l c t mine at same still e g = del_shown mode buckets h k logs all earlier now j u.found r now.reply.answer l c t mine at same still e g
+pub conflict_right : (mode : Mode) (buckets : ℕ) (h k : History) (logs : ℕ → List LogEntry) (all earlier : List Said) (now : Said) (u : Unprinted) (j : ℕ) (s : Statement)
+    (l : List LogEntry) (c : Snapshot) → Reads h k logs all → now.session ≡ j → now.at ≡ c.at → own_before earlier now ≡ own_writes l →
+    IfSome (target s) (λ r. OnReplay mode (StillIn earlier r now.reply.answer)) → current l ≡ Some c → AreReplied buckets h logs j (own_entries buckets u s now.reply.answer ++ l) →
+    IfSome (target s) (λ r. ShowsCause mode k all earlier now r now.reply.answer)
+conflict_right mode buckets h k logs all earlier now u j (Put r row) l c t mine at same still e g = put_shown mode buckets h k logs all earlier now j r row now.reply.answer l c t
+    mine at same still e g
+conflict_right mode buckets h k logs all earlier now u j (Del r) l c t mine at same still e g = del_shown mode buckets h k logs all earlier now j u.found r now.reply.answer l c t
+    mine at same still e g
 conflict_right mode buckets h k logs all earlier now u j _ l c t mine at same still e g = tt
 
 -- what the transaction sees by its log it sees by its lines
-pub seen_is : (h k : History) (logs : ℕ → List LogEntry) (all earlier : List Said) (now : Said) (own : List Write) (s : ℕ) → Reads h k logs all → now.at ≡ s → own_before earlier now ≡ own → seen h own s ≡ seen k (own_before earlier now) now.at
+pub seen_is : (h k : History) (logs : ℕ → List LogEntry) (all earlier : List Said) (now : Said) (own : List Write) (s : ℕ) → Reads h k logs all → now.at ≡ s →
+    own_before earlier now ≡ own → seen h own s ≡ seen k (own_before earlier now) now.at
 seen_is h k logs all earlier now own s t at same = λ i r. unwrap_or (image_in r (sym same i)) ((t.sees r s ∙ ap (visible k r) (sym at)) i)

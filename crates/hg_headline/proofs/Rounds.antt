@@ -48,9 +48,11 @@ shape_more [] more (line ∷ lines) later h k = absurd h
 shape_more (r ∷ rs) more [] later h k = absurd h
 shape_more (r ∷ rs) more (line ∷ lines) later h k = (h.0, shape_more rs more lines later h.1 k)
 
-pub sessions_shape : (records : List Record) (lines : ℕ → List Line) → ((j : ℕ) → HasShape (of_session j records) (lines j)) → (n many : ℕ) → HasShape (flat_map (λ j. of_session j records) (numbers_from n many)) (flat_map lines (numbers_from n many))
+pub sessions_shape : (records : List Record) (lines : ℕ → List Line) → ((j : ℕ) → HasShape (of_session j records) (lines j)) → (n many : ℕ) →
+    HasShape (flat_map (λ j. of_session j records) (numbers_from n many)) (flat_map lines (numbers_from n many))
 sessions_shape records lines h n zero = tt
-sessions_shape records lines h n (suc many) = shape_more (of_session n records) (flat_map (λ j. of_session j records) (numbers_from (suc n) many)) (lines n) (flat_map lines (numbers_from (suc n) many)) (h n) (sessions_shape records lines h (suc n) many)
+sessions_shape records lines h n (suc many) = shape_more (of_session n records) (flat_map (λ j. of_session j records) (numbers_from (suc n) many)) (lines n)
+    (flat_map lines (numbers_from (suc n) many)) (h n) (sessions_shape records lines h (suc n) many)
 
 pub same_kind_itself : (kind : Kind) → same_kind kind kind ≡ true
 same_kind_itself kinds.Group = refl
@@ -60,11 +62,13 @@ same_kind_itself kinds.Interval = refl
 pub same_kind_is : (a b : Kind) → a ≡ b → same_kind a b ≡ true
 same_kind_is a b e = ap (λ k. same_kind k b) e ∙ same_kind_itself b
 
-pub reports_shape : (h : History) (logs : ℕ → List LogEntry) (kind : Kind) (reports : List Report) (n : ℕ) → Each (IsPassReport h logs kind) reports → HasShape (map (round_of kind) (numbers_from n (length reports))) (report_lines n reports)
+pub reports_shape : (h : History) (logs : ℕ → List LogEntry) (kind : Kind) (reports : List Report) (n : ℕ) → Each (IsPassReport h logs kind) reports →
+    HasShape (map (round_of kind) (numbers_from n (length reports))) (report_lines n reports)
 reports_shape h logs kind [] n k = tt
 reports_shape h logs kind (report ∷ reports) n k = (record { session = refl; place = refl; report = same_kind_is report.kind kind k.0.kind }, reports_shape h logs kind reports (suc n) k.1)
 
-pub rounds_shape : (h : History) (logs : ℕ → List LogEntry) (rounds : ℕ) (kind : Kind) (reports : List Report) → AreReports h logs kind rounds reports → HasShape (rounds_of kind rounds) (report_lines 1 reports)
+pub rounds_shape : (h : History) (logs : ℕ → List LogEntry) (rounds : ℕ) (kind : Kind) (reports : List Report) → AreReports h logs kind rounds reports →
+    HasShape (rounds_of kind rounds) (report_lines 1 reports)
 rounds_shape h logs rounds kind reports k = subst (λ n. HasShape (map (round_of kind) (numbers_from 1 n)) (report_lines 1 reports)) k.count (reports_shape h logs kind reports 1 k.each)
 
 -- ---- a session's lines are no reports
@@ -80,19 +84,24 @@ no_mark kind now earlier e h = go (report_of now.reply) e
     go None k = h
     go (Some sweep) k = absurd (let z : Some sweep ≡ None = k in cc)
 
-pub session_known : (rounds buckets : ℕ) (h : History) (logs : ℕ → List LogEntry) (l m : List LogEntry) (rs more : List Record) (lines later : List Line) (earlier : List Said) (left : Option Rest) → Tells buckets LeavesLine l left rs lines m → NoMarks earlier →
-    ((es : List Said) → NoMarks es → EachAfter (IsKnown (run rounds) h logs) es (said_from es more later)) → EachAfter (IsKnown (run rounds) h logs) earlier (said_from earlier (rs ++ more) (lines ++ later))
+pub session_known : (rounds buckets : ℕ) (h : History) (logs : ℕ → List LogEntry) (l m : List LogEntry) (rs more : List Record) (lines later : List Line) (earlier : List Said)
+    (left : Option Rest) → Tells buckets LeavesLine l left rs lines m → NoMarks earlier →
+    ((es : List Said) → NoMarks es → EachAfter (IsKnown (run rounds) h logs) es (said_from es more later)) →
+    EachAfter (IsKnown (run rounds) h logs) earlier (said_from earlier (rs ++ more) (lines ++ later))
 session_known rounds buckets h logs l m [] more [] later earlier left t none f = f earlier none
 session_known rounds buckets h logs l m [] more (line ∷ lines) later earlier left t none f = absurd t
 session_known rounds buckets h logs l m (r ∷ rs) more [] later earlier left t none f = absurd t
 session_known rounds buckets h logs l m (r ∷ rs) more (line ∷ lines) later earlier left t none f =
     let now : Said = said earlier r line.reply in
-    let no : report_of now.reply ≡ None = ap report_of (said_says (last_of r.session earlier) r line.reply r.statement).2 ∙ no_report buckets t.1.0 (own_writes l) r.statement line.reply.answer t.0 t.1.1.answer in (
+    let no : report_of now.reply ≡ None = ap report_of (said_says (last_of r.session earlier) r line.reply r.statement).2 ∙
+    no_report buckets t.1.0 (own_writes l) r.statement line.reply.answer t.0 t.1.1.answer in (
       record { exact = tt; still = if_any (target now.statement) _ (λ r. tt); report = if_none (report_of now.reply) (IsGathered h logs earlier) no },
-      session_known rounds buckets h logs (log_after buckets t.1.0 r.statement line.reply l) m rs more lines later (now ∷ earlier) (rest_after r.statement line.reply.answer left) t.1.2 (λ kind. no_mark kind now earlier no (none kind)) f,
+      session_known rounds buckets h logs (log_after buckets t.1.0 r.statement line.reply l) m rs more lines later (now ∷ earlier)
+          (rest_after r.statement line.reply.answer left) t.1.2 (λ kind. no_mark kind now earlier no (none kind)) f,
     )
 
-pub sessions_known : (rounds buckets : ℕ) (h : History) (logs : ℕ → List LogEntry) (records : List Record) (lines : ℕ → List Line) (more : List Record) (later : List Line) → ((j : ℕ) → Tells buckets LeavesLine [] None (of_session j records) (lines j) (logs j)) →
+pub sessions_known : (rounds buckets : ℕ) (h : History) (logs : ℕ → List LogEntry) (records : List Record) (lines : ℕ → List Line) (more : List Record) (later : List Line) →
+    ((j : ℕ) → Tells buckets LeavesLine [] None (of_session j records) (lines j) (logs j)) →
     ((es : List Said) → NoMarks es → EachAfter (IsKnown (run rounds) h logs) es (said_from es more later)) → (n many : ℕ) (earlier : List Said) → NoMarks earlier →
     EachAfter (IsKnown (run rounds) h logs) earlier (said_from earlier (flat_map (λ j. of_session j records) (numbers_from n many) ++ more) (flat_map lines (numbers_from n many) ++ later))
 sessions_known rounds buckets h logs records lines more later t f n zero earlier none = f earlier none
@@ -114,7 +123,8 @@ begun_at_all d n (Began at scope ∷ l) e = go (or_cases ((at == n) && (if d the
     first true b k = refl
     first false b k = k
 
-    go : (((at == n) && (if d then is_declared scope else true)) ≡ true) ⊎ (began_at d n l ≡ true) → (began_at d n l ≡ true → began_at false n l ≡ true) → (((at == n) && true) || began_at false n l) ≡ true
+    go : (((at == n) && (if d then is_declared scope else true)) ≡ true) ⊎ (began_at d n l ≡ true) → (began_at d n l ≡ true → began_at false n l ≡ true) →
+        (((at == n) && true) || began_at false n l) ≡ true
     go (inl k) f = or_left ((at == n) && true) (began_at false n l) (first (at == n) (if d then is_declared scope else true) k)
     go (inr k) f = or_right ((at == n) && true) (began_at false n l) (f k)
 begun_at_all d n (Saw t low high b rows ∷ l) e = begun_at_all d n l e
@@ -139,7 +149,8 @@ pub entry_sessions : (entries : List Entry) → map (λ (t : Told). t.session) (
 entry_sessions [] = refl
 entry_sessions (e ∷ es) = ap (λ ns. e.session ∷ ns) (entry_sessions es)
 
-pub told_gathered : (h : History) (logs : ℕ → List LogEntry) (kind : Kind) (report : Report) (earlier : List Said) → IsPassReport h logs kind report → Each (λ m. m ≤ report.mark) (filter_map (mark_of kind) earlier) → IsGathered h logs earlier (sweep_of report)
+pub told_gathered : (h : History) (logs : ℕ → List LogEntry) (kind : Kind) (report : Report) (earlier : List Said) → IsPassReport h logs kind report →
+    Each (λ m. m ≤ report.mark) (filter_map (mark_of kind) earlier) → IsGathered h logs earlier (sweep_of report)
 told_gathered h logs kind report earlier p rising = record {
   rising = subst (λ k. Each (λ m. m ≤ report.mark) (filter_map (mark_of k) earlier)) (sym p.kind) rising;
   horizon = p.horizon;
@@ -153,12 +164,23 @@ abbrev pub Below : Kind → List Said → List Report → Type 0
 Below kind earlier reports = Each (λ (p : Report). Each (λ m. m ≤ p.mark) (filter_map (mark_of kind) earlier)) reports
 
 abbrev pub report_said : Kind → ℕ → Report → Said
-report_said kind n report = record { session = 0; place = n; transaction = 0; at = 0; scope = All; alone = false; statement = Gc kind; reply = record { at = None; answer = Swept (sweep_of report); number = None } }
+report_said kind n report = record {
+  session = 0;
+  place = n;
+  transaction = 0;
+  at = 0;
+  scope = All;
+  alone = false;
+  statement = Gc kind;
+  reply = record { at = None; answer = Swept (sweep_of report); number = None };
+}
 
-pub marks_with : (kind : Kind) (n : ℕ) (report : Report) (earlier : List Said) → report.kind ≡ kind → filter_map (mark_of kind) (report_said kind n report ∷ earlier) ≡ report.mark ∷ filter_map (mark_of kind) earlier
+pub marks_with : (kind : Kind) (n : ℕ) (report : Report) (earlier : List Said) → report.kind ≡ kind →
+    filter_map (mark_of kind) (report_said kind n report ∷ earlier) ≡ report.mark ∷ filter_map (mark_of kind) earlier
 marks_with kind n report earlier e = ap (λ b. cons_option (if b then Some report.mark else None) (filter_map (mark_of kind) earlier)) (same_kind_is report.kind kind e)
 
-pub reports_known : (rounds : ℕ) (h : History) (logs : ℕ → List LogEntry) (kind : Kind) (reports : List Report) (n : ℕ) (more : List Record) (later : List Line) (earlier : List Said) → Each (IsPassReport h logs kind) reports → NotFalling (map (λ (p : Report). p.mark) reports) → Below kind earlier reports →
+pub reports_known : (rounds : ℕ) (h : History) (logs : ℕ → List LogEntry) (kind : Kind) (reports : List Report) (n : ℕ) (more : List Record) (later : List Line)
+    (earlier : List Said) → Each (IsPassReport h logs kind) reports → NotFalling (map (λ (p : Report). p.mark) reports) → Below kind earlier reports →
     ((es : List Said) → ((k : Kind) → same_kind kind k ≡ false → filter_map (mark_of k) es ≡ filter_map (mark_of k) earlier) → EachAfter (IsKnown (run rounds) h logs) es (said_from es more later)) →
     EachAfter (IsKnown (run rounds) h logs) earlier (said_from earlier (map (round_of kind) (numbers_from n (length reports)) ++ more) (report_lines n reports ++ later))
 reports_known rounds h logs kind [] n more later earlier ps rising below f = f earlier (λ k e. refl)
@@ -171,21 +193,24 @@ reports_known rounds h logs kind (report ∷ reports) n more later earlier ps ri
     )
   where
     each_after_mark : (qs : List Report) → Each (λ (p : Report). report.mark ≤ p.mark) qs → Below kind earlier qs → Below kind (report_said kind n report ∷ earlier) qs
-    each_after_mark qs a b = each_keeps (λ (p : Report). (report.mark ≤ p.mark) × Each (λ m. m ≤ p.mark) (filter_map (mark_of kind) earlier)) (λ (p : Report). Each (λ m. m ≤ p.mark) (filter_map (mark_of kind) (report_said kind n report ∷ earlier)))
+    each_after_mark qs a b = each_keeps (λ (p : Report). (report.mark ≤ p.mark) × Each (λ m. m ≤ p.mark) (filter_map (mark_of kind) earlier))
+        (λ (p : Report). Each (λ m. m ≤ p.mark) (filter_map (mark_of kind) (report_said kind n report ∷ earlier)))
         (λ p k. subst (Each (λ m. m ≤ p.mark)) (sym (marks_with kind n report earlier ps.0.kind)) (k.0, k.1)) qs (each_pairs _ _ qs a b)
 
 pub below_none : (kind : Kind) (earlier : List Said) (reports : List Report) → filter_map (mark_of kind) earlier ≡ [] → Below kind earlier reports
 below_none kind earlier [] e = tt
 below_none kind earlier (p ∷ ps) e = (subst (Each (λ m. m ≤ p.mark)) (sym e) tt, below_none kind earlier ps e)
 
-pub rounds_known : (rounds : ℕ) (h : History) (logs : ℕ → List LogEntry) (kind : Kind) (reports : List Report) (more : List Record) (later : List Line) (earlier : List Said) → AreReports h logs kind rounds reports → filter_map (mark_of kind) earlier ≡ [] →
+pub rounds_known : (rounds : ℕ) (h : History) (logs : ℕ → List LogEntry) (kind : Kind) (reports : List Report) (more : List Record) (later : List Line) (earlier : List Said) →
+    AreReports h logs kind rounds reports → filter_map (mark_of kind) earlier ≡ [] →
     ((es : List Said) → ((k : Kind) → same_kind kind k ≡ false → filter_map (mark_of k) es ≡ filter_map (mark_of k) earlier) → EachAfter (IsKnown (run rounds) h logs) es (said_from es more later)) →
     EachAfter (IsKnown (run rounds) h logs) earlier (said_from earlier (rounds_of kind rounds ++ more) (report_lines 1 reports ++ later))
 rounds_known rounds h logs kind reports more later earlier p none f =
     subst (λ n. EachAfter (IsKnown (run rounds) h logs) earlier (said_from earlier (map (round_of kind) (numbers_from 1 n) ++ more) (report_lines 1 reports ++ later))) p.count
     (reports_known rounds h logs kind reports 1 more later earlier p.each p.rising (below_none kind earlier reports none) f)
 
-pub last_known : (rounds : ℕ) (h : History) (logs : ℕ → List LogEntry) (reports : List Report) (earlier : List Said) → AreReports h logs kinds.Interval rounds reports → filter_map (mark_of kinds.Interval) earlier ≡ [] → EachAfter (IsKnown (run rounds) h logs) earlier (said_from earlier (rounds_of kinds.Interval rounds) (report_lines 1 reports))
+pub last_known : (rounds : ℕ) (h : History) (logs : ℕ → List LogEntry) (reports : List Report) (earlier : List Said) → AreReports h logs kinds.Interval rounds reports →
+    filter_map (mark_of kinds.Interval) earlier ≡ [] → EachAfter (IsKnown (run rounds) h logs) earlier (said_from earlier (rounds_of kinds.Interval rounds) (report_lines 1 reports))
 last_known rounds h logs reports earlier p none =
     subst (λ rs. EachAfter (IsKnown (run rounds) h logs) earlier (said_from earlier rs (report_lines 1 reports))) (append_nil (rounds_of kinds.Interval rounds))
     (subst (λ ls. EachAfter (IsKnown (run rounds) h logs) earlier (said_from earlier (rounds_of kinds.Interval rounds ++ []) ls)) (append_nil (report_lines 1 reports))
@@ -193,7 +218,8 @@ last_known rounds h logs reports earlier p none =
 
 -- ---- the whole run
 
-pub run_known : (buckets : ℕ) (h : History) (logs : ℕ → List LogEntry) (rounds : ℕ) (records : List Record) (lines : ℕ → List Line) (group table interval : List Report) → HasRun buckets h logs rounds records lines group table interval → EachAfter (IsKnown (run rounds) h logs) [] (said_from [] (parted rounds records) (run_lines records lines group table interval))
+pub run_known : (buckets : ℕ) (h : History) (logs : ℕ → List LogEntry) (rounds : ℕ) (records : List Record) (lines : ℕ → List Line) (group table interval : List Report) →
+    HasRun buckets h logs rounds records lines group table interval → EachAfter (IsKnown (run rounds) h logs) [] (said_from [] (parted rounds records) (run_lines records lines group table interval))
 run_known buckets h logs rounds records lines group table interval ran =
     sessions_known rounds buckets h logs records lines _ _ ran.tells
     (λ es none. rounds_known rounds h logs kinds.Group group _ _ es ran.of_group (none kinds.Group)
@@ -201,23 +227,29 @@ run_known buckets h logs rounds records lines group table interval ran =
     (λ gs i. last_known rounds h logs interval gs ran.of_interval (i kinds.Interval refl ∙ k kinds.Interval refl ∙ none kinds.Interval))))
     1 (greatest (map (λ (r : Record). r.session) records)) [] (λ kind. refl)
 
-pub run_shape : (buckets : ℕ) (h : History) (logs : ℕ → List LogEntry) (rounds : ℕ) (records : List Record) (lines : ℕ → List Line) (group table interval : List Report) → HasRun buckets h logs rounds records lines group table interval → HasShape (parted rounds records) (run_lines records lines group table interval)
+pub run_shape : (buckets : ℕ) (h : History) (logs : ℕ → List LogEntry) (rounds : ℕ) (records : List Record) (lines : ℕ → List Line) (group table interval : List Report) →
+    HasRun buckets h logs rounds records lines group table interval → HasShape (parted rounds records) (run_lines records lines group table interval)
 run_shape buckets h logs rounds records lines group table interval ran =
-    shape_more (flat_map (λ j. of_session j records) (sessions_of records)) _ (flat_map lines (sessions_of records)) _ (sessions_shape records lines ran.shape 1 (greatest (map (λ (r : Record). r.session) records)))
+    shape_more (flat_map (λ j. of_session j records) (sessions_of records)) _ (flat_map lines (sessions_of records)) _
+    (sessions_shape records lines ran.shape 1 (greatest (map (λ (r : Record). r.session) records)))
     (shape_more (rounds_of kinds.Group rounds) _ (report_lines 1 group) _ (rounds_shape h logs rounds kinds.Group group ran.of_group)
-    (shape_more (rounds_of kinds.Table rounds) (rounds_of kinds.Interval rounds) (report_lines 1 table) (report_lines 1 interval) (rounds_shape h logs rounds kinds.Table table ran.of_table) (rounds_shape h logs rounds kinds.Interval interval ran.of_interval)))
+    (shape_more (rounds_of kinds.Table rounds) (rounds_of kinds.Interval rounds) (report_lines 1 table) (report_lines 1 interval)
+    (rounds_shape h logs rounds kinds.Table table ran.of_table) (rounds_shape h logs rounds kinds.Interval interval ran.of_interval)))
 
-pub run_sound : (buckets : ℕ) (h : History) (logs : ℕ → List LogEntry) (rounds : ℕ) (script : Script) (lines : ℕ → List Line) (group table interval : List Report) → HasRun buckets h logs rounds script.records lines group table interval → LinesAreSound (run rounds) script (run_lines script.records lines group table interval)
+pub run_sound : (buckets : ℕ) (h : History) (logs : ℕ → List LogEntry) (rounds : ℕ) (script : Script) (lines : ℕ → List Line) (group table interval : List Report) →
+    HasRun buckets h logs rounds script.records lines group table interval → LinesAreSound (run rounds) script (run_lines script.records lines group table interval)
 run_sound buckets h logs rounds script lines group table interval ran =
     let records : List Record = script.records in
     let printed : List Line = run_lines records lines group table interval in
     let asked : List Record = in_order (run rounds) records in
     let all : List Said = said_from [] asked printed in
     let e : parted rounds records ≡ asked = sym (in_order_is rounds records) in
-    let told = lines_told (run rounds) buckets h (history_of all) logs all (RunsGc rounds) (λ j l. ⊤) (λ j x l q. tt) (places_of buckets ran.logged.some) (λ ls q line m. m) asked printed (λ j. []) logs []
+    let told = lines_told (run rounds) buckets h (history_of all) logs all (RunsGc rounds) (λ j l. ⊤) (λ j x l q. tt) (places_of buckets ran.logged.some)
+    (λ ls q line m. m) asked printed (λ j. []) logs []
     (λ j. ties_nothing j) (λ j. None) (λ j. left_nothing j) (run_follows buckets h logs rounds records lines group table interval ran) ran.logged.judged ran.logged.replied (λ j. tt) in
     let both = each_after_first (IsTold (run rounds) h (history_of all) logs all) (AtLine buckets (RunsGc rounds) (λ j l. ⊤)) [] all told.0 in
     record {
       shape = subst (λ rs. HasShape rs printed) e (run_shape buckets h logs rounds records lines group table interval ran);
-      right = told_right (run rounds) buckets h logs all ran.logged told.1 both.0 (subst (λ rs. EachAfter (IsKnown (run rounds) h logs) [] (said_from [] rs printed)) e (run_known buckets h logs rounds records lines group table interval ran));
+      right = told_right (run rounds) buckets h logs all ran.logged told.1 both.0 (subst (λ rs. EachAfter (IsKnown (run rounds) h logs) [] (said_from [] rs printed)) e
+          (run_known buckets h logs rounds records lines group table interval ran));
     }

@@ -64,7 +64,8 @@ rests_same : (left : ℕ → Option Rest) (j : ℕ) → put left j (left j) ≡ 
 rests_same left j = λ i k. by_number j (λ k b. (if b then left j else left k) ≡ left k) refl (λ k z. refl) k i
 
 -- the records of one session, from its log, and then the others
-pub session_follows : (rounds buckets j : ℕ) (rs more : List Record) (lines later : List Line) (logs final : ℕ → List LogEntry) (left : ℕ → Option Rest) (l m : List LogEntry) (rest : Option Rest) → (j == 0) ≡ false → Each (λ (r : Record). r.session ≡ j) rs → l ≡ logs j → rest ≡ left j → Tells buckets LeavesLine l rest rs lines m →
+pub session_follows : (rounds buckets j : ℕ) (rs more : List Record) (lines later : List Line) (logs final : ℕ → List LogEntry) (left : ℕ → Option Rest) (l m : List LogEntry)
+    (rest : Option Rest) → (j == 0) ≡ false → Each (λ (r : Record). r.session ≡ j) rs → l ≡ logs j → rest ≡ left j → Tells buckets LeavesLine l rest rs lines m →
     Follows buckets (RunsGc rounds) (put logs j m) (put left j (rest_over rest rs lines)) more later final → Follows buckets (RunsGc rounds) logs left (rs ++ more) (lines ++ later) final
 session_follows rounds buckets j [] more [] later logs final left l m rest not is e k t f =
     subst (λ ls. Follows buckets (RunsGc rounds) ls left more later final) (ap (put logs j) (t ∙ e) ∙ put_same logs j)
@@ -76,7 +77,8 @@ session_follows rounds buckets j (r ∷ rs) more (line ∷ lines) later logs fin
     let after : List LogEntry = log_after buckets u r.statement line.reply l in
     let behind : Option Rest = rest_after r.statement line.reply.answer rest in
     let at : ℕ → List LogEntry → Option Rest → Type 0 = λ i x y. (v : Unprinted) × Fits buckets v x r.statement line.reply
-    × Follows buckets (RunsGc rounds) (put logs i (log_after buckets v r.statement line.reply x)) (put left i (rest_after r.statement line.reply.answer y)) (rs ++ more) (lines ++ later) final × HasRest r.statement v.rest y in
+    × Follows buckets (RunsGc rounds) (put logs i (log_after buckets v r.statement line.reply x)) (put left i (rest_after r.statement line.reply.answer y)) (rs ++ more)
+    (lines ++ later) final × HasRest r.statement v.rest y in
     let here : at j l rest = (
       u,
       t.1.1,
@@ -84,8 +86,11 @@ session_follows rounds buckets j (r ∷ rs) more (line ∷ lines) later logs fin
           (subst (λ lf. Follows buckets (RunsGc rounds) (put (put logs j after) j m) lf more later final) (sym (rests_twice left j behind (rest_over behind rs lines)))
           (subst (λ ls. Follows buckets (RunsGc rounds) ls (put left j (rest_over behind rs lines)) more later final) (sym (put_twice logs j after m)) f)),
       t.1.3,
-    ) in
-    (leaves_gc rounds r.session r.statement line.reply.answer (ap (λ i. i == 0) is.0 ∙ not) t.0, subst (λ i. at i (logs i) (left i)) (sym is.0) (subst (at j (logs j)) k (subst (λ x. at j x rest) e here)))
+    ) in (
+      leaves_gc rounds r.session r.statement line.reply.answer (ap (λ i. i == 0) is.0 ∙ not) t.0,
+      subst (λ i. at i (logs i) (left i)) (sym is.0)
+          (subst (at j (logs j)) k (subst (λ x. at j x rest) e here)),
+    )
 
 pub of_session_is : (j : ℕ) (rs : List Record) → Each (λ (r : Record). r.session ≡ j) (of_session j rs)
 of_session_is j [] = tt
@@ -153,27 +158,34 @@ not_done final n = ap (λ b. if b then final n else []) (not_below n)
     not_below : (m : ℕ) → nat_lt m m ≡ false
     not_below m = grind (arith, nat_tests)
 
-pub sessions_follow : (rounds buckets : ℕ) (records : List Record) (lines : ℕ → List Line) (final : ℕ → List LogEntry) (more : List Record) (later : List Line) → ((j : ℕ) → Tells buckets LeavesLine [] None (of_session j records) (lines j) (final j)) → (n many : ℕ) → 1 ≤ n →
+pub sessions_follow : (rounds buckets : ℕ) (records : List Record) (lines : ℕ → List Line) (final : ℕ → List LogEntry) (more : List Record) (later : List Line) →
+    ((j : ℕ) → Tells buckets LeavesLine [] None (of_session j records) (lines j) (final j)) → (n many : ℕ) → 1 ≤ n →
     Follows buckets (RunsGc rounds) (done final (n + many)) (rests_done (rests_of records lines) (n + many)) more later final →
-    Follows buckets (RunsGc rounds) (done final n) (rests_done (rests_of records lines) n) (flat_map (λ j. of_session j records) (numbers_from n many) ++ more) (flat_map lines (numbers_from n many) ++ later) final
-sessions_follow rounds buckets records lines final more later t n zero some f = subst (λ m. Follows buckets (RunsGc rounds) (done final m) (rests_done (rests_of records lines) m) more later final) (plus_zero n) f
+    Follows buckets (RunsGc rounds) (done final n) (rests_done (rests_of records lines) n) (flat_map (λ j. of_session j records) (numbers_from n many) ++ more)
+    (flat_map lines (numbers_from n many) ++ later) final
+sessions_follow rounds buckets records lines final more later t n zero some f = subst
+    (λ m. Follows buckets (RunsGc rounds) (done final m) (rests_done (rests_of records lines) m) more later final) (plus_zero n) f
 sessions_follow rounds buckets records lines final more later t n (suc many) some f =
     let rests : ℕ → Option Rest = rests_of records lines in
     let rest_r : List Record = flat_map (λ j. of_session j records) (numbers_from (suc n) many) in
     let rest_l : List Line = flat_map lines (numbers_from (suc n) many) in
     subst (λ rs. Follows buckets (RunsGc rounds) (done final n) (rests_done rests n) rs ((lines n ++ rest_l) ++ later) final) (sym (append_assoc (of_session n records) rest_r more))
     (subst (λ ls. Follows buckets (RunsGc rounds) (done final n) (rests_done rests n) (of_session n records ++ (rest_r ++ more)) ls final) (sym (append_assoc (lines n) rest_l later))
-    (session_follows rounds buckets n (of_session n records) (rest_r ++ more) (lines n) (rest_l ++ later) (done final n) final (rests_done rests n) [] (final n) None (not_zero n some) (of_session_is n records) (sym (not_done final n)) (sym (rests_not_done rests n)) (t n)
+    (session_follows rounds buckets n (of_session n records) (rest_r ++ more) (lines n) (rest_l ++ later) (done final n) final (rests_done rests n) [] (final n) None
+    (not_zero n some) (of_session_is n records) (sym (not_done final n)) (sym (rests_not_done rests n)) (t n)
     (subst (λ lf. Follows buckets (RunsGc rounds) (put (done final n) n (final n)) lf (rest_r ++ more) (rest_l ++ later) final) (sym (rests_begun rests n))
     (subst (λ ls. Follows buckets (RunsGc rounds) ls (rests_done rests (suc n)) (rest_r ++ more) (rest_l ++ later) final) (sym (begun_with final n))
-    (sessions_follow rounds buckets records lines final more later t (suc n) many (omega (arith, some)) (subst (λ m. Follows buckets (RunsGc rounds) (done final m) (rests_done rests m) more later final) (plus_suc n many) f))))))
+    (sessions_follow rounds buckets records lines final more later t (suc n) many (omega (arith, some))
+    (subst (λ m. Follows buckets (RunsGc rounds) (done final m) (rests_done rests m) more later final) (plus_suc n many) f))))))
 
 -- ---- the reports leave the logs as they are
 
 abbrev pub round_of : Kind → ℕ → Record
 round_of kind n = record { place = n; session = 0; statement = Gc kind }
 
-pub reports_follow : (rounds buckets : ℕ) (kind : Kind) (reports : List Report) (n : ℕ) (logs final : ℕ → List LogEntry) (left : ℕ → Option Rest) (more : List Record) (later : List Line) → Follows buckets (RunsGc rounds) logs left more later final → Follows buckets (RunsGc rounds) logs left (map (round_of kind) (numbers_from n (length reports)) ++ more) (report_lines n reports ++ later) final
+pub reports_follow : (rounds buckets : ℕ) (kind : Kind) (reports : List Report) (n : ℕ) (logs final : ℕ → List LogEntry) (left : ℕ → Option Rest) (more : List Record)
+    (later : List Line) → Follows buckets (RunsGc rounds) logs left more later final →
+    Follows buckets (RunsGc rounds) logs left (map (round_of kind) (numbers_from n (length reports)) ++ more) (report_lines n reports ++ later) final
 reports_follow rounds buckets kind [] n logs final left more later f = f
 reports_follow rounds buckets kind (report ∷ reports) n logs final left more later f =
     let out : is_alone (current (logs 0)) (Gc kind) ≡ false = not_alone (current (logs 0)) (Gc kind) refl in
@@ -184,8 +196,10 @@ reports_follow rounds buckets kind (report ∷ reports) n logs final left more l
       (
         nothing_more,
         record { at = sym out; number = sym (ap (λ b. b && false) out); answer = tt; scope = if_any (current (logs 0)) (λ snapshot. ⊤) (λ snapshot. tt); inside = tt },
-        subst (λ lf. Follows buckets (RunsGc rounds) (put logs 0 (log_after buckets nothing_more (Gc kind) reply (logs 0))) lf (map (round_of kind) (numbers_from (suc n) (length reports)) ++ more) (report_lines (suc n) reports ++ later) final) (sym (rests_same left 0))
-            (subst (λ ls. Follows buckets (RunsGc rounds) ls left (map (round_of kind) (numbers_from (suc n) (length reports)) ++ more) (report_lines (suc n) reports ++ later) final) (sym (ap (put logs 0) after ∙ put_same logs 0)) rest),
+        subst (λ lf. Follows buckets (RunsGc rounds) (put logs 0 (log_after buckets nothing_more (Gc kind) reply (logs 0))) lf
+            (map (round_of kind) (numbers_from (suc n) (length reports)) ++ more) (report_lines (suc n) reports ++ later) final) (sym (rests_same left 0))
+            (subst (λ ls. Follows buckets (RunsGc rounds) ls left (map (round_of kind) (numbers_from (suc n) (length reports)) ++ more)
+            (report_lines (suc n) reports ++ later) final) (sym (ap (put logs 0) after ∙ put_same logs 0)) rest),
         tt,
       ),
     )
@@ -207,13 +221,18 @@ tells_nothing buckets l m left [] [] e t = t
 tells_nothing buckets l m left [] (line ∷ lines) e t = absurd t
 tells_nothing buckets l m left (r ∷ rs) lines e t = absurd (cons_is_not_nil r rs e)
 
-pub parts_follow : (rounds : ℕ) (buckets : ℕ) (kind : Kind) (reports : List Report) (logs final : ℕ → List LogEntry) (left : ℕ → Option Rest) (more : List Record) (later : List Line) → length reports ≡ rounds → Follows buckets (RunsGc rounds) logs left more later final → Follows buckets (RunsGc rounds) logs left (rounds_of kind rounds ++ more) (report_lines 1 reports ++ later) final
-parts_follow rounds buckets kind reports logs final left more later e f = subst (λ n. Follows buckets (RunsGc rounds) logs left (map (round_of kind) (numbers_from 1 n) ++ more) (report_lines 1 reports ++ later) final) e (reports_follow rounds buckets kind reports 1 logs final left more later f)
+pub parts_follow : (rounds : ℕ) (buckets : ℕ) (kind : Kind) (reports : List Report) (logs final : ℕ → List LogEntry) (left : ℕ → Option Rest) (more : List Record)
+    (later : List Line) → length reports ≡ rounds → Follows buckets (RunsGc rounds) logs left more later final →
+    Follows buckets (RunsGc rounds) logs left (rounds_of kind rounds ++ more) (report_lines 1 reports ++ later) final
+parts_follow rounds buckets kind reports logs final left more later e f = subst (λ n. Follows buckets (RunsGc rounds) logs left (map (round_of kind) (numbers_from 1 n) ++ more)
+    (report_lines 1 reports ++ later) final) e (reports_follow rounds buckets kind reports 1 logs final left more later f)
 
-pub all_done : (buckets : ℕ) (records : List Record) (lines : ℕ → List Line) (final : ℕ → List LogEntry) → ((j : ℕ) → Tells buckets LeavesLine [] None (of_session j records) (lines j) (final j)) → (j : ℕ) → final j ≡ done final (1 + greatest (map (λ (r : Record). r.session) records)) j
+pub all_done : (buckets : ℕ) (records : List Record) (lines : ℕ → List Line) (final : ℕ → List LogEntry) →
+    ((j : ℕ) → Tells buckets LeavesLine [] None (of_session j records) (lines j) (final j)) → (j : ℕ) → final j ≡ done final (1 + greatest (map (λ (r : Record). r.session) records)) j
 all_done buckets records lines final t j = cases (nat_lt j (1 + greatest (map (λ (r : Record). r.session) records)))
     (λ e. ap (λ b. if b then final j else []) (sym e))
-    (λ e. tells_nothing buckets [] (final j) None (of_session j records) (lines j) (none_over records j (over j (greatest (map (λ (r : Record). r.session) records)) e)) (t j) ∙ ap (λ b. if b then final j else []) (sym e))
+    (λ e. tells_nothing buckets [] (final j) None (of_session j records) (lines j) (none_over records j (over j (greatest (map (λ (r : Record). r.session) records)) e)) (t j) ∙
+    ap (λ b. if b then final j else []) (sym e))
   where
     over : (i m : ℕ) → nat_lt i (1 + m) ≡ false → m < i
     over i m e = grind (arith, nat_tests)
@@ -227,7 +246,9 @@ in_order_is rounds records =
     append_assoc (flat_map (λ j. of_session j records) (sessions_of records) ++ rounds_of kinds.Group rounds) (rounds_of kinds.Table rounds) (rounds_of kinds.Interval rounds)
     ∙ append_assoc (flat_map (λ j. of_session j records) (sessions_of records)) (rounds_of kinds.Group rounds) (rounds_of kinds.Table rounds ++ rounds_of kinds.Interval rounds)
 
-pub run_follows : (buckets : ℕ) (h : History) (logs : ℕ → List LogEntry) (rounds : ℕ) (records : List Record) (lines : ℕ → List Line) (group table interval : List Report) → HasRun buckets h logs rounds records lines group table interval → Follows buckets (RunsGc rounds) (λ j. []) (λ j. None) (in_order (run rounds) records) (run_lines records lines group table interval) logs
+pub run_follows : (buckets : ℕ) (h : History) (logs : ℕ → List LogEntry) (rounds : ℕ) (records : List Record) (lines : ℕ → List Line) (group table interval : List Report) →
+    HasRun buckets h logs rounds records lines group table interval → Follows buckets (RunsGc rounds) (λ j. []) (λ j. None) (in_order (run rounds) records)
+    (run_lines records lines group table interval) logs
 run_follows buckets h logs rounds records lines group table interval ran =
     let top : ℕ = greatest (map (λ (r : Record). r.session) records) in
     let rests : ℕ → Option Rest = rests_of records lines in
@@ -238,7 +259,8 @@ run_follows buckets h logs rounds records lines group table interval ran =
     (parts_follow rounds buckets kinds.Interval interval (done logs (1 + top)) logs (rests_done rests (1 + top)) [] [] ran.of_interval.count end)) in
     subst (λ lf. Follows buckets (RunsGc rounds) (λ j. []) lf (in_order (run rounds) records) (run_lines records lines group table interval) logs) (λ i j. start_rests j i)
     (subst (λ ls. Follows buckets (RunsGc rounds) ls (rests_done rests 1) (in_order (run rounds) records) (run_lines records lines group table interval) logs) (λ i j. start j i)
-    (subst (λ rs. Follows buckets (RunsGc rounds) (done logs 1) (rests_done rests 1) rs (run_lines records lines group table interval) logs) (sym (in_order_is rounds records)) (sessions_follow rounds buckets records lines logs _ _ ran.tells 1 top (omega arith)
+    (subst (λ rs. Follows buckets (RunsGc rounds) (done logs 1) (rests_done rests 1) rs (run_lines records lines group table interval) logs) (sym (in_order_is rounds records))
+    (sessions_follow rounds buckets records lines logs _ _ ran.tells 1 top (omega arith)
     (parts_follow rounds buckets kinds.Group group (done logs (1 + top)) logs (rests_done rests (1 + top)) _ _ ran.of_group.count
     (parts_follow rounds buckets kinds.Table table (done logs (1 + top)) logs (rests_done rests (1 + top)) _ _ ran.of_table.count last)))))
   where

@@ -7,7 +7,8 @@ use Rattle.std.proofs.lemmas.Bool.Decides.{Decides-eqb}
 use Rattle.hg_base.specs.declared.rid.Rid.{Rid}
 use Rattle.hg_base.specs.declared.image.Image.{Image}
 use Rattle.hg_base.specs.Lists.{Each}
-use Rattle.hg_base.specs.History.{Write, Commit, Group, History, EachGroup, IsCommit, IsGroup, IsHistory, NoLostUpdate, NoneTwice, NoNumberTwice, group_rids, rids_of, is_among, image_in, group_image, writes_from, same_rid}
+use Rattle.hg_base.specs.History.{Write, Commit, Group, History, EachGroup, IsCommit, IsGroup, IsHistory, NoLostUpdate, NoneTwice, NoNumberTwice, group_rids, rids_of, is_among, image_in}
+use Rattle.hg_base.specs.History.{group_image, writes_from, same_rid}
 use Rattle.hg_base.proofs.ListFacts.{cases, each_keeps}
 use Rattle.hg_base.proofs.HistoryFacts.{same_rid_itself}
 use Rattle.hg_core.specs.Judged.{of_session}
@@ -189,19 +190,25 @@ all_apart [] h = tt
 all_apart (c ∷ cs) h =
     let a : Each (λ (d : Commit). Apart (rids_of c.images) (rids_of d.images)) cs = apart_each (rids_of c.images) cs (twice_apart (rids_of c.images) (group_rids cs) h) in (
       (inl (same_number c.session), each_keeps _ _ (λ d k. inr k) cs a),
-      each_keeps (λ d. Apart (rids_of c.images) (rids_of d.images) × Each (AreApart d) cs) (λ d. Each (AreApart d) (c ∷ cs)) (λ d k. (inr (apart_back (rids_of c.images) (rids_of d.images) k.0), k.1)) cs
+      each_keeps (λ d. Apart (rids_of c.images) (rids_of d.images) × Each (AreApart d) cs) (λ d. Each (AreApart d) (c ∷ cs))
+          (λ d k. (inr (apart_back (rids_of c.images) (rids_of d.images) k.0), k.1)) cs
           (each_pairs _ _ cs a (all_apart cs (twice_right (rids_of c.images) (group_rids cs) h))),
     )
 
 pub other_session : (j : ℕ) (g : Group) → IsFalse (list_any (λ m. m == j) (map (λ (c : Commit). c.session) g)) → Each (λ (d : Commit). IsFalse (d.session == j)) g
 other_session j [] h = tt
-other_session j (d ∷ ds) h = (or_left (d.session == j) (list_any (λ m. m == j) (map (λ (c : Commit). c.session) ds)) h, other_session j ds (or_right (d.session == j) (list_any (λ m. m == j) (map (λ (c : Commit). c.session) ds)) h))
+other_session j (d ∷ ds) h = (
+  or_left (d.session == j) (list_any (λ m. m == j) (map (λ (c : Commit). c.session) ds)) h,
+  other_session j ds
+      (or_right (d.session == j) (list_any (λ m. m == j) (map (λ (c : Commit). c.session) ds)) h),
+)
 
 pub apart_if_other : (c d : Commit) → IsFalse (d.session == c.session) × AreApart c d → Apart (rids_of c.images) (rids_of d.images)
 apart_if_other c d (e, inl same) = absurd (true_false (sym (equal_back c.session d.session same) ∙ e))
 apart_if_other c d (e, inr k) = k
 
-pub all_apart_back : (g : Group) → NoNumberTwice (map (λ (c : Commit). c.session) g) → Each (λ (c : Commit). NoneTwice (rids_of c.images)) g → Each (λ (c : Commit). Each (AreApart c) g) g → NoneTwice (group_rids g)
+pub all_apart_back : (g : Group) → NoNumberTwice (map (λ (c : Commit). c.session) g) → Each (λ (c : Commit). NoneTwice (rids_of c.images)) g →
+    Each (λ (c : Commit). Each (AreApart c) g) g → NoneTwice (group_rids g)
 all_apart_back [] n o h = tt
 all_apart_back (c ∷ cs) n o h =
     twice_append (rids_of c.images) (group_rids cs) o.0 (all_apart_back cs n.1 o.1 (each_keeps _ _ (λ d k. k.1) cs h.1))
@@ -267,7 +274,8 @@ pub no_images : (r : Rid) (g : Group) → group_image r g ≡ None → Each (λ 
 no_images r [] e = tt
 no_images r (c ∷ cs) e = go (image_in r c.images) e (λ k. no_images r cs k)
   where
-    go : (p : Option Image) → option_or p (group_image r cs) ≡ None → (group_image r cs ≡ None → Each (λ (d : Commit). image_in r d.images ≡ None) cs) → (p ≡ None) × Each (λ (d : Commit). image_in r d.images ≡ None) cs
+    go : (p : Option Image) → option_or p (group_image r cs) ≡ None → (group_image r cs ≡ None → Each (λ (d : Commit). image_in r d.images ≡ None) cs) → (p ≡ None) ×
+        Each (λ (d : Commit). image_in r d.images ≡ None) cs
     go None k f = (refl, f k)
     go (Some i) k f = absurd (some_is_not_none i k)
       where
@@ -308,7 +316,8 @@ length_same (g ∷ gs) [] s = absurd s
 length_same (g ∷ gs) (k ∷ ks) s = ap suc (length_same gs ks s.1)
 
 -- a law on each commit with the number of its group
-pub each_commit_same : (P Q : ℕ → Commit → Type 0) → ((n : ℕ) (c : Commit) → P n c → Q n c) → (n : ℕ) (h k : History) → SameGroups h k → EachGroup (λ m g. Each (P m) g) n h → EachGroup (λ m g. Each (Q m) g) n k
+pub each_commit_same : (P Q : ℕ → Commit → Type 0) → ((n : ℕ) (c : Commit) → P n c → Q n c) → (n : ℕ) (h k : History) → SameGroups h k → EachGroup (λ m g. Each (P m) g) n h →
+    EachGroup (λ m g. Each (Q m) g) n k
 each_commit_same P Q f n [] [] s i = tt
 each_commit_same P Q f n [] (k ∷ ks) s i = absurd s
 each_commit_same P Q f n (g ∷ gs) [] s i = absurd s

@@ -26,11 +26,15 @@ use Rattle.hg_headline.proofs.Firsts.{one_if, first_by, first_with, first_access
 
 -- ---- a log given anew
 
-pub made_put : (sessions : ℕ) (logs : ℕ → List LogEntry) (j : ℕ) (l : List LogEntry) (n : ℕ) → 1 ≤ j → j ≤ sessions → first_writes every l ≡ first_writes every (logs j) + n → made_in sessions (put logs j l) ≡ made_in sessions logs + n
-made_put sessions logs j l n some most e = sum_grown sessions j n (λ k. first_writes every (logs k)) (λ k. first_writes every (put logs j l k)) some most (λ k z. ap (first_writes every) (put_else logs j k l z)) (ap (first_writes every) (put_here logs j l) ∙ e)
+pub made_put : (sessions : ℕ) (logs : ℕ → List LogEntry) (j : ℕ) (l : List LogEntry) (n : ℕ) → 1 ≤ j → j ≤ sessions → first_writes every l ≡ first_writes every (logs j) + n →
+    made_in sessions (put logs j l) ≡ made_in sessions logs + n
+made_put sessions logs j l n some most e = sum_grown sessions j n (λ k. first_writes every (logs k)) (λ k. first_writes every (put logs j l k)) some most
+    (λ k z. ap (first_writes every) (put_else logs j k l z)) (ap (first_writes every) (put_here logs j l) ∙ e)
 
-pub undone_put : (sessions : ℕ) (logs : ℕ → List LogEntry) (j : ℕ) (l : List LogEntry) (n : ℕ) → 1 ≤ j → j ≤ sessions → undos every l ≡ undos every (logs j) + n → undone_in sessions (put logs j l) ≡ undone_in sessions logs + n
-undone_put sessions logs j l n some most e = sum_grown sessions j n (λ k. undos every (logs k)) (λ k. undos every (put logs j l k)) some most (λ k z. ap (undos every) (put_else logs j k l z)) (ap (undos every) (put_here logs j l) ∙ e)
+pub undone_put : (sessions : ℕ) (logs : ℕ → List LogEntry) (j : ℕ) (l : List LogEntry) (n : ℕ) → 1 ≤ j → j ≤ sessions → undos every l ≡ undos every (logs j) + n →
+    undone_in sessions (put logs j l) ≡ undone_in sessions logs + n
+undone_put sessions logs j l n some most e = sum_grown sessions j n (λ k. undos every (logs k)) (λ k. undos every (put logs j l k)) some most
+    (λ k z. ap (undos every) (put_else logs j k l z)) (ap (undos every) (put_here logs j l) ∙ e)
 
 pub no_more : (m n : ℕ) → m ≡ n → m ≡ n + 0
 no_more m n e = omega (arith, e)
@@ -45,7 +49,8 @@ adding_is test x own (Some w) rest e = ap (λ b. one_if (b && is_none (image_in 
     go None = omega arith
     go (Some i) = omega arith
 
-pub made_access : (buckets : ℕ) (u : Unprinted) (own : List Write) (s : Statement) (a : Answer) (l : List LogEntry) → IsTrue (is_access s) → FitsAnswer buckets u own s a → first_writes every (own_entries buckets u s a ++ l) ≡ first_writes every l + adding (own_writes l) (stored_by s a)
+pub made_access : (buckets : ℕ) (u : Unprinted) (own : List Write) (s : Statement) (a : Answer) (l : List LogEntry) → IsTrue (is_access s) → FitsAnswer buckets u own s a →
+    first_writes every (own_entries buckets u s a ++ l) ≡ first_writes every l + adding (own_writes l) (stored_by s a)
 made_access buckets u own s a l e f =
     first_writes_is (own_entries buckets u s a ++ l) ∙ first_access (λ x. true) buckets u own s a l e f
     ∙ adding_is (λ x. true) (begans l) (own_writes l) (stored_by s a) (first_by (λ x. true) l) refl ∙ ap (λ n. n + adding (own_writes l) (stored_by s a)) (sym (first_writes_is l))
@@ -57,7 +62,8 @@ made_undone (r ∷ rids) l = made_undone rids l
 undos_saws : (buckets : ℕ) (t : TableId) (low high : ℕ) (part : ℕ → List (ℕ × List Value)) (n : ℕ) (l : List LogEntry) → undos every (saws buckets t low high part n ++ l) ≡ undos every l
 undos_saws buckets t low high part n l = saws_keep (λ m. undos every m ≡ undos every l) buckets t low high part n l (λ b rows m e. e) refl
 
-pub undos_access : (buckets : ℕ) (u : Unprinted) (own : List Write) (s : Statement) (a : Answer) (l : List LogEntry) → IsTrue (is_access s) → FitsAnswer buckets u own s a → undos every (own_entries buckets u s a ++ l) ≡ undos every l
+pub undos_access : (buckets : ℕ) (u : Unprinted) (own : List Write) (s : Statement) (a : Answer) (l : List LogEntry) → IsTrue (is_access s) → FitsAnswer buckets u own s a →
+    undos every (own_entries buckets u s a ++ l) ≡ undos every l
 undos_access buckets u own (Get r) (Found row) l e f = refl
 undos_access buckets u own (Get r) Nothing l e f = refl
 undos_access buckets u own (Get r) (Undeclared t) l e f = refl

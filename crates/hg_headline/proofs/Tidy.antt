@@ -26,7 +26,8 @@ use Rattle.hg_core.specs.Contents.{has_own}
 use Rattle.hg_core.specs.Judged.{Judged}
 use Rattle.hg_core.specs.Replies.{AreReplied}
 use Rattle.hg_core.specs.Events.{put}
-use Rattle.hg_core.specs.Reading.{Unprinted, saws, own_entries, begin_entries, commit_entries, is_access, is_alone, close, log_with, log_after, UndoesAll, FitsAnswer, Fits, Follows, looks, fetch_entries}
+use Rattle.hg_core.specs.Reading.{Unprinted, saws, own_entries, begin_entries, commit_entries, is_access, is_alone, close, log_with, log_after, UndoesAll, FitsAnswer, Fits, Follows, looks}
+use Rattle.hg_core.specs.Reading.{fetch_entries}
 use Rattle.hg_core.proofs.Indices.{by_number, put_here}
 use Rattle.hg_core.proofs.NewGroup.{image_open}
 use Rattle.hg_headline.specs.Counted.{Closes}
@@ -112,7 +113,8 @@ quiet_access buckets u own (Scan t low high) (Undeclared other) f e = tt
 quiet_access buckets u own (Scan t low high) _ f e = absurd f
 quiet_access buckets u own _ a f e = absurd (true_false (sym e))
 
-tidy_quiet : (buckets : ℕ) (h : History) (logs : ℕ → List LogEntry) (j : ℕ) (es l : List LogEntry) → IsQuiet es → Judged h (es ++ l) → AreReplied buckets h logs j (es ++ l) → IsTidy l → IsTidy (es ++ l)
+tidy_quiet : (buckets : ℕ) (h : History) (logs : ℕ → List LogEntry) (j : ℕ) (es l : List LogEntry) → IsQuiet es → Judged h (es ++ l) → AreReplied buckets h logs j (es ++ l) →
+    IsTidy l → IsTidy (es ++ l)
 tidy_quiet buckets h logs j [] l n d g k = k
 tidy_quiet buckets h logs j (Wrote r image ∷ es) l n d g k = ((d.0, g.0.1), tidy_quiet buckets h logs j es l n d.1 g.1 k)
 tidy_quiet buckets h logs j (Saw t low high b rows ∷ es) l n d g k = (tt, tidy_quiet buckets h logs j es l n d.1 g.1 k)
@@ -142,7 +144,9 @@ plain_close (Some n) l = refl
 abbrev pub IsTidyBetween : List LogEntry → Type 0
 IsTidyBetween l = IsTidy l × (is_plain l ≡ true)
 
-access_tidy : (buckets : ℕ) (h : History) (logs : ℕ → List LogEntry) (j : ℕ) (u : Unprinted) (own : List Write) (s : Statement) (reply : Reply) (l : List LogEntry) (b : Bool) → is_access s ≡ true → FitsAnswer buckets u own s reply.answer → IsTidyBetween l → Judged h (log_with b buckets u s reply l) → AreReplied buckets h logs j (log_with b buckets u s reply l) → IsTidyBetween (log_with b buckets u s reply l)
+access_tidy : (buckets : ℕ) (h : History) (logs : ℕ → List LogEntry) (j : ℕ) (u : Unprinted) (own : List Write) (s : Statement) (reply : Reply) (l : List LogEntry) (b : Bool) →
+    is_access s ≡ true → FitsAnswer buckets u own s reply.answer → IsTidyBetween l → Judged h (log_with b buckets u s reply l) →
+    AreReplied buckets h logs j (log_with b buckets u s reply l) → IsTidyBetween (log_with b buckets u s reply l)
 access_tidy buckets h logs j u own s reply l false e f k d g =
     let quiet : IsQuiet (own_entries buckets u s reply.answer) = quiet_access buckets u own s reply.answer f e in
     (tidy_quiet buckets h logs j (own_entries buckets u s reply.answer) l quiet d g k.0, plain_quiet (own_entries buckets u s reply.answer) l quiet ∙ k.1)
@@ -151,8 +155,11 @@ access_tidy buckets h logs j u own s reply l true e f k d g =
     let l0 : List LogEntry = Began (unwrap_or reply.at 0) (only (table_of s)) ∷ l in
     let d0 : Judged h (own_entries buckets u s reply.answer ++ l0) = close_judged h reply.number (own_entries buckets u s reply.answer ++ l0) d in
     let g0 : AreReplied buckets h logs j (own_entries buckets u s reply.answer ++ l0) = close_replied buckets h logs j reply.number (own_entries buckets u s reply.answer ++ l0) g in
-    let began : IsTidy l0 = ((append_judged h (own_entries buckets u s reply.answer) l0 d0).0.alone, k.0) in
-    (tidy_close h reply.number (own_entries buckets u s reply.answer ++ l0) d (tidy_quiet buckets h logs j (own_entries buckets u s reply.answer) l0 quiet d0 g0 began), plain_close reply.number (own_entries buckets u s reply.answer ++ l0))
+    let began : IsTidy l0 = ((append_judged h (own_entries buckets u s reply.answer) l0 d0).0.alone, k.0) in (
+      tidy_close h reply.number (own_entries buckets u s reply.answer ++ l0) d (tidy_quiet buckets h logs j (own_entries buckets u s reply.answer) l0 quiet d0 g0 began),
+      plain_close
+          reply.number (own_entries buckets u s reply.answer ++ l0),
+    )
 
 begin_tidy : (h : History) (scope : Scope) (a : Answer) (l : List LogEntry) → IsBegun a → IsTidyBetween l → Judged h (begin_entries scope a ++ l) → IsTidyBetween (begin_entries scope a ++ l)
 begin_tidy h scope (Begun n) l f k d = ((d.0.alone, k.0), refl)
@@ -162,17 +169,24 @@ commit_tidy : (h : History) (a : Answer) (l : List LogEntry) → IsTidyBetween l
 commit_tidy h (Committed n) l k d = (tidy_close h (Some n) l d k.0, refl)
 commit_tidy h _ l k d = (tidy_close h None l d k.0, refl)
 
-line_tidy : (buckets : ℕ) (h : History) (logs : ℕ → List LogEntry) (j : ℕ) (u : Unprinted) (s : Statement) (reply : Reply) (l : List LogEntry) → Fits buckets u l s reply → IsTidyBetween l → Judged h (log_after buckets u s reply l) → AreReplied buckets h logs j (log_after buckets u s reply l) → IsTidyBetween (log_after buckets u s reply l)
+line_tidy : (buckets : ℕ) (h : History) (logs : ℕ → List LogEntry) (j : ℕ) (u : Unprinted) (s : Statement) (reply : Reply) (l : List LogEntry) → Fits buckets u l s reply →
+    IsTidyBetween l → Judged h (log_after buckets u s reply l) → AreReplied buckets h logs j (log_after buckets u s reply l) → IsTidyBetween (log_after buckets u s reply l)
 line_tidy buckets h logs j u (Get r) reply l f k d g = access_tidy buckets h logs j u (own_writes l) (Get r) reply l (is_alone (current l) (Get r)) refl f.answer k d g
 line_tidy buckets h logs j u (Put r row) reply l f k d g = access_tidy buckets h logs j u (own_writes l) (Put r row) reply l (is_alone (current l) (Put r row)) refl f.answer k d g
 line_tidy buckets h logs j u (Del r) reply l f k d g = access_tidy buckets h logs j u (own_writes l) (Del r) reply l (is_alone (current l) (Del r)) refl f.answer k d g
 line_tidy buckets h logs j u (Scan t low high) reply l f k d g = access_tidy buckets h logs j u (own_writes l) (Scan t low high) reply l (is_alone (current l) (Scan t low high)) refl f.answer k d g
-line_tidy buckets h logs j u (Begin scope) reply l f k d g = let e = plain_after buckets u (Begin scope) reply l refl in subst IsTidyBetween e (begin_tidy h scope reply.answer l f.answer k (subst (Judged h) (sym e) d))
-line_tidy buckets h logs j u (CursorOpen table low high) reply l f k d g = let e = plain_after buckets u (CursorOpen table low high) reply l refl in subst IsTidyBetween e (begin_tidy h (only (Some table)) reply.answer l f.answer k (subst (Judged h) (sym e) d))
+line_tidy buckets h logs j u (Begin scope) reply l f k d g = let e = plain_after buckets u (Begin scope) reply l refl in
+    subst IsTidyBetween e (begin_tidy h scope reply.answer l f.answer k (subst (Judged h) (sym e) d))
+line_tidy buckets h logs j u (CursorOpen table low high) reply l f k d g = let e = plain_after buckets u (CursorOpen table low high) reply l refl in
+    subst IsTidyBetween e (begin_tidy h (only (Some table)) reply.answer l f.answer k (subst (Judged h) (sym e) d))
 line_tidy buckets h logs j u (Fetch n) reply l f k d g =
     let e = plain_after buckets u (Fetch n) reply l refl in
     let quiet = quiet_fetch buckets u.rest u.part u.looked reply.answer in
-    subst IsTidyBetween e (tidy_quiet buckets h logs j (fetch_entries buckets u.rest u.part u.looked reply.answer) l quiet (subst (Judged h) (sym e) d) (subst (AreReplied buckets h logs j) (sym e) g) k.0, plain_quiet (fetch_entries buckets u.rest u.part u.looked reply.answer) l quiet ∙ k.1)
+    subst IsTidyBetween e (
+      tidy_quiet buckets h logs j (fetch_entries buckets u.rest u.part u.looked reply.answer) l quiet (subst (Judged h) (sym e) d)
+          (subst (AreReplied buckets h logs j) (sym e) g) k.0,
+      plain_quiet (fetch_entries buckets u.rest u.part u.looked reply.answer) l quiet ∙ k.1,
+    )
 line_tidy buckets h logs j u CursorClose reply l f k d g = let e = plain_after buckets u CursorClose reply l refl in subst IsTidyBetween e (tidy_close h None l (subst (Judged h) (sym e) d) k.0, refl)
 line_tidy buckets h logs j u CommitIt reply l f k d g = let e = plain_after buckets u CommitIt reply l refl in subst IsTidyBetween e (commit_tidy h reply.answer l k (subst (Judged h) (sym e) d))
 line_tidy buckets h logs j u Rollback reply l f k d g = let e = plain_after buckets u Rollback reply l refl in subst IsTidyBetween e (tidy_rollback u.undone l k.1 f.answer.1 k.0, refl)
@@ -180,17 +194,23 @@ line_tidy buckets h logs j u (Gc kind) reply l f k d g = let e = plain_after buc
 
 -- ---- all lines
 
-pub follows_tidy : (buckets : ℕ) (h : History) (all_logs : ℕ → List LogEntry) (P : (ℕ → List LogEntry) → Record → Line → Type 0) (rs : List Record) (lines : List Line) (logs final : ℕ → List LogEntry) (left : ℕ → Option Rest) → Follows buckets P logs left rs lines final → ((j : ℕ) → Judged h (final j)) → ((j : ℕ) → AreReplied buckets h all_logs j (final j)) → ((j : ℕ) → IsTidyBetween (logs j)) → (j : ℕ) → IsTidyBetween (final j)
+pub follows_tidy : (buckets : ℕ) (h : History) (all_logs : ℕ → List LogEntry) (P : (ℕ → List LogEntry) → Record → Line → Type 0) (rs : List Record) (lines : List Line)
+    (logs final : ℕ → List LogEntry) (left : ℕ → Option Rest) → Follows buckets P logs left rs lines final → ((j : ℕ) → Judged h (final j)) →
+    ((j : ℕ) → AreReplied buckets h all_logs j (final j)) → ((j : ℕ) → IsTidyBetween (logs j)) → (j : ℕ) → IsTidyBetween (final j)
 follows_tidy buckets h all_logs P [] [] logs final left f d g k j = subst IsTidyBetween (sym (f j)) (k j)
 follows_tidy buckets h all_logs P [] (line ∷ lines) logs final left f d g k j = absurd f
 follows_tidy buckets h all_logs P (r ∷ rs) [] logs final left f d g k j = absurd f
 follows_tidy buckets h all_logs P (r ∷ rs) (line ∷ lines) logs final left f d g k j =
     let after : List LogEntry = log_after buckets f.1.0 r.statement line.reply (logs r.session) in
     let next : ℕ → List LogEntry = put logs r.session after in
-    let judged : Judged h after = subst (Judged h) (put_here logs r.session after) (follows_first (λ j l. Judged h l) (judged_less h) buckets P rs lines next final (put left r.session (rest_after r.statement line.reply.answer (left r.session))) f.1.2 d r.session) in
-    let replied : AreReplied buckets h all_logs r.session after = subst (AreReplied buckets h all_logs r.session) (put_here logs r.session after) (follows_first (AreReplied buckets h all_logs) (replied_less buckets h all_logs) buckets P rs lines next final (put left r.session (rest_after r.statement line.reply.answer (left r.session))) f.1.2 g r.session) in
+    let judged : Judged h after = subst (Judged h) (put_here logs r.session after) (follows_first (λ j l. Judged h l) (judged_less h) buckets P rs lines next final
+    (put left r.session (rest_after r.statement line.reply.answer (left r.session))) f.1.2 d r.session) in
+    let replied : AreReplied buckets h all_logs r.session after = subst (AreReplied buckets h all_logs r.session) (put_here logs r.session after)
+    (follows_first (AreReplied buckets h all_logs) (replied_less buckets h all_logs) buckets P rs lines next final
+    (put left r.session (rest_after r.statement line.reply.answer (left r.session))) f.1.2 g r.session) in
     follows_tidy buckets h all_logs P rs lines next final (put left r.session (rest_after r.statement line.reply.answer (left r.session))) f.1.2 d g
-    (by_number r.session (λ i b. IsTidyBetween (if b then after else logs i)) (line_tidy buckets h all_logs r.session f.1.0 r.statement line.reply (logs r.session) f.1.1 (k r.session) judged replied) (λ i e. k i)) j
+    (by_number r.session (λ i b. IsTidyBetween (if b then after else logs i)) (line_tidy buckets h all_logs r.session f.1.0 r.statement line.reply (logs r.session) f.1.1
+    (k r.session) judged replied) (λ i e. k i)) j
 
 -- ---- as they are closed
 

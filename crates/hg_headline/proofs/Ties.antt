@@ -75,7 +75,8 @@ other_pick n j earlier now (Some c) e =
     let made : Commit = commit_by earlier now in
     ap (λ b. cons_option (if b && (c == n) then Some made else None) []) e
 
-pub picks_with : (n j : ℕ) (earlier : List Said) (now : Said) → filter_map (pick n j) (commits_back (now ∷ earlier)) ≡ filter_map (pick n j) (commits_back earlier) ++ filter_map (pick n j) (cons_option (numbered now earlier (committed now)) [])
+pub picks_with : (n j : ℕ) (earlier : List Said) (now : Said) → filter_map (pick n j) (commits_back (now ∷ earlier)) ≡ filter_map (pick n j) (commits_back earlier) ++ filter_map
+    (pick n j) (cons_option (numbered now earlier (committed now)) [])
 picks_with n j earlier now =
     filter_map-append (pick n j) (commits_back earlier) (cons_option (commit_of earlier now) [])
     ∙ ap (λ o. filter_map (pick n j) (commits_back earlier) ++ filter_map (pick n j) (cons_option o [])) (commit_numbered earlier now)
@@ -90,9 +91,11 @@ ties_other j earlier now l e t =
       standing = subst (λ o. StandsIn (open_after o) (current l) (begans l)) (sym last) t.standing;
       own = λ x. ap (λ b. filter_map stored (cond (b && (now.transaction == x)) (now ∷ filter (is_of j x) earlier) (filter (is_of j x) earlier))) e ∙ t.own x;
       numbers = λ x. ap (λ b. filter_map committed (cond (b && (now.transaction == x)) (now ∷ filter (is_of j x) earlier) (filter (is_of j x) earlier))) e ∙ t.numbers x;
-      known = λ n h. subst (λ b. Each (λ m. m ≤ n) (flat_map numbers_of (cond b (now ∷ filter (λ said. said.session == j) earlier) (filter (λ said. said.session == j) earlier)))) (sym e) (t.known n h);
+      known = λ n h. subst (λ b. Each (λ m. m ≤ n) (flat_map numbers_of (cond b (now ∷ filter (λ said. said.session == j) earlier) (filter (λ said. said.session == j) earlier))))
+          (sym e) (t.known n h);
       begun = λ d told k h. or_right (shows_begun d told now) (list_any (shows_begun d told) earlier) (t.begun d told k h);
-      published = λ n. picks_with n j earlier now ∙ ap (λ xs. filter_map (pick n j) (commits_back earlier) ++ xs) (other_pick n j earlier now (committed now) e) ∙ append_nil (filter_map (pick n j) (commits_back earlier)) ∙ t.published n;
+      published = λ n. picks_with n j earlier now ∙ ap (λ xs. filter_map (pick n j) (commits_back earlier) ++ xs) (other_pick n j earlier now (committed now) e) ∙
+          append_nil (filter_map (pick n j) (commits_back earlier)) ∙ t.published n;
     }
 
 -- ---- a line of the session
@@ -109,7 +112,8 @@ pub record Says (j : ℕ) (now : Said) (l : List LogEntry) (after : List LogEntr
   pub numbers : (x : ℕ) → numbers_in x after ≡ cond (now.transaction == x) (cons_option (committed now) (numbers_in x l)) (numbers_in x l)
   pub known : (n : ℕ) → UpTo n after → UpTo n l × Each (λ m. m ≤ n) (numbers_of now)
   pub begun : (declared : Bool) (told : Told) → told.session ≡ j → began_at declared told.number after ≡ true → (shows_begun declared told now ≡ true) ⊎ (began_at declared told.number l ≡ true)
-  pub published : (n : ℕ) → published n j after ≡ published n j l ++ made_at n (committed now) (record { session = now.session; transaction = now.transaction; at = now.at; images = last_images (writes_in now.transaction after) })
+  pub published : (n : ℕ) → published n j after ≡ published n j l ++ made_at n (committed now)
+      (record { session = now.session; transaction = now.transaction; at = now.at; images = last_images (writes_in now.transaction after) })
 
 -- and where the transaction stands then
 pub record Stands (now : Said) (after : List LogEntry) : Type 0 where
@@ -121,7 +125,8 @@ pub picked_cond : {X Y : Type 0} (f : X → Option Y) (b : Bool) (x : X) (xs : L
 picked_cond f true x xs = refl
 picked_cond f false x xs = refl
 
-pub own_with : {Y : Type 0} (f : Said → Option Y) (j x : ℕ) (earlier : List Said) (now : Said) → (now.session == j) ≡ true → filter_map f (filter (is_of j x) (now ∷ earlier)) ≡ cond (now.transaction == x) (cons_option (f now) (filter_map f (filter (is_of j x) earlier))) (filter_map f (filter (is_of j x) earlier))
+pub own_with : {Y : Type 0} (f : Said → Option Y) (j x : ℕ) (earlier : List Said) (now : Said) → (now.session == j) ≡ true →
+    filter_map f (filter (is_of j x) (now ∷ earlier)) ≡ cond (now.transaction == x) (cons_option (f now) (filter_map f (filter (is_of j x) earlier))) (filter_map f (filter (is_of j x) earlier))
 own_with f j x earlier now e =
     ap (λ b. filter_map f (cond (b && (now.transaction == x)) (now ∷ filter (is_of j x) earlier) (filter (is_of j x) earlier))) e
     ∙ picked_cond f (now.transaction == x) now (filter (is_of j x) earlier)
@@ -138,12 +143,14 @@ made_pick n j earlier now (Some c) ws e f =
     flat true d = refl
     flat false d = refl
 
-pub own_step : (j x : ℕ) (earlier : List Said) (now : Said) (l after : List LogEntry) → Ties j earlier l → Says j now l after → filter_map stored (filter (is_of j x) (now ∷ earlier)) ≡ writes_in x after
+pub own_step : (j x : ℕ) (earlier : List Said) (now : Said) (l after : List LogEntry) → Ties j earlier l → Says j now l after →
+    filter_map stored (filter (is_of j x) (now ∷ earlier)) ≡ writes_in x after
 own_step j x earlier now l after t s =
     let mine : (now.session == j) ≡ true = subst (λ n. (n == j) ≡ true) (sym s.mine) (same_number j) in
     own_with stored j x earlier now mine ∙ ap (λ ws. cond (now.transaction == x) (cons_option (stored now) ws) ws) (t.own x) ∙ sym (s.own x)
 
-pub ties_own : (j : ℕ) (earlier : List Said) (now : Said) (l after : List LogEntry) → Ties j earlier l → Says j now l after → next_after (last_of j (now ∷ earlier)) ≡ suc (begans after) → StandsIn (open_of j (now ∷ earlier)) (current after) (begans after) → Ties j (now ∷ earlier) after
+pub ties_own : (j : ℕ) (earlier : List Said) (now : Said) (l after : List LogEntry) → Ties j earlier l → Says j now l after →
+    next_after (last_of j (now ∷ earlier)) ≡ suc (begans after) → StandsIn (open_of j (now ∷ earlier)) (current after) (begans after) → Ties j (now ∷ earlier) after
 ties_own j earlier now l after t s next standing =
     let mine : (now.session == j) ≡ true = subst (λ n. (n == j) ≡ true) (sym s.mine) (same_number j) in
     record {
@@ -178,5 +185,6 @@ ties_step j earlier now l after t s w =
 pub ties_beside : (j : ℕ) (earlier : List Said) (now : Said) (l : List LogEntry) → Ties j earlier l → Says j now l l → now.transaction ≡ 0 → Ties j (now ∷ earlier) l
 ties_beside j earlier now l t s z =
     let mine : (now.session == j) ≡ true = subst (λ n. (n == j) ≡ true) (sym s.mine) (same_number j) in
-    let last : last_of j (now ∷ earlier) ≡ last_of j earlier = ap (λ b. cond (b && nat_lt 0 now.transaction) (Some now) (last_of j earlier)) mine ∙ ap (λ n. cond (nat_lt 0 n) (Some now) (last_of j earlier)) z in
+    let last : last_of j (now ∷ earlier) ≡ last_of j earlier = ap (λ b. cond (b && nat_lt 0 now.transaction) (Some now) (last_of j earlier)) mine ∙
+    ap (λ n. cond (nat_lt 0 n) (Some now) (last_of j earlier)) z in
     ties_own j earlier now l l t s (ap next_after last ∙ t.next) (subst (λ o. StandsIn (open_after o) (current l) (begans l)) (sym last) t.standing)

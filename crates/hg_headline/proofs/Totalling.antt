@@ -46,7 +46,8 @@ none_unpublished s h rest r = go (unpublished s.mark (versions s.buckets s.bucke
         )
 
 -- what a visit left cut is cut still
-still_cut : (buckets mark b : ℕ) (vs : Rid → List Version) (visits : List Visit) → Each (IsVisit buckets mark vs) visits → HasCut buckets mark b visits → (r : Rid) → bucket_of buckets r ≡ b → IsCutAt mark (vs r)
+still_cut : (buckets mark b : ℕ) (vs : Rid → List Version) (visits : List Visit) → Each (IsVisit buckets mark vs) visits → HasCut buckets mark b visits → (r : Rid) →
+    bucket_of buckets r ≡ b → IsCutAt mark (vs r)
 still_cut buckets mark b vs [] h cut r at = absurd cut
 still_cut buckets mark b vs (visit ∷ visits) h (inr cut) r at = still_cut buckets mark b vs visits h.1 cut r at
 still_cut buckets mark b vs (visit ∷ visits) h (inl cut) r at =
@@ -57,7 +58,8 @@ pub cut_now : (s : CoreState) (b : ℕ) → IsSteady s → WasLeftCut s.buckets 
 cut_now s b h was = still_cut s.buckets s.mark b (versions s.buckets s.bucket) (s.visits was.0) (h.visits_stay.each was.0) was.1.1
 
 -- the counters of one bucket, where no transaction is open
-pub state_tells : (s : CoreState) (b : ℕ) (counts : Totals) → IsSteady s → ((j : ℕ) → current (s.log j) ≡ None) → AreCounts (s.counters b) counts → BucketTells s.sessions s.buckets s.passes s.log s.visits s.history b counts
+pub state_tells : (s : CoreState) (b : ℕ) (counts : Totals) → IsSteady s → ((j : ℕ) → current (s.log j) ≡ None) → AreCounts (s.counters b) counts →
+    BucketTells s.sessions s.buckets s.passes s.log s.visits s.history b counts
 state_tells s b counts h rest are = record {
   made = are.made ∙ h.counters_balance.made b;
   undone = are.undone ∙ h.counters_balance.undone b;
@@ -78,7 +80,8 @@ history_is_newest s h = sym h.mark_is_length.is_length ∙ mark_told s h
 -- ---- the same told with other words
 
 -- visits that removed as much, and left no bucket cut that the first did not
-pub tells_same : (sessions buckets passes : ℕ) (logs : ℕ → List LogEntry) (visits others : ℕ → List Visit) (h : History) (b : ℕ) (counts : Totals) → BucketTells sessions buckets passes logs visits h b counts
+pub tells_same : (sessions buckets passes : ℕ) (logs : ℕ → List LogEntry) (visits others : ℕ → List Visit) (h : History) (b : ℕ) (counts : Totals) →
+    BucketTells sessions buckets passes logs visits h b counts
     → ((kind : Kind) → sum_below passes (λ p. removed_in kind b (visits p)) ≡ sum_below passes (λ p. removed_in kind b (others p)))
     → (WasLeftCut buckets (length h) passes others b → WasLeftCut buckets (length h) passes visits b)
     → BucketTells sessions buckets passes logs others h b counts
@@ -94,7 +97,8 @@ tells_same sessions buckets passes logs visits others h b counts t same was = re
 
 -- ---- sums
 
-pub more_tells : (sessions buckets passes : ℕ) (logs : ℕ → List LogEntry) (visits : ℕ → List Visit) (h : History) (n : ℕ) (sums counts : Totals) → SumTells sessions buckets passes logs visits h n sums → BucketTells sessions buckets passes logs visits h n counts → SumTells sessions buckets passes logs visits h (suc n) (plus sums counts)
+pub more_tells : (sessions buckets passes : ℕ) (logs : ℕ → List LogEntry) (visits : ℕ → List Visit) (h : History) (n : ℕ) (sums counts : Totals) →
+    SumTells sessions buckets passes logs visits h n sums → BucketTells sessions buckets passes logs visits h n counts → SumTells sessions buckets passes logs visits h (suc n) (plus sums counts)
 more_tells sessions buckets passes logs visits h n sums counts s t = record {
   made = λ i. s.made i + t.made i;
   undone = λ i. s.undone i + t.undone i;
@@ -105,7 +109,8 @@ more_tells sessions buckets passes logs visits h n sums counts s t = record {
   balance = omega (arith, s.balance, t.balance);
 }
 
-pub totals_tell : (sessions buckets passes : ℕ) (logs : ℕ → List LogEntry) (visits : ℕ → List Visit) (h : History) (sums : Totals) → 0 < buckets → ((p : ℕ) → Each (λ (v : Visit). v.bucket < buckets) (visits p)) → SumTells sessions buckets passes logs visits h buckets sums → TotalsTell sessions buckets passes logs visits h sums
+pub totals_tell : (sessions buckets passes : ℕ) (logs : ℕ → List LogEntry) (visits : ℕ → List Visit) (h : History) (sums : Totals) → 0 < buckets →
+    ((p : ℕ) → Each (λ (v : Visit). v.bucket < buckets) (visits p)) → SumTells sessions buckets passes logs visits h buckets sums → TotalsTell sessions buckets passes logs visits h sums
 totals_tell sessions buckets passes logs visits h sums some within s = record {
   made = s.made ∙ made_over buckets sessions logs some;
   undone = s.undone ∙ undone_over buckets sessions logs some;
@@ -163,7 +168,8 @@ pub record Fits (most : ℕ) (sums counts : Totals) : Type 0 where
   pub interval : sums.interval + counts.interval ≤ most
   pub left : sums.left + counts.left ≤ most
 
-pub fits : (sessions buckets passes : ℕ) (logs : ℕ → List LogEntry) (visits : ℕ → List Visit) (h : History) (n : ℕ) (sums counts : Totals) (most : ℕ) → n < buckets → made_in sessions logs ≤ most → SumTells sessions buckets passes logs visits h n sums → BucketTells sessions buckets passes logs visits h n counts → Fits most sums counts
+pub fits : (sessions buckets passes : ℕ) (logs : ℕ → List LogEntry) (visits : ℕ → List Visit) (h : History) (n : ℕ) (sums counts : Totals) (most : ℕ) → n < buckets →
+    made_in sessions logs ≤ most → SumTells sessions buckets passes logs visits h n sums → BucketTells sessions buckets passes logs visits h n counts → Fits most sums counts
 fits sessions buckets passes logs visits h n sums counts most less few s t = record {
   made = made;
   undone = omega (arith, made, s.balance, t.balance);

@@ -59,7 +59,8 @@ take_out_has r q [] = go (same_rid r q)
     go false = refl
 take_out_has r q (o ∷ os) = go (same_rid q o) refl (same_rid r q) refl (take_out_has r q os)
   where
-    go : (b : Bool) → same_rid q o ≡ b → (c : Bool) → same_rid r q ≡ c → is_among r (take_out q os) ≡ (if c then false else is_among r os) → is_among r (cond (not b) (o ∷ take_out q os) (take_out q os)) ≡ (if c then false else (same_rid r o || is_among r os))
+    go : (b : Bool) → same_rid q o ≡ b → (c : Bool) → same_rid r q ≡ c → is_among r (take_out q os) ≡ (if c then false else is_among r os) →
+        is_among r (cond (not b) (o ∷ take_out q os) (take_out q os)) ≡ (if c then false else (same_rid r o || is_among r os))
     go true e true f ih = ih
     go true e false f ih = ih ∙ ap (λ b. b || is_among r os) (sym (ap (same_rid r) (sym (same_rid_equal q o e)) ∙ f))
     go false e true f ih = ap (λ b. b || is_among r (take_out q os)) (ap (λ x. same_rid x o) (same_rid_equal r q f) ∙ e) ∙ ih
@@ -89,7 +90,8 @@ take_out_one : (q : Rid) (os : List Rid) → NoneTwice os → is_among q os ≡ 
 take_out_one q [] h e = absurd (true_false (sym e))
 take_out_one q (o ∷ os) h e = go (same_rid q o) refl e (take_out_one q os h.1)
   where
-    go : (b : Bool) → same_rid q o ≡ b → (b || is_among q os) ≡ true → (is_among q os ≡ true → length (take_out q os) + 1 ≡ length os) → length (cond (not b) (o ∷ take_out q os) (take_out q os)) + 1 ≡ suc (length os)
+    go : (b : Bool) → same_rid q o ≡ b → (b || is_among q os) ≡ true → (is_among q os ≡ true → length (take_out q os) + 1 ≡ length os) →
+        length (cond (not b) (o ∷ take_out q os) (take_out q os)) + 1 ≡ suc (length os)
     go true t e ih = let same : length (take_out q os) ≡ length os = take_out_none q os (ap (λ x. is_among x os) (same_rid_equal q o t) ∙ h.0) in omega (arith, same)
     go false t e ih = let one = ih e in omega (arith, one)
 
@@ -100,7 +102,8 @@ opens_has r (Over ∷ l) = refl
 opens_has r (Published n ∷ l) = refl
 opens_has r (Wrote q image ∷ l) = go (is_some (open_in q l)) refl (same_rid r q) refl (opens_has r l) ∙ ap (λ b. is_some (if b then Some image else open_in r l)) (same_rid_turned r q)
   where
-    go : (o : Bool) → is_some (open_in q l) ≡ o → (b : Bool) → same_rid r q ≡ b → is_among r (opens l) ≡ is_some (open_in r l) → is_among r (add_open o q (opens l)) ≡ is_some (if b then Some image else open_in r l)
+    go : (o : Bool) → is_some (open_in q l) ≡ o → (b : Bool) → same_rid r q ≡ b → is_among r (opens l) ≡ is_some (open_in r l) →
+        is_among r (add_open o q (opens l)) ≡ is_some (if b then Some image else open_in r l)
     go false e true f ih = ap (λ b. b || is_among r (opens l)) f
     go false e false f ih = ap (λ b. b || is_among r (opens l)) f ∙ ih
     go true e true f ih = ih ∙ ap (λ x. is_some (open_in x l)) (same_rid_equal r q f) ∙ e
@@ -251,9 +254,11 @@ or_none : (b : Bool) → not (b || false) ≡ not b
 or_none true = refl
 or_none false = refl
 
-lost_by : (q : ℕ → Bool) (flag : Bool) (l : List LogEntry) → IsTidy l → (flag ≡ true → IsSome (current l)) → ((x : ℕ) → x < begans l → q x ≡ not (publishes x l)) → q (begans l) ≡ not (flag || published_last l) → first_by q l ≡ lost flag l
+lost_by : (q : ℕ → Bool) (flag : Bool) (l : List LogEntry) → IsTidy l → (flag ≡ true → IsSome (current l)) → ((x : ℕ) → x < begans l → q x ≡ not (publishes x l)) →
+    q (begans l) ≡ not (flag || published_last l) → first_by q l ≡ lost flag l
 lost_by q flag [] k c old now = refl
-lost_by q flag (Began at scope ∷ l) k c old now = lost_by q false l k.1 (λ e. absurd (true_false (sym e))) (λ x lt. old x (omega (arith, lt))) (old (begans l) (omega arith) ∙ ap not (last_published l))
+lost_by q flag (Began at scope ∷ l) k c old now = lost_by q false l k.1 (λ e. absurd (true_false (sym e))) (λ x lt. old x (omega (arith, lt))) (old (begans l) (omega arith) ∙
+    ap not (last_published l))
 lost_by q true (Over ∷ l) k c old now = absurd (true_false (sym (c refl)))
 lost_by q false (Over ∷ l) k c old now = lost_by q false l k.1 (λ e. absurd (true_false (sym e))) old now
 lost_by q flag (Wrote r image ∷ l) k c old now =

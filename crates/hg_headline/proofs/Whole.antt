@@ -50,12 +50,14 @@ pub append_first : (Q : ℕ → List LogEntry → Type 0) → OfBeginnings Q →
 append_first Q less j [] l q = q
 append_first Q less j (e ∷ es) l q = append_first Q less j es l (less j e (es ++ l) q)
 
-pub log_first : (Q : ℕ → List LogEntry → Type 0) → OfBeginnings Q → (j : ℕ) (b : Bool) (buckets : ℕ) (u : Unprinted) (s : Statement) (reply : Reply) (l : List LogEntry) → Q j (log_with b buckets u s reply l) → Q j l
+pub log_first : (Q : ℕ → List LogEntry → Type 0) → OfBeginnings Q → (j : ℕ) (b : Bool) (buckets : ℕ) (u : Unprinted) (s : Statement) (reply : Reply) (l : List LogEntry) →
+    Q j (log_with b buckets u s reply l) → Q j l
 log_first Q less j false buckets u s reply l q = append_first Q less j (own_entries buckets u s reply.answer) l q
 log_first Q less j true buckets u s reply l q = less j _ l (append_first Q less j (own_entries buckets u s reply.answer) _ (append_first Q less j (close reply.number) _ q))
 
 -- what holds of the last logs holds of the first ones
-pub follows_first : (Q : ℕ → List LogEntry → Type 0) → OfBeginnings Q → (buckets : ℕ) (P : (ℕ → List LogEntry) → Record → Line → Type 0) (rs : List Record) (lines : List Line) (logs final : ℕ → List LogEntry) (left : ℕ → Option Rest) → Follows buckets P logs left rs lines final → ((j : ℕ) → Q j (final j)) → (j : ℕ) → Q j (logs j)
+pub follows_first : (Q : ℕ → List LogEntry → Type 0) → OfBeginnings Q → (buckets : ℕ) (P : (ℕ → List LogEntry) → Record → Line → Type 0) (rs : List Record) (lines : List Line)
+    (logs final : ℕ → List LogEntry) (left : ℕ → Option Rest) → Follows buckets P logs left rs lines final → ((j : ℕ) → Q j (final j)) → (j : ℕ) → Q j (logs j)
 follows_first Q less buckets P [] [] logs final left f q j = subst (Q j) (f j) (q j)
 follows_first Q less buckets P [] (line ∷ lines) logs final left f q j = absurd f
 follows_first Q less buckets P (r ∷ rs) [] logs final left f q j = absurd f
@@ -73,12 +75,14 @@ replied_less buckets h logs j e l g = g.1
 
 -- ---- line by line
 
-pub stands_says : (o : Option Said) (n : ℕ) (r : Record) (reply : Reply) → ((standing o n r reply).session ≡ r.session) × ((standing o n r reply).statement ≡ r.statement) × ((standing o n r reply).reply ≡ reply)
+pub stands_says : (o : Option Said) (n : ℕ) (r : Record) (reply : Reply) → ((standing o n r reply).session ≡ r.session) × ((standing o n r reply).statement ≡ r.statement) ×
+    ((standing o n r reply).reply ≡ reply)
 stands_says None n r reply = (refl, refl, refl)
 stands_says (Some opened) n r reply = (refl, refl, refl)
 
 -- a line has its record's session and statement, and its reply
-pub said_says : (last : Option Said) (r : Record) (reply : Reply) (s : Statement) → ((said_after last r reply s).session ≡ r.session) × ((said_after last r reply s).statement ≡ r.statement) × ((said_after last r reply s).reply ≡ reply)
+pub said_says : (last : Option Said) (r : Record) (reply : Reply) (s : Statement) → ((said_after last r reply s).session ≡ r.session) ×
+    ((said_after last r reply s).statement ≡ r.statement) × ((said_after last r reply s).reply ≡ reply)
 said_says last r reply (Begin scope) = (refl, refl, refl)
 said_says last r reply (CursorOpen table low high) = (refl, refl, refl)
 said_says last r reply (Gc kind) = (refl, refl, refl)
@@ -108,15 +112,18 @@ pub record AtLine (buckets : ℕ) (P : (ℕ → List LogEntry) → Record → Li
 
 -- ---- what all lines show
 
-pub reads_all : (buckets : ℕ) (h : History) (final : ℕ → List LogEntry) (all : List Said) → Logged buckets h final → ((j : ℕ) → Ties j (onto all []) (final j)) → Matches h (commits all) → Reads h (history_of all) final all
+pub reads_all : (buckets : ℕ) (h : History) (final : ℕ → List LogEntry) (all : List Said) → Logged buckets h final → ((j : ℕ) → Ties j (onto all []) (final j)) →
+    Matches h (commits all) → Reads h (history_of all) final all
 reads_all buckets h final all logged ties m =
     let same : SameGroups h (history_of all) = same_printed h all logged.history m in
     record {
       count = length_same h (history_of all) same;
       sees = λ r s. ap (λ ws. last_image (filter (λ (w : ℕ × Image). nat_le w.0 s) ws)) (writes_same 1 h (history_of all) r same logged.history);
       does = λ n r. ap (list_any (λ (w : ℕ × Image). w.0 == n)) (writes_same 1 h (history_of all) r same logged.history);
-      stored = λ w r e. image_of_onto r (stored_in w.session w.transaction all) (subst (λ ws. IsSome (image_in r ws)) (sym ((ties w.session).own w.transaction) ∙ stored_onto w.session w.transaction all) e);
-      late = λ w s f. (each_onto (λ n. s < n) (printed_numbers w.session w.transaction all) [] (subst (Each (λ n. s < n)) (sym ((ties w.session).numbers w.transaction) ∙ printed_onto w.session w.transaction all) f)).0;
+      stored = λ w r e. image_of_onto r (stored_in w.session w.transaction all) (subst (λ ws. IsSome (image_in r ws)) (sym ((ties w.session).own w.transaction) ∙
+          stored_onto w.session w.transaction all) e);
+      late = λ w s f. (each_onto (λ n. s < n) (printed_numbers w.session w.transaction all) []
+          (subst (Each (λ n. s < n)) (sym ((ties w.session).numbers w.transaction) ∙ printed_onto w.session w.transaction all) f)).0;
     }
 
 -- ---- reports
@@ -127,7 +134,8 @@ held_is final all told ties w = record {
   declared = match_keeps told.moved (λ e. any_of_onto (shows_begun true told) all ((ties told.session).begun true told refl e)) w.declared;
 }
 
-pub report_is : (h : History) (final : ℕ → List LogEntry) (all earlier : List Said) (sweep : Sweep) → length h ≡ length (history_of all) → ((j : ℕ) → Ties j (onto all []) (final j)) → IsGathered h final earlier sweep → IsReported (history_of all) all earlier sweep
+pub report_is : (h : History) (final : ℕ → List LogEntry) (all earlier : List Said) (sweep : Sweep) → length h ≡ length (history_of all) →
+    ((j : ℕ) → Ties j (onto all []) (final j)) → IsGathered h final earlier sweep → IsReported (history_of all) all earlier sweep
 report_is h final all earlier sweep e ties g = record {
   rising = g.rising;
   horizon = g.horizon;
@@ -144,7 +152,8 @@ pub record IsKnown (mode : Mode) (h : History) (logs : ℕ → List LogEntry) (e
   pub still : IsStill mode earlier now
   pub report : IfSome (report_of now.reply) (IsGathered h logs earlier)
 
-pub each_after_two : {X : Type 0} (P Q R : List X → X → Type 0) → ((earlier : List X) (x : X) → P earlier x → Q earlier x → R earlier x) → (earlier xs : List X) → EachAfter P earlier xs → EachAfter Q earlier xs → EachAfter R earlier xs
+pub each_after_two : {X : Type 0} (P Q R : List X → X → Type 0) → ((earlier : List X) (x : X) → P earlier x → Q earlier x → R earlier x) → (earlier xs : List X) →
+    EachAfter P earlier xs → EachAfter Q earlier xs → EachAfter R earlier xs
 each_after_two P Q R f earlier [] h k = tt
 each_after_two P Q R f earlier (x ∷ xs) h k = (f earlier x h.0 k.0, each_after_two P Q R f (x ∷ earlier) xs h.1 k.1)
 
@@ -153,20 +162,30 @@ pub matches_all : (buckets : ℕ) (h : History) (final : ℕ → List LogEntry) 
 matches_all buckets h final all logged ties n j = sym (ap (filter_map (pick n j)) (commits_onto [] all)) ∙ (ties j).published n ∙ sym (logged.commits n j)
 
 -- where the lines show the logs and the history, every line is right in the history that the lines print
-pub told_right : (mode : Mode) (buckets : ℕ) (h : History) (final : ℕ → List LogEntry) (all : List Said) → Logged buckets h final → ((j : ℕ) → Ties j (onto all []) (final j)) → EachAfter (IsTold mode h (history_of all) final all) [] all → EachAfter (IsKnown mode h final) [] all → AreRight mode all
+pub told_right : (mode : Mode) (buckets : ℕ) (h : History) (final : ℕ → List LogEntry) (all : List Said) → Logged buckets h final → ((j : ℕ) → Ties j (onto all []) (final j)) →
+    EachAfter (IsTold mode h (history_of all) final all) [] all → EachAfter (IsKnown mode h final) [] all → AreRight mode all
 told_right mode buckets h final all logged ties told known =
     let k : History = history_of all in
     let m : Matches h (commits all) = matches_all buckets h final all logged ties in
     let same : SameGroups h k = same_printed h all logged.history m in
     let reads : Reads h k final all = reads_all buckets h final all logged ties m in
     record {
-      whole = record { numbers = each_keeps (λ (p : ℕ × Commit). (1 ≤ p.0) × (p.0 ≤ length h)) (λ (p : ℕ × Commit). 1 ≤ p.0) (λ p q. q.0) (commits all) (numbers_within h (commits all) m); history = history_same 1 h k same logged.history };
+      whole = record {
+        numbers = each_keeps (λ (p : ℕ × Commit). (1 ≤ p.0) × (p.0 ≤ length h)) (λ (p : ℕ × Commit). 1 ≤ p.0) (λ p q. q.0) (commits all)
+            (numbers_within h (commits all) m);
+        history = history_same 1 h k same logged.history;
+      };
       kept = kept_same h k same logged.history logged.kept;
       lines = each_after_two (IsTold mode h k final all) (IsKnown mode h final) (IsRight mode k all)
           (λ earlier now t q. record {
             reply = t.reply reads;
             conflict = t.conflict reads q.still;
-            fresh = record { rising = t.rising; exact = q.exact; report = if_some_keeps (report_of now.reply) (IsGathered h final earlier) (IsReported k all earlier) (λ sweep. report_is h final all earlier sweep reads.count ties) q.report };
+            fresh = record {
+              rising = t.rising;
+              exact = q.exact;
+              report = if_some_keeps (report_of now.reply) (IsGathered h final earlier) (IsReported k all earlier)
+                  (λ sweep. report_is h final all earlier sweep reads.count ties) q.report;
+            };
           })
           [] all told known;
     }

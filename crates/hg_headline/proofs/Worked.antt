@@ -58,8 +58,10 @@ undoes own e = ((refl, tt), λ r. go r (same_rid r five) refl (same_rid five r) 
 -- what the first five records leave
 record Left : Type 0 where
   logs : ℕ → List LogEntry
-  replayed : HasReplayed 1 2 history logs 1 (asked 1 1 (Put five (Number (pos 7) ∷ [])) ∷ asked 2 2 (Begin All) ∷ asked 3 2 (Put five (Number (pos 8) ∷ [])) ∷ asked 4 1 (Put five (Number (pos 9) ∷ [])) ∷ asked 5 2 Rollback ∷ [])
-      (line 1 1 (Some 0) Stored (Some 1) ∷ line 2 2 None (Begun 1) None ∷ line 3 2 None Stored None ∷ line 4 1 (Some 1) (OpenBy (record { session = 2; transaction = 1 })) None ∷ line 5 2 None Undone None ∷ [])
+  replayed : HasReplayed 1 2 history logs 1 (asked 1 1 (Put five (Number (pos 7) ∷ [])) ∷ asked 2 2 (Begin All) ∷ asked 3 2 (Put five (Number (pos 8) ∷ [])) ∷ asked 4 1
+      (Put five (Number (pos 9) ∷ [])) ∷ asked 5 2 Rollback ∷ [])
+      (line 1 1 (Some 0) Stored (Some 1) ∷ line 2 2 None (Begun 1) None ∷ line 3 2 None Stored None ∷ line 4 1 (Some 1)
+      (OpenBy (record { session = 2; transaction = 1 })) None ∷ line 5 2 None Undone None ∷ [])
   one : current (logs 1) ≡ None
   two : current (logs 2) ≡ None
   others : (j : ℕ) → (j ≡ 1 → ⊥) → (j ≡ 2 → ⊥) → current (logs j) ≡ None
@@ -70,16 +72,24 @@ left : Left
 left =
     let snap : Snapshot = record { at = 1; scope = All } in
     let a = replayed_commits 1 2 [] none [] [] (asked 1 1 (Put five (Number (pos 7) ∷ []))) Stored (written 7) (replayed_opened 1 2 (omega arith)) one_of refl refl (tt, tt) in
-    let b = replayed_begin 1 2 history a.more (asked 1 1 (Put five (Number (pos 7) ∷ [])) ∷ []) (line 1 1 (Some 0) Stored (Some 1) ∷ []) 2 2 All a.replayed (omega arith) (omega arith) (ap current (a.gone.others 2 (other 2 1 refl))) in
-    let c = replayed_inside 1 2 history b.more (asked 1 1 (Put five (Number (pos 7) ∷ [])) ∷ asked 2 2 (Begin All) ∷ []) (line 1 1 (Some 0) Stored (Some 1) ∷ line 2 2 None (Begun 1) None ∷ []) (asked 3 2 (Put five (Number (pos 8) ∷ []))) Stored snap b.replayed (record { some = omega arith; most = omega arith }) b.gone.opened b.gone.plain (tt, tt) in
+    let b = replayed_begin 1 2 history a.more (asked 1 1 (Put five (Number (pos 7) ∷ [])) ∷ []) (line 1 1 (Some 0) Stored (Some 1) ∷ []) 2 2 All a.replayed (omega arith)
+    (omega arith) (ap current (a.gone.others 2 (other 2 1 refl))) in
+    let c = replayed_inside 1 2 history b.more (asked 1 1 (Put five (Number (pos 7) ∷ [])) ∷ asked 2 2 (Begin All) ∷ [])
+    (line 1 1 (Some 0) Stored (Some 1) ∷ line 2 2 None (Begun 1) None ∷ []) (asked 3 2 (Put five (Number (pos 8) ∷ []))) Stored snap b.replayed
+    (record { some = omega arith; most = omega arith }) b.gone.opened b.gone.plain (tt, tt) in
     let own : own_writes (c.more 2) ≡ written 8 ∷ [] = c.gone.writes ∙ ap (λ ws. written 8 ∷ ws) b.gone.writes in
     let number : begans (c.more 2) ≡ 1 = c.gone.begun ∙ b.gone.begun ∙ ap (λ l. suc (begans l)) (a.gone.others 2 (other 2 1 refl)) in
     let one : current (c.more 1) ≡ None = ap current (c.gone.others 1 (other 1 2 refl) ∙ b.gone.others 1 (other 1 2 refl)) ∙ a.gone.opened in
-    let d = replayed_alone 1 2 history c.more (asked 1 1 (Put five (Number (pos 7) ∷ [])) ∷ asked 2 2 (Begin All) ∷ asked 3 2 (Put five (Number (pos 8) ∷ [])) ∷ []) (line 1 1 (Some 0) Stored (Some 1) ∷ line 2 2 None (Begun 1) None ∷ line 3 2 None Stored None ∷ []) (asked 4 1 (Put five (Number (pos 9) ∷ []))) (OpenBy (record { session = 2; transaction = 1 })) c.replayed (record { some = omega arith; most = omega arith }) one refl
+    let d = replayed_alone 1 2 history c.more (asked 1 1 (Put five (Number (pos 7) ∷ [])) ∷ asked 2 2 (Begin All) ∷ asked 3 2 (Put five (Number (pos 8) ∷ [])) ∷ [])
+    (line 1 1 (Some 0) Stored (Some 1) ∷ line 2 2 None (Begun 1) None ∷ line 3 2 None Stored None ∷ []) (asked 4 1 (Put five (Number (pos 9) ∷ [])))
+    (OpenBy (record { session = 2; transaction = 1 })) c.replayed (record { some = omega arith; most = omega arith }) one refl
     (tt, (refl, refl, c.gone.plain, record { opened = ap is_some c.gone.opened; number = number; does = subst (λ ws. is_some (image_in five ws) ≡ true) (sym own) refl })) in
     let two_is : d.more 2 ≡ c.more 2 = d.gone.others 2 (other 2 1 refl) in
-    let e = replayed_undone 1 2 history d.more (asked 1 1 (Put five (Number (pos 7) ∷ [])) ∷ asked 2 2 (Begin All) ∷ asked 3 2 (Put five (Number (pos 8) ∷ [])) ∷ asked 4 1 (Put five (Number (pos 9) ∷ [])) ∷ [])
-    (line 1 1 (Some 0) Stored (Some 1) ∷ line 2 2 None (Begun 1) None ∷ line 3 2 None Stored None ∷ line 4 1 (Some 1) (OpenBy (record { session = 2; transaction = 1 })) None ∷ []) 5 2 snap (five ∷ []) d.replayed (omega arith) (omega arith) (ap current two_is ∙ c.gone.opened) (ap is_plain two_is ∙ c.gone.plain) (undoes (own_writes (d.more 2)) (ap own_writes two_is ∙ own)) in
+    let e = replayed_undone 1 2 history d.more (asked 1 1 (Put five (Number (pos 7) ∷ [])) ∷ asked 2 2 (Begin All) ∷ asked 3 2 (Put five (Number (pos 8) ∷ [])) ∷ asked 4 1
+    (Put five (Number (pos 9) ∷ [])) ∷ [])
+    (line 1 1 (Some 0) Stored (Some 1) ∷ line 2 2 None (Begun 1) None ∷ line 3 2 None Stored None ∷ line 4 1 (Some 1) (OpenBy (record { session = 2; transaction = 1 })) None ∷ [])
+    5 2 snap (five ∷ []) d.replayed (omega arith) (omega arith) (ap current two_is ∙ c.gone.opened) (ap is_plain two_is ∙ c.gone.plain)
+    (undoes (own_writes (d.more 2)) (ap own_writes two_is ∙ own)) in
     let c_adds : made_in 2 c.more ≡ made_in 2 b.more + 1 = c.made ∙ ap (λ ws. made_in 2 b.more + adding ws (Some (written 8))) b.gone.writes in
     record {
       logs = e.more;
@@ -106,7 +116,8 @@ met =
     let reply : Reply = record { at = None; answer = Swept (record { kind = kinds.Interval; mark = 1; horizon = 1; removed = 0; held = [] }); number = None } in
     let same : put l.logs 1 (log_after 1 nothing_more (Gc kinds.Interval) reply (l.logs 1)) ≡ l.logs = ap (put l.logs 1) (after reply) ∙ put_same l.logs 1 in
     let live : live_in 2 l.logs ≡ [] = λ i. cons_option (option_map (λ snapshot. (1, snapshot.at)) (l.one i)) (cons_option (option_map (λ snapshot. (2, snapshot.at)) (l.two i)) []) in
-    let more = replayed_more 1 2 history history l.logs 1 1 _ _ (asked 6 1 (Gc kinds.Interval)) (record { session = 1; place = 6; reply = reply }) nothing_more l.replayed (omega arith) (omega arith) refl refl
+    let more = replayed_more 1 2 history history l.logs 1 1 _ _ (asked 6 1 (Gc kinds.Interval)) (record { session = 1; place = 6; reply = reply }) nothing_more l.replayed
+    (omega arith) (omega arith) refl refl
     (record { same = refl; horizon = refl; held = sym live; moved = tt })
     (record { at = sym is; number = sym (ap (λ b. b && false) is); answer = tt; scope = if_any (current (l.logs 1)) (λ snapshot. ⊤) (λ snapshot. tt); inside = tt })
     tt
@@ -156,6 +167,8 @@ ran =
 
     tells : (more : ℕ → List LogEntry) (u : Unprinted) → Fits 1 u [] (Put five (Number (pos 7) ∷ [])) (record { at = Some 0; answer = Stored; number = Some 1 })
         → ((j : ℕ) → more j ≡ put none 1 (log_after 1 u (Put five (Number (pos 7) ∷ [])) (record { at = Some 0; answer = Stored; number = Some 1 }) []) j)
-        → (j : ℕ) (b : Bool) → (1 == j) ≡ b → Tells 1 (λ r line. LeavesGc r.statement line.reply.answer) [] None (cond b (asked 1 1 (Put five (Number (pos 7) ∷ [])) ∷ []) []) (if b then line 1 1 (Some 0) Stored (Some 1) ∷ [] else []) (more j)
+        → (j : ℕ) (b : Bool) → (1 == j) ≡ b → Tells 1 (λ r line. LeavesGc r.statement line.reply.answer) [] None (cond b (asked 1 1 (Put five (Number (pos 7) ∷ [])) ∷ []) [])
+        (if b then line 1 1 (Some 0) Stored (Some 1) ∷ [] else []) (more j)
     tells more u fits e j true q = let one : 1 ≡ j = grind (arith, nat_tests) in (tt, (u, fits, ap more (sym one) ∙ e 1, tt))
-    tells more u fits e j false q = let out : (j == 1) ≡ false = grind (arith, nat_tests) in e j ∙ ap (λ b. if b then log_after 1 u (Put five (Number (pos 7) ∷ [])) (record { at = Some 0; answer = Stored; number = Some 1 }) [] else []) out
+    tells more u fits e j false q = let out : (j == 1) ≡ false = grind (arith, nat_tests) in
+        e j ∙ ap (λ b. if b then log_after 1 u (Put five (Number (pos 7) ∷ [])) (record { at = Some 0; answer = Stored; number = Some 1 }) [] else []) out

@@ -64,7 +64,8 @@ abbrev pub run_lines : List Record → (ℕ → List Line) → List Report → L
 run_lines records lines group table interval = flat_map lines (sessions_of records) ++ (report_lines 1 group ++ (report_lines 1 table ++ report_lines 1 interval))
 
 -- The logs are those before the last rollbacks, which print nothing.
-pub record HasRun (buckets : ℕ) (h : History) (logs : ℕ → List LogEntry) (rounds : ℕ) (records : List Record) (lines : ℕ → List Line) (group : List Report) (table : List Report) (interval : List Report) : Type 0 where
+pub record HasRun (buckets : ℕ) (h : History) (logs : ℕ → List LogEntry) (rounds : ℕ) (records : List Record) (lines : ℕ → List Line) (group : List Report) (table : List Report)
+    (interval : List Report) : Type 0 where
   pub logged : Logged buckets h logs
   pub numbered : Each (λ (r : Record). 1 ≤ r.session) records
   pub shape : (j : ℕ) → HasShape (of_session j records) (lines j)

@@ -28,7 +28,8 @@ asked place session statement = record { place = place; session = session; state
 
 -- session 1 writes it; session 2 writes it in a transaction, so session 1 may not; session 2 rolls back
 abbrev pub records : List Record
-records = asked 1 1 (Put five (Number (pos 7) ∷ [])) ∷ asked 2 2 (Begin All) ∷ asked 3 2 (Put five (Number (pos 8) ∷ [])) ∷ asked 4 1 (Put five (Number (pos 9) ∷ [])) ∷ asked 5 2 Rollback ∷ asked 6 1 (Gc kinds.Interval) ∷ []
+records = asked 1 1 (Put five (Number (pos 7) ∷ [])) ∷ asked 2 2 (Begin All) ∷ asked 3 2 (Put five (Number (pos 8) ∷ [])) ∷ asked 4 1
+    (Put five (Number (pos 9) ∷ [])) ∷ asked 5 2 Rollback ∷ asked 6 1 (Gc kinds.Interval) ∷ []
 
 abbrev pub line : ℕ → ℕ → Option ℕ → Answer → Option ℕ → Line
 line place session at answer number = record { session = session; place = place; reply = record { at = at; answer = answer; number = number } }

@@ -33,18 +33,30 @@ pub fn replay_is_sound()
         (script : Script) (lines : List Line) →
         HasReplayed buckets sessions h logs top script.records lines →
         LinesAreSound replay script lines }
-    ensures whole { (buckets sessions top : ℕ) (h : History) (logs closed : ℕ → List LogEntry) (script : Script) (printed : Printed) → HasReplayed buckets sessions h logs top script.records printed.lines →
-        ((j : ℕ) → Closes (logs j) (closed j)) → IsCounted sessions h closed (all_said replay script printed.lines) printed.totals → IsSound replay script printed }
+    ensures whole { (buckets sessions top : ℕ) (h : History)
+        (logs closed : ℕ → List LogEntry) (script : Script) (printed : Printed) →
+        HasReplayed buckets sessions h logs top script.records printed.lines →
+        ((j : ℕ) → Closes (logs j) (closed j)) →
+        IsCounted sessions h closed (all_said replay script printed.lines) printed.totals →
+        IsSound replay script printed }
 {}
 
 /// What a run knows at its end makes its lines sound, and its totals with them, which it counts in the logs as they are closed.
 pub fn run_is_sound()
-    ensures lines { (buckets : ℕ) (h : History) (logs : ℕ → List LogEntry) (rounds : ℕ) (script : Script) (lines : ℕ → List Line) (group table interval : List Report) →
-        HasRun buckets h logs rounds script.records lines group table interval → LinesAreSound (run rounds) script (run_lines script.records lines group table interval) }
-    ensures whole { (buckets sessions : ℕ) (h : History) (logs closed : ℕ → List LogEntry) (rounds : ℕ) (script : Script) (lines : ℕ → List Line) (group table interval : List Report) (totals : Totals) →
-        HasRun buckets h logs rounds script.records lines group table interval → Each (λ (r : Record). r.session ≤ sessions) script.records → ((j : ℕ) → Closes (logs j) (closed j)) →
+    ensures lines { (buckets : ℕ) (h : History)
+        (logs : ℕ → List LogEntry) (rounds : ℕ) (script : Script)
+        (lines : ℕ → List Line) (group table interval : List Report) →
+        HasRun buckets h logs rounds script.records lines group table interval →
+        LinesAreSound (run rounds) script (run_lines script.records lines group table interval) }
+    ensures whole { (buckets sessions : ℕ) (h : History)
+        (logs closed : ℕ → List LogEntry) (rounds : ℕ) (script : Script)
+        (lines : ℕ → List Line) (group table interval : List Report) (totals : Totals) →
+        HasRun buckets h logs rounds script.records lines group table interval →
+        Each (λ (r : Record). r.session ≤ sessions) script.records →
+        ((j : ℕ) → Closes (logs j) (closed j)) →
         let printed = run_lines script.records lines group table interval in
-        IsCounted sessions h closed (all_said (run rounds) script printed) totals → IsSound (run rounds) script (record { lines = printed; totals = totals }) }
+        IsCounted sessions h closed (all_said (run rounds) script printed) totals →
+        IsSound (run rounds) script (record { lines = printed; totals = totals }) }
 {}
 
 /// What the core says of its states is what is needed here of a history and its logs. And its counters, over all buckets, are

@@ -17,9 +17,15 @@ pub fn buckets_tell()
         ((j : ℕ) → current (s.log j) ≡ None) → (b : ℕ) (counts : Totals) →
         AreCounts (s.counters b) counts →
         BucketTells s.sessions s.buckets s.passes s.log s.visits s.history b counts) }
-    ensures more { (sessions buckets passes : ℕ) (logs : ℕ → List LogEntry) (visits : ℕ → List Visit) (h : History) (n : ℕ) (sums counts : Totals) →
-        SumTells sessions buckets passes logs visits h n sums → BucketTells sessions buckets passes logs visits h n counts → SumTells sessions buckets passes logs visits h (suc n) (plus sums counts) }
-    ensures all { (sessions buckets passes : ℕ) (logs : ℕ → List LogEntry) (visits : ℕ → List Visit) (h : History) (sums : Totals) → 0 < buckets →
-        ((p : ℕ) → Each (λ (v : Visit). v.bucket < buckets) (visits p)) → SumTells sessions buckets passes logs visits h buckets sums → TotalsTell sessions buckets passes logs visits h sums }
+    ensures more { (sessions buckets passes : ℕ) (logs : ℕ → List LogEntry)
+        (visits : ℕ → List Visit) (h : History) (n : ℕ) (sums counts : Totals) →
+        SumTells sessions buckets passes logs visits h n sums →
+        BucketTells sessions buckets passes logs visits h n counts →
+        SumTells sessions buckets passes logs visits h (suc n) (plus sums counts) }
+    ensures all { (sessions buckets passes : ℕ) (logs : ℕ → List LogEntry)
+        (visits : ℕ → List Visit) (h : History) (sums : Totals) → 0 < buckets →
+        ((p : ℕ) → Each (λ (v : Visit). v.bucket < buckets) (visits p)) →
+        SumTells sessions buckets passes logs visits h buckets sums →
+        TotalsTell sessions buckets passes logs visits h sums }
     ensures mark { Always (λ s. length s.history ≡ newest_of s.sessions s.log) }
 {}

@@ -15,7 +15,8 @@ no_line = record { session = 0; place = 0; transaction = 0; at = 0; scope = All;
 
 module _ {X : Type 0} (test : X → Bool) (xs : List X) where
   pub any_here : (k : ℕ) (now : X) → AtLine xs k now → test now ≡ true → list_any test xs ≡ true
-  any_here k now at e = ap (list_any test) at.all ∙ any_append test (take k xs) (now ∷ drop (k + 1) xs) ∙ ap (λ b. list_any test (take k xs) || (b || list_any test (drop (k + 1) xs))) e ∙ some (list_any test (take k xs))
+  any_here k now at e = ap (list_any test) at.all ∙ any_append test (take k xs) (now ∷ drop (k + 1) xs) ∙
+      ap (λ b. list_any test (take k xs) || (b || list_any test (drop (k + 1) xs))) e ∙ some (list_any test (take k xs))
     where
       some : (b : Bool) → (b || true) ≡ true
       some true = refl

@@ -97,7 +97,8 @@ last_counts j (now ∷ earlier) = go (now.session == j) (nat_lt 0 now.transactio
 
 -- ---- one line more
 
-pub reached : (now : Said) (last : Option Said) (x : ℕ) (was : List Said) → (list_any ends was ≡ true → Reaches last x) → Follows last now → (b : Bool) → (now.transaction == x) ≡ b → list_any ends (cond b (now ∷ was) was) ≡ true → Reaches (cond (nat_lt 0 now.transaction) (Some now) last) x
+pub reached : (now : Said) (last : Option Said) (x : ℕ) (was : List Said) → (list_any ends was ≡ true → Reaches last x) → Follows last now → (b : Bool) →
+    (now.transaction == x) ≡ b → list_any ends (cond b (now ∷ was) was) ≡ true → Reaches (cond (nat_lt 0 now.transaction) (Some now) last) x
 reached now last x was h (inl none) b t o = subst (λ n. Reaches (cond (nat_lt 0 n) (Some now) last) x) (sym none.0) (h (go b o))
   where
     go : (b : Bool) → list_any ends (cond b (now ∷ was) was) ≡ true → list_any ends was ≡ true
@@ -144,7 +145,8 @@ follows_open earlier now ended (inl none) = go (is_over now.session now.transact
   where
     go : (b : Bool) → is_over now.session now.transaction earlier ≡ b → b ≡ false
     go false e = refl
-    go true e = let one : 1 ≤ now.transaction = reaches_one (last_of now.session earlier) now.transaction (ended now.session now.transaction e) in absurd (let zero : now.transaction ≡ 0 = none.0 in omega (arith, one, zero))
+    go true e = let one : 1 ≤ now.transaction = reaches_one (last_of now.session earlier) now.transaction (ended now.session now.transaction e) in
+        absurd (let zero : now.transaction ≡ 0 = none.0 in omega (arith, one, zero))
 follows_open earlier now ended (inr some) = go (is_over now.session now.transaction earlier) refl
   where
     go : (b : Bool) → is_over now.session now.transaction earlier ≡ b → b ≡ false
@@ -177,7 +179,9 @@ open_at xs k now at h = open_there IsOpen [] (take k xs) (drop (k + 1) xs) now (
 
 -- ---- what is kept of a transaction that a line ends
 
-pub closed : (old new : List (Spot × Image)) (earlier : List Said) (now : Said) → ends now ≡ true → ((j x : ℕ) (r : Rid) → IsFalse (is_of j x now) → own_at new j x r ≡ own_at old j x r) → ((j x : ℕ) → IsFalse (is_over j x earlier) → (r : Rid) → IsOwn old (now ∷ earlier) j x r) → AreOpenOwn new (now ∷ earlier)
+pub closed : (old new : List (Spot × Image)) (earlier : List Said) (now : Said) → ends now ≡ true →
+    ((j x : ℕ) (r : Rid) → IsFalse (is_of j x now) → own_at new j x r ≡ own_at old j x r) →
+    ((j x : ℕ) → IsFalse (is_over j x earlier) → (r : Rid) → IsOwn old (now ∷ earlier) j x r) → AreOpenOwn new (now ∷ earlier)
 closed old new earlier now e kept own j x not_over r = go (is_of j x now) refl not_over
   where
     was : List Said
@@ -187,7 +191,8 @@ closed old new earlier now e kept own j x not_over r = go (is_of j x now) refl n
     go true is o = absurd (false_true (sym o ∙ ap (λ t. t || list_any ends was) e))
     go false is o = kept j x r is ∙ own j x o r
 
-pub still_open : (own : List (Spot × Image)) (earlier : List Said) (now : Said) → ends now ≡ false → ((j x : ℕ) → IsFalse (is_over j x earlier) → (r : Rid) → IsOwn own (now ∷ earlier) j x r) → AreOpenOwn own (now ∷ earlier)
+pub still_open : (own : List (Spot × Image)) (earlier : List Said) (now : Said) → ends now ≡ false →
+    ((j x : ℕ) → IsFalse (is_over j x earlier) → (r : Rid) → IsOwn own (now ∷ earlier) j x r) → AreOpenOwn own (now ∷ earlier)
 still_open own earlier now e is j x not_over r = is j x (go (is_of j x now) not_over) r
   where
     was : List Said
@@ -205,13 +210,15 @@ Adds old new earlier now = (j x : ℕ) (r : Rid) → IsOwn old earlier j x r →
 pub its_own : (old new : List (Spot × Image)) (earlier : List Said) (now : Said) → AreOpenOwn old earlier → IsOpen earlier now → Adds old new earlier now → HasOwn new (now ∷ earlier) now
 its_own old new earlier now own opened adds r = adds now.session now.transaction r (own now.session now.transaction opened r)
 
-pub others_own : (old new : List (Spot × Image)) (earlier : List Said) (now : Said) → AreOpenOwn old earlier → Adds old new earlier now → (j x : ℕ) → IsFalse (is_over j x earlier) → (r : Rid) → IsOwn new (now ∷ earlier) j x r
+pub others_own : (old new : List (Spot × Image)) (earlier : List Said) (now : Said) → AreOpenOwn old earlier → Adds old new earlier now → (j x : ℕ) →
+    IsFalse (is_over j x earlier) → (r : Rid) → IsOwn new (now ∷ earlier) j x r
 others_own old new earlier now own adds j x not_over r = adds j x r (own j x not_over r)
 
 -- ---- what is kept of no transaction that ended
 
 -- the line's own transaction is gone, and no other changes
-pub forgets : (old new : List (Spot × Image)) (earlier : List Said) (now : Said) → ((j x : ℕ) (r : Rid) → IsFalse (is_of j x now) → own_at new j x r ≡ own_at old j x r) → ((r : Rid) → own_at new now.session now.transaction r ≡ None) → ForgetsOver old earlier → ForgetsOver new (now ∷ earlier)
+pub forgets : (old new : List (Spot × Image)) (earlier : List Said) (now : Said) → ((j x : ℕ) (r : Rid) → IsFalse (is_of j x now) → own_at new j x r ≡ own_at old j x r) →
+    ((r : Rid) → own_at new now.session now.transaction r ≡ None) → ForgetsOver old earlier → ForgetsOver new (now ∷ earlier)
 forgets old new earlier now others gone over j x o r = go (is_of j x now) refl o
   where
     was : List Said
@@ -237,7 +244,8 @@ forgets_on own earlier now e over j x o r = over j x (go (is_of j x now) o) r
     go false o = o
 
 -- a line stores nothing in a transaction that ended before it
-pub forgets_more : (old new : List (Spot × Image)) (earlier : List Said) (now : Said) → IsOpen earlier now → ((j x : ℕ) (r : Rid) → IsFalse (is_of j x now) → own_at new j x r ≡ own_at old j x r) → ForgetsOver old earlier → ForgetsOver new earlier
+pub forgets_more : (old new : List (Spot × Image)) (earlier : List Said) (now : Said) → IsOpen earlier now →
+    ((j x : ℕ) (r : Rid) → IsFalse (is_of j x now) → own_at new j x r ≡ own_at old j x r) → ForgetsOver old earlier → ForgetsOver new earlier
 forgets_more old new earlier now opened others over j x o r = others j x r (go (is_of j x now) refl) ∙ over j x o r
   where
     go : (b : Bool) → is_of j x now ≡ b → b ≡ false

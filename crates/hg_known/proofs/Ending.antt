@@ -15,15 +15,18 @@ use Rattle.hg_known.proofs.SpotOrder.{at_tx}
 
 -- ---- numbers
 
-pub numbers_same : (old : BTreeMap Tx ℕ) (earlier : List Said) (now : Said) → committed now ≡ None → ((j x : ℕ) → get tx_order old (tx j x) ≡ least_of (numbers_in j x earlier)) → (j x : ℕ) → get tx_order old (tx j x) ≡ least_of (numbers_in j x (now ∷ earlier))
+pub numbers_same : (old : BTreeMap Tx ℕ) (earlier : List Said) (now : Said) → committed now ≡ None → ((j x : ℕ) → get tx_order old (tx j x) ≡ least_of (numbers_in j x earlier)) →
+    (j x : ℕ) → get tx_order old (tx j x) ≡ least_of (numbers_in j x (now ∷ earlier))
 numbers_same old earlier now e h j x = h j x ∙ go (is_of j x now)
   where
     go : (b : Bool) → least_of (numbers_in j x earlier) ≡ least_of (filter_map committed (cond b (now ∷ filter (is_of j x) earlier) (filter (is_of j x) earlier)))
     go true = ap (λ o. least_of (cons_option o (numbers_in j x earlier))) (sym e)
     go false = refl
 
-pub numbers_more : (old new : BTreeMap Tx ℕ) (earlier : List Said) (now : Said) (n least : ℕ) → committed now ≡ Some n → least ≡ min n (unwrap_or (get tx_order old (tx now.session now.transaction)) n) →
-    ((q : Tx) → get tx_order new q ≡ cond (is_at (tx_order (tx now.session now.transaction)) q) (Some least) (get tx_order old q)) → ((j x : ℕ) → get tx_order old (tx j x) ≡ least_of (numbers_in j x earlier)) → (j x : ℕ) → get tx_order new (tx j x) ≡ least_of (numbers_in j x (now ∷ earlier))
+pub numbers_more : (old new : BTreeMap Tx ℕ) (earlier : List Said) (now : Said) (n least : ℕ) → committed now ≡ Some n →
+    least ≡ min n (unwrap_or (get tx_order old (tx now.session now.transaction)) n) →
+    ((q : Tx) → get tx_order new q ≡ cond (is_at (tx_order (tx now.session now.transaction)) q) (Some least) (get tx_order old q)) →
+    ((j x : ℕ) → get tx_order old (tx j x) ≡ least_of (numbers_in j x earlier)) → (j x : ℕ) → get tx_order new (tx j x) ≡ least_of (numbers_in j x (now ∷ earlier))
 numbers_more old new earlier now n least e is put h j x = put (tx j x) ∙ (λ i. cond (at_tx (tx now.session now.transaction) (tx j x) i) (Some least) (h j x i)) ∙ go (is_of j x now) refl
   where
     at : is_of j x now ≡ true → least ≡ min n (unwrap_or (least_of (numbers_in j x earlier)) n)
@@ -33,7 +36,8 @@ numbers_more old new earlier now n least e is put h j x = put (tx j x) ∙ (λ i
         let t : now.transaction ≡ x = (Decides-eqb now.transaction x).0 parts.1 in
         is ∙ ap (λ o. min n (unwrap_or o n)) (h now.session now.transaction ∙ (λ i. least_of (numbers_in (s i) (t i) earlier)))
 
-    go : (b : Bool) → is_of j x now ≡ b → cond b (Some least) (least_of (numbers_in j x earlier)) ≡ least_of (filter_map committed (cond b (now ∷ filter (is_of j x) earlier) (filter (is_of j x) earlier)))
+    go : (b : Bool) → is_of j x now ≡ b → cond b (Some least) (least_of (numbers_in j x earlier)) ≡ least_of
+        (filter_map committed (cond b (now ∷ filter (is_of j x) earlier) (filter (is_of j x) earlier)))
     go true same = ap Some (at same) ∙ sym (ap (λ o. least_of (cons_option o (numbers_in j x earlier))) e)
     go false same = refl
 

@@ -48,7 +48,8 @@ none_until s first (g ∷ gs) r h =
 abbrev pub EndsWith : List (ℕ × Image) → ℕ × Image → Type 0
 EndsWith ws w = (before : List (ℕ × Image)) × (ws ≡ before ++ w ∷ [])
 
-pub ends_later : (s n : ℕ) (o : Option Image) (rest : List (ℕ × Image)) (w : ℕ × Image) → EndsWith (filter (up_to s) rest) w → EndsWith (filter (up_to s) (cons_option (option_map (λ image. (n, image)) o) rest)) w
+pub ends_later : (s n : ℕ) (o : Option Image) (rest : List (ℕ × Image)) (w : ℕ × Image) → EndsWith (filter (up_to s) rest) w →
+    EndsWith (filter (up_to s) (cons_option (option_map (λ image. (n, image)) o) rest)) w
 ends_later s n None rest w h = h
 ends_later s n (Some image) rest w (before, e) = go (nat_le n s)
   where
@@ -56,11 +57,14 @@ ends_later s n (Some image) rest w (before, e) = go (nat_le n s)
     go true = ((n, image) ∷ before, ap (λ ws. (n, image) ∷ ws) e)
     go false = (before, e)
 
-pub last_until : (s first : ℕ) (h : History) (r : Rid) (n : ℕ) (image : Image) → n ≤ s → group_image r (group_from first h n) ≡ Some image → ((m : ℕ) → n < m → m ≤ s → IsOut r (group_from first h m)) → EndsWith (filter (up_to s) (writes_from first h r)) (n, image)
+pub last_until : (s first : ℕ) (h : History) (r : Rid) (n : ℕ) (image : Image) → n ≤ s → group_image r (group_from first h n) ≡ Some image →
+    ((m : ℕ) → n < m → m ≤ s → IsOut r (group_from first h m)) → EndsWith (filter (up_to s) (writes_from first h r)) (n, image)
 last_until s first [] r n image k e after = absurd (none_some None image refl e)
 last_until s first (g ∷ gs) r n image k e after = go (first == n) refl e (λ e. last_until s (suc first) gs r n image k e (λ m j l. later (IsOut r) first g gs m refl (after m j l)))
   where
-    go : (b : Bool) → (first == n) ≡ b → group_image r (cond b g (group_from (suc first) gs n)) ≡ Some image → (group_image r (group_from (suc first) gs n) ≡ Some image → EndsWith (filter (up_to s) (writes_from (suc first) gs r)) (n, image)) → EndsWith (filter (up_to s) (writes_from first (g ∷ gs) r)) (n, image)
+    go : (b : Bool) → (first == n) ≡ b → group_image r (cond b g (group_from (suc first) gs n)) ≡ Some image →
+        (group_image r (group_from (suc first) gs n) ≡ Some image → EndsWith (filter (up_to s) (writes_from (suc first) gs r)) (n, image)) →
+        EndsWith (filter (up_to s) (writes_from first (g ∷ gs) r)) (n, image)
     go true same e more =
         let at : first ≡ n = (Decides-eqb first n).0 same in
         let low : first ≤ s = omega (arith, at, k) in

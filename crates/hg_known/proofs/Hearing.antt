@@ -33,7 +33,8 @@ present_raises a b c ns = first a
 abbrev pub raised_by : Said → ℕ → ℕ
 raised_by now before = max (unwrap_or (snapshot_of now) 0) (max (unwrap_or (committed now) 0) (max (unwrap_or (newer_of now) 0) before))
 
-pub heard_more : (old new : BTreeMap ℕ ℕ) (earlier : List Said) (now : Said) (most : ℕ) → ((j : ℕ) → unwrap_or (get nat_cmp old j) 0 ≡ greatest (known j earlier)) → most ≡ raised_by now (unwrap_or (get nat_cmp old now.session) 0) → Puts old new now.session most →
+pub heard_more : (old new : BTreeMap ℕ ℕ) (earlier : List Said) (now : Said) (most : ℕ) → ((j : ℕ) → unwrap_or (get nat_cmp old j) 0 ≡ greatest (known j earlier)) →
+    most ≡ raised_by now (unwrap_or (get nat_cmp old now.session) 0) → Puts old new now.session most →
     (j : ℕ) → unwrap_or (get nat_cmp new j) 0 ≡ greatest (known j (now ∷ earlier))
 heard_more old new earlier now most h is put j = ap (λ o. unwrap_or o 0) (put_at old new now.session most put j) ∙ go (now.session == j) refl
   where

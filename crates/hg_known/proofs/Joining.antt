@@ -54,7 +54,8 @@ from_least q = grind (arith, nat_tests)
 
 -- ---- the first record
 
-pub first_joining : (own : List (Spot × Image)) (j x c : ℕ) (old : List (Slot × Image)) (found : Option Rid) → IsNextOwn own j x (record { table = record { 0 = 0 }; key = 0 }) found → Joining own j x c old old found
+pub first_joining : (own : List (Spot × Image)) (j x c : ℕ) (old : List (Slot × Image)) (found : Option Rid) →
+    IsNextOwn own j x (record { table = record { 0 = 0 }; key = 0 }) found → Joining own j x c old old found
 first_joining own j x c old found next = record {
   joined = λ q n. go q n (c == n) (before found q) refl;
   fresh = λ q e s. absurd (is_not_none (own_at own j x q) (none q e) s);
@@ -98,7 +99,8 @@ none_between own j x r None next q over e = next q over
 none_between own j x r (Some s) next q over e = none_if (own_at own j x q) (λ some. not_before (rid_cmp q s) e (ap is_gt (sym (rids_total.antisymm s q)) ∙ next.2 q over some))
 
 pub one_more : (own : List (Spot × Image)) (j x c : ℕ) (old writes new : List (Slot × Image)) (r : Rid) (image : Image) (found : Option Rid) →
-    Joining own j x c old writes (Some r) → own_at own j x r ≡ Some image → image_at writes r c ≡ None → ((q : Rid) (n : ℕ) → image_at new q n ≡ cond (same_rid r q && (c == n)) (Some image) (image_at writes q n)) → IsNextAfter own j x r found → Joining own j x c old new found
+    Joining own j x c old writes (Some r) → own_at own j x r ≡ Some image → image_at writes r c ≡ None →
+    ((q : Rid) (n : ℕ) → image_at new q n ≡ cond (same_rid r q && (c == n)) (Some image) (image_at writes q n)) → IsNextAfter own j x r found → Joining own j x c old new found
 one_more own j x c old writes new r image found h its none put next = record {
   joined = λ q n. put q n ∙ case q n (c == n) (rid_cmp r q) refl refl;
   fresh = λ q e s. fresh q (rid_cmp r q) refl e s;
@@ -126,9 +128,11 @@ one_more own j x c old writes new r image found h its none put next = record {
     was : (n : ℕ) → (c == n) ≡ true → image_at old r n ≡ image_at writes r n
     was n e = sym (h.joined r n ∙ (λ i. cond (e i && is_lt (tied_itself rids_total r i)) (option_or (own_at own j x r) (image_at old r n)) (image_at old r n)))
 
-    case : (q : Rid) (n : ℕ) (a : Bool) (o : Ordering) → (c == n) ≡ a → rid_cmp r q ≡ o → cond (same_rid r q && (c == n)) (Some image) (image_at writes q n) ≡ cond ((c == n) && before found q) (option_or (own_at own j x q) (image_at old q n)) (image_at old q n)
+    case : (q : Rid) (n : ℕ) (a : Bool) (o : Ordering) → (c == n) ≡ a → rid_cmp r q ≡ o →
+        cond (same_rid r q && (c == n)) (Some image) (image_at writes q n) ≡ cond ((c == n) && before found q) (option_or (own_at own j x q) (image_at old q n)) (image_at old q n)
     case q n false o e f =
-        (λ i. cond (same_rid r q && e i) (Some image) (image_at writes q n)) ∙ drop (same_rid r q) ∙ h.joined q n ∙ (λ i. cond (e i && is_lt (rid_cmp q r)) (option_or (own_at own j x q) (image_at old q n)) (image_at old q n))
+        (λ i. cond (same_rid r q && e i) (Some image) (image_at writes q n)) ∙ drop (same_rid r q) ∙ h.joined q n ∙
+        (λ i. cond (e i && is_lt (rid_cmp q r)) (option_or (own_at own j x q) (image_at old q n)) (image_at old q n))
         ∙ sym (λ i. cond (e i && before found q) (option_or (own_at own j x q) (image_at old q n)) (image_at old q n))
       where
         drop : (b : Bool) → cond (b && false) (Some image) (image_at writes q n) ≡ image_at writes q n
@@ -173,7 +177,8 @@ all_joined own j x c old new h = record {
   joined = λ r n. h.joined r n ∙ go r n (c == n);
 }
   where
-    go : (r : Rid) (n : ℕ) (b : Bool) → cond (b && true) (option_or (own_at own j x r) (image_at old r n)) (image_at old r n) ≡ cond b (option_or (own_at own j x r) (image_at old r n)) (image_at old r n)
+    go : (r : Rid) (n : ℕ) (b : Bool) → cond (b && true) (option_or (own_at own j x r) (image_at old r n)) (image_at old r n) ≡ cond b
+        (option_or (own_at own j x r) (image_at old r n)) (image_at old r n)
     go r n true = refl
     go r n false = refl
 

@@ -68,7 +68,8 @@ Left own j x found = (q : Rid) → before found q ≡ true → own_at own j x q 
 pub left_first : (own : List (Spot × Image)) (j x : ℕ) (found : Option Rid) → IsNextOwn own j x (record { table = record { 0 = 0 }; key = 0 }) found → Left own j x found
 left_first own j x found next q e = none_if (own_at own j x q) (λ s. (going_first own j x (λ r. ⊥) found next).each q e s)
 
-pub left_on : (old new : List (Spot × Image)) (j x : ℕ) (r : Rid) (found : Option Rid) → ((q : Rid) → own_at new j x q ≡ cond (same_rid r q) None (own_at old j x q)) → IsNextAfter old j x r found → Left old j x (Some r) → Left new j x found
+pub left_on : (old new : List (Spot × Image)) (j x : ℕ) (r : Rid) (found : Option Rid) → ((q : Rid) → own_at new j x q ≡ cond (same_rid r q) None (own_at old j x q)) →
+    IsNextAfter old j x r found → Left old j x (Some r) → Left new j x found
 left_on old new j x r found is next h q e = is q ∙ go (same_rid r q) refl
   where
     by : (o : Ordering) → rid_cmp r q ≡ o → same_rid r q ≡ false → own_at old j x q ≡ None
@@ -103,28 +104,34 @@ module _ (xs : List Said) (writes : List (Slot × Image)) (whole : IsWhole xs) (
   pub so_far_same : (k : ℕ) (now : Said) → AtLine xs k now → committed now ≡ None → SoFar k → SoFar (k + 1)
   so_far_same k now at e h = subst (Each (LosesNone (commits xs))) (commits_same xs k now at e) h
 
-  pub so_far_more : (k : ℕ) (now : Said) (n : ℕ) (own : List (Spot × Image)) → AtLine xs k now → committed now ≡ Some n → HasOwn own (now ∷ earlier_at xs k) now → LineKeeps own writes now n → SoFar k → SoFar (k + 1)
-  so_far_more k now n own at e is keeps h = subst (Each (LosesNone (commits xs))) (commits_more xs k now n at e) (each_snoc (LosesNone (commits xs)) (commits (take k xs)) (printed n (earlier_at xs k) now) h (line_loses own (earlier_at xs k) now n is keeps))
+  pub so_far_more : (k : ℕ) (now : Said) (n : ℕ) (own : List (Spot × Image)) → AtLine xs k now → committed now ≡ Some n → HasOwn own (now ∷ earlier_at xs k) now →
+      LineKeeps own writes now n → SoFar k → SoFar (k + 1)
+  so_far_more k now n own at e is keeps h = subst (Each (LosesNone (commits xs))) (commits_more xs k now n at e)
+      (each_snoc (LosesNone (commits xs)) (commits (take k xs)) (printed n (earlier_at xs k) now) h (line_loses own (earlier_at xs k) now n is keeps))
 
   pub all_kept : (k : ℕ) → length xs ≤ k → SoFar k → NoLostUpdate (history_of xs)
   all_kept k over h = kept_of xs (commits_of xs whole) (subst (λ ys. Each (LosesNone (commits xs)) (commits ys)) (take_all xs k over) h)
 
-  pub one_lost : (k : ℕ) (now : Said) (n : ℕ) (own : List (Spot × Image)) → AtLine xs k now → committed now ≡ Some n → HasOwn own (now ∷ earlier_at xs k) now → (LineKeeps own writes now n → ⊥) → NoLostUpdate (history_of xs) → ⊥
+  pub one_lost : (k : ℕ) (now : Said) (n : ℕ) (own : List (Spot × Image)) → AtLine xs k now → committed now ≡ Some n → HasOwn own (now ∷ earlier_at xs k) now →
+      (LineKeeps own writes now n → ⊥) → NoLostUpdate (history_of xs) → ⊥
   one_lost k now n own at e is f kept =
       let rest = commits_from (now ∷ earlier_at xs k) (drop (k + 1) xs) in
-      let split : commits xs ≡ commits (take k xs) ++ printed n (earlier_at xs k) now ∷ rest = ap commits at.all ∙ commits_append [] (take k xs) (now ∷ drop (k + 1) xs) ∙ ap (λ o. commits (take k xs) ++ cons_option (option_map (λ c. (c, commit_by (earlier_at xs k) now)) o) rest) e in
+      let split : commits xs ≡ commits (take k xs) ++ printed n (earlier_at xs k) now ∷ rest = ap commits at.all ∙ commits_append [] (take k xs) (now ∷ drop (k + 1) xs) ∙
+      ap (λ o. commits (take k xs) ++ cons_option (option_map (λ c. (c, commit_by (earlier_at xs k) now)) o) rest) e in
       let each = subst (Each (LosesNone (commits xs))) split (of_kept xs (commits_of xs whole) kept) in
       f (loses_line own (earlier_at xs k) now n is (each_right (LosesNone (commits xs)) (commits (take k xs)) (printed n (earlier_at xs k) now ∷ rest) each).0)
 
   -- the same where it is decided of any line whether its commit, if it prints one, loses none
-  pub line_keeps : (k : ℕ) (now : Said) (own : List (Spot × Image)) → AtLine xs k now → HasOwn own (now ∷ earlier_at xs k) now → IfSome (committed now) (LineKeeps own writes now) → SoFar k → SoFar (k + 1)
+  pub line_keeps : (k : ℕ) (now : Said) (own : List (Spot × Image)) → AtLine xs k now → HasOwn own (now ∷ earlier_at xs k) now → IfSome (committed now) (LineKeeps own writes now) →
+      SoFar k → SoFar (k + 1)
   line_keeps k now own at is keeps h = go (committed now) refl keeps
     where
       go : (o : Option ℕ) → committed now ≡ o → IfSome o (LineKeeps own writes now) → SoFar (k + 1)
       go None e keeps = so_far_same k now at e h
       go (Some n) e keeps = so_far_more k now n own at e is keeps h
 
-  pub line_lost : (k : ℕ) (now : Said) (own : List (Spot × Image)) → AtLine xs k now → HasOwn own (now ∷ earlier_at xs k) now → (IfSome (committed now) (LineKeeps own writes now) → ⊥) → NoLostUpdate (history_of xs) → ⊥
+  pub line_lost : (k : ℕ) (now : Said) (own : List (Spot × Image)) → AtLine xs k now → HasOwn own (now ∷ earlier_at xs k) now →
+      (IfSome (committed now) (LineKeeps own writes now) → ⊥) → NoLostUpdate (history_of xs) → ⊥
   line_lost k now own at is f kept = go (committed now) refl f
     where
       go : (o : Option ℕ) → committed now ≡ o → (IfSome o (LineKeeps own writes now) → ⊥) → ⊥

@@ -34,7 +34,8 @@ writes_to Q r first (g ∷ gs) f = go (group_image r g) refl (writes_to Q r (suc
     here : (i : Image) → group_image r g ≡ Some i → IsSome (group_image r (group_from first (g ∷ gs) first))
     here i e = subst (λ x. IsSome (group_image r (cond x g (group_from (suc first) gs first)))) (sym ((Decides-eqb first first).1 refl)) (ap is_some e)
 
-    go : (o : Option Image) → group_image r g ≡ o → Each (λ w. Q w.0) (writes_from (suc first) gs r) → Each (λ w. Q w.0) (cons_option (option_map (λ image. (first, image)) o) (writes_from (suc first) gs r))
+    go : (o : Option Image) → group_image r g ≡ o → Each (λ w. Q w.0) (writes_from (suc first) gs r) →
+        Each (λ w. Q w.0) (cons_option (option_map (λ image. (first, image)) o) (writes_from (suc first) gs r))
     go None e k = k
     go (Some i) e k = (f first (here i e), k)
 
@@ -42,7 +43,9 @@ pub writes_of : (Q : ℕ → Type 0) (r : Rid) (first : ℕ) (h : History) → E
 writes_of Q r first [] k m s = absurd (false_true s)
 writes_of Q r first (g ∷ gs) k m s = go (first == m) refl s (group_image r g) refl k (λ rest some. writes_of Q r (suc first) gs rest m some)
   where
-    go : (b : Bool) → (first == m) ≡ b → IsSome (group_image r (cond b g (group_from (suc first) gs m))) → (o : Option Image) → group_image r g ≡ o → Each (λ w. Q w.0) (cons_option (option_map (λ image. (first, image)) o) (writes_from (suc first) gs r)) → (Each (λ w. Q w.0) (writes_from (suc first) gs r) → IsSome (group_image r (group_from (suc first) gs m)) → Q m) → Q m
+    go : (b : Bool) → (first == m) ≡ b → IsSome (group_image r (cond b g (group_from (suc first) gs m))) → (o : Option Image) → group_image r g ≡ o →
+        Each (λ w. Q w.0) (cons_option (option_map (λ image. (first, image)) o) (writes_from (suc first) gs r)) →
+        (Each (λ w. Q w.0) (writes_from (suc first) gs r) → IsSome (group_image r (group_from (suc first) gs m)) → Q m) → Q m
     go true same s None e k more = absurd (is_not_none (group_image r g) e s)
     go true same s (Some i) e k more = subst Q ((Decides-eqb first m).0 same) k.0
     go false other s None e k more = more k s
@@ -89,11 +92,14 @@ of_keeps all h p k r s m over below =
 pub kept_of : (all : List Said) → AreCommits (commits all) → Each (LosesNone (commits all)) (commits all) → NoLostUpdate (history_of all)
 kept_of all h none =
     numbered_to (λ n g. Each (Keeps (history_of all) n) g) (group_of (commits all)) 1 (greatest_commit all)
-    (λ n j k. each_group (Keeps (history_of all) n) n (commits all) (each_keeps (LosesNone (commits all)) (λ q. q.0 ≡ n → Keeps (history_of all) n q.1) (λ q f e. subst (λ m. Keeps (history_of all) m q.1) e (keeps_of all h q f)) (commits all) none))
+    (λ n j k. each_group (Keeps (history_of all) n) n (commits all) (each_keeps (LosesNone (commits all)) (λ q. q.0 ≡ n → Keeps (history_of all) n q.1)
+    (λ q f e. subst (λ m. Keeps (history_of all) m q.1) e (keeps_of all h q f)) (commits all) none))
 
 pub of_kept : (all : List Said) → AreCommits (commits all) → NoLostUpdate (history_of all) → Each (LosesNone (commits all)) (commits all)
 of_kept all h kept =
     each_own (IsNumber all) (LosesNone (commits all)) (commits all)
-    (λ n q. each_keeps (λ p. p.0 ≡ n → Keeps (history_of all) n p.1) (λ p. p.0 ≡ n → LosesNone (commits all) p) (λ p f e. of_keeps all h p (subst (λ m. Keeps (history_of all) m p.1) (sym e) (f e))) (commits all)
-    (group_each (Keeps (history_of all) n) n (commits all) (let low : 1 ≤ n = q.0 in let high = q.1 in numbered_of (λ n g. Each (Keeps (history_of all) n) g) (group_of (commits all)) 1 (greatest_commit all) kept n low (omega (arith, high)))))
+    (λ n q. each_keeps (λ p. p.0 ≡ n → Keeps (history_of all) n p.1) (λ p. p.0 ≡ n → LosesNone (commits all) p)
+    (λ p f e. of_keeps all h p (subst (λ m. Keeps (history_of all) m p.1) (sym e) (f e))) (commits all)
+    (group_each (Keeps (history_of all) n) n (commits all) (let low : 1 ≤ n = q.0 in let high = q.1 in
+    numbered_of (λ n g. Each (Keeps (history_of all) n) g) (group_of (commits all)) 1 (greatest_commit all) kept n low (omega (arith, high)))))
     (numbers_within all (whole_of all h))

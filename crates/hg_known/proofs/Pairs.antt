@@ -106,11 +106,16 @@ none_each r (d ∷ ds) e =
 
 pub each_none : (r : Rid) (g : Group) → Each (λ (d : Commit). image_in r d.images ≡ None) g → is_among r (group_rids g) ≡ false
 each_none r [] h = refl
-each_none r (d ∷ ds) h = any_append (same_rid r) (rids_of d.images) (group_rids ds) ∙ neither (is_among r (rids_of d.images)) (is_among r (group_rids ds)) (among_image r d.images ∙ no_of_none (image_in r d.images) h.0) (each_none r ds h.1)
+each_none r (d ∷ ds) h = any_append (same_rid r) (rids_of d.images) (group_rids ds) ∙ neither (is_among r (rids_of d.images)) (is_among r (group_rids ds)) (among_image r d.images ∙
+    no_of_none (image_in r d.images) h.0) (each_none r ds h.1)
 
 pub other_sessions : (j : ℕ) (g : Group) → IsFalse (list_any (λ m. m == j) (Sessions g)) → Each (λ (d : Commit). IsFalse (j == d.session)) g
 other_sessions j [] h = tt
-other_sessions j (d ∷ ds) h = (both_ways d.session j (or_left (d.session == j) (list_any (λ m. m == j) (Sessions ds)) h), other_sessions j ds (or_right (d.session == j) (list_any (λ m. m == j) (Sessions ds)) h))
+other_sessions j (d ∷ ds) h = (
+  both_ways d.session j (or_left (d.session == j) (list_any (λ m. m == j) (Sessions ds)) h),
+  other_sessions j ds
+      (or_right (d.session == j) (list_any (λ m. m == j) (Sessions ds)) h),
+)
 
 pub sessions_other : (j : ℕ) (g : Group) → Each (λ (d : Commit). IsFalse (j == d.session)) g → IsFalse (list_any (λ m. m == j) (Sessions g))
 sessions_other j [] h = refl
@@ -129,7 +134,8 @@ pub once_pairs : (g : Group) → NoNumberTwice (Sessions g) → NoneTwice (group
 once_pairs [] n t = tt
 once_pairs (c ∷ cs) n t = (
   twice_left (rids_of c.images) (group_rids cs) t,
-  each_pairs _ _ cs (other_sessions c.session cs n.0) (each_for_all (λ (r : Rid) (d : Commit). IsSome (image_in r c.images) → image_in r d.images ≡ None) cs (λ r. among r (is_among r (rids_of c.images)) refl)),
+  each_pairs _ _ cs (other_sessions c.session cs n.0) (each_for_all (λ (r : Rid) (d : Commit). IsSome (image_in r c.images) → image_in r d.images ≡ None) cs
+      (λ r. among r (is_among r (rids_of c.images)) refl)),
   once_pairs cs n.1 (twice_right (rids_of c.images) (group_rids cs) t),
 )
   where
@@ -150,7 +156,11 @@ pairs_rids [] h = tt
 pairs_rids (c ∷ cs) h = twice_append (rids_of c.images) (group_rids cs) h.0 (pairs_rids cs h.2) (λ r e. each_none r cs (each_keeps _ _ (λ d k. k.1 r (sym (among_image r c.images) ∙ e)) cs h.1))
 
 pub of_two_back : (c d : Commit) → AreOfTwo c d → AreOfTwo d c
-of_two_back c d (apart, f) = (both_ways c.session d.session apart, λ r s. cases (is_some (image_in r c.images)) (λ t. absurd (none_is_some (image_in r d.images) (f r t) s)) (λ n. none_of_no (image_in r c.images) n))
+of_two_back c d (apart, f) = (
+  both_ways c.session d.session apart,
+  λ r s. cases (is_some (image_in r c.images)) (λ t. absurd (none_is_some (image_in r d.images) (f r t) s))
+      (λ n. none_of_no (image_in r c.images) n),
+)
   where
     none_is_some : (o : Option Image) → o ≡ None → IsSome o → ⊥
     none_is_some None e s = false_true s
@@ -186,7 +196,8 @@ pub put_pairs : (c : Commit) (g : Group) → InPairs (put_by_session c g) → Ow
 put_pairs c [] h = (h.0, tt, tt)
 put_pairs c (d ∷ ds) h = go (nat_lt d.session c.session) h (put_pairs c ds)
   where
-    go : (b : Bool) → InPairs (cond b (d ∷ put_by_session c ds) (c ∷ d ∷ ds)) → (InPairs (put_by_session c ds) → OwnOnce c × Each (AreOfTwo c) ds × InPairs ds) → OwnOnce c × Each (AreOfTwo c) (d ∷ ds) × InPairs (d ∷ ds)
+    go : (b : Bool) → InPairs (cond b (d ∷ put_by_session c ds) (c ∷ d ∷ ds)) → (InPairs (put_by_session c ds) → OwnOnce c × Each (AreOfTwo c) ds × InPairs ds) → OwnOnce c ×
+        Each (AreOfTwo c) (d ∷ ds) × InPairs (d ∷ ds)
     go true k f =
         let q = f k.2 in
         let e = put_each (AreOfTwo d) c ds k.1 in
@@ -198,14 +209,16 @@ put_pairs c (d ∷ ds) h = go (nat_lt d.session c.session) h (put_pairs c ds)
 pub each_group : (P : Commit → Type 0) (n : ℕ) (ps : List (ℕ × Commit)) → Each (λ q. q.0 ≡ n → P q.1) ps → Each P (group_of ps n)
 each_group P n [] h = tt
 each_group P n (p ∷ ps) h = cases (p.0 == n)
-    (λ same. subst (Each P) (sym (ap (λ b. cond b (put_by_session p.1 (group_of ps n)) (group_of ps n)) same)) (each_put P p.1 (group_of ps n) (h.0 ((Decides-eqb p.0 n).0 same)) (each_group P n ps h.1)))
+    (λ same. subst (Each P) (sym (ap (λ b. cond b (put_by_session p.1 (group_of ps n)) (group_of ps n)) same))
+    (each_put P p.1 (group_of ps n) (h.0 ((Decides-eqb p.0 n).0 same)) (each_group P n ps h.1)))
     (λ other. subst (Each P) (sym (ap (λ b. cond b (put_by_session p.1 (group_of ps n)) (group_of ps n)) other)) (each_group P n ps h.1))
 
 pub group_each : (P : Commit → Type 0) (n : ℕ) (ps : List (ℕ × Commit)) → Each P (group_of ps n) → Each (λ q. q.0 ≡ n → P q.1) ps
 group_each P n [] h = tt
 group_each P n (p ∷ ps) h = go (p.0 == n) refl h (group_each P n ps)
   where
-    go : (b : Bool) → (p.0 == n) ≡ b → Each P (cond b (put_by_session p.1 (group_of ps n)) (group_of ps n)) → (Each P (group_of ps n) → Each (λ q. q.0 ≡ n → P q.1) ps) → Each (λ q. q.0 ≡ n → P q.1) (p ∷ ps)
+    go : (b : Bool) → (p.0 == n) ≡ b → Each P (cond b (put_by_session p.1 (group_of ps n)) (group_of ps n)) → (Each P (group_of ps n) → Each (λ q. q.0 ≡ n → P q.1) ps) →
+        Each (λ q. q.0 ≡ n → P q.1) (p ∷ ps)
     go true e k f = let q = put_each P p.1 (group_of ps n) k in (λ _. q.0, f q.1)
     go false e k f = (λ same. absurd (false_true (sym e ∙ (Decides-eqb p.0 n).1 same)), f k)
 
@@ -220,7 +233,8 @@ pub from_pairs : (ps : List (ℕ × Commit)) → ((n : ℕ) → InPairs (group_o
 from_pairs [] h = tt
 from_pairs (p ∷ ps) h = (
   each_keeps (λ q. q.0 ≡ p.0 → AreOfTwo p.1 q.1) (AreApart p) (λ q f e. f (sym e)) ps
-      (group_each (AreOfTwo p.1) p.0 ps (put_pairs p.1 (group_of ps p.0) (subst InPairs (ap (λ b. cond b (put_by_session p.1 (group_of ps p.0)) (group_of ps p.0)) ((Decides-eqb p.0 p.0).1 refl)) (h p.0))).1),
+      (group_each (AreOfTwo p.1) p.0 ps (put_pairs p.1 (group_of ps p.0)
+      (subst InPairs (ap (λ b. cond b (put_by_session p.1 (group_of ps p.0)) (group_of ps p.0)) ((Decides-eqb p.0 p.0).1 refl)) (h p.0))).1),
   from_pairs ps (λ n. go n (p.0 == n) (h n)),
 )
   where

@@ -27,7 +27,8 @@ Puts old new p = (q : Point) → contains point_cmp new q ≡ cond (is_at (point
 pub prints_it : (now : Said) (m j n : ℕ) → snapshot_of now ≡ Some m → prints_point j n now ≡ ((now.session == j) && (m == n))
 prints_it now m j n e = ap (λ o. (now.session == j) && option_map_or (λ s. s == n) o false) e
 
-pub printed_more : (old new : BTreeSet Point) (earlier : List Said) (now : Said) (m : ℕ) → snapshot_of now ≡ Some m → Puts old new (point now.session m) → ((j n : ℕ) → contains point_cmp old (point j n) ≡ list_any (prints_point j n) earlier) → (j n : ℕ) → contains point_cmp new (point j n) ≡ list_any (prints_point j n) (now ∷ earlier)
+pub printed_more : (old new : BTreeSet Point) (earlier : List Said) (now : Said) (m : ℕ) → snapshot_of now ≡ Some m → Puts old new (point now.session m) →
+    ((j n : ℕ) → contains point_cmp old (point j n) ≡ list_any (prints_point j n) earlier) → (j n : ℕ) → contains point_cmp new (point j n) ≡ list_any (prints_point j n) (now ∷ earlier)
 printed_more old new earlier now m e put h j n =
     put (point j n) ∙ (λ i. cond (at_point (point now.session m) (point j n) i) true (h j n i)) ∙ cond_or ((now.session == j) && (m == n)) (list_any (prints_point j n) earlier)
     ∙ ap (λ b. b || list_any (prints_point j n) earlier) (sym (prints_it now m j n e))
@@ -43,12 +44,15 @@ and_false false b e = refl
 abbrev pub declares : ℕ → ℕ → Said → Bool
 declares j n said = prints_point j n said && is_declared said.scope
 
-pub declared_more : (old new : BTreeSet Point) (earlier : List Said) (now : Said) (m : ℕ) → snapshot_of now ≡ Some m → is_declared now.scope ≡ true → Puts old new (point now.session m) → ((j n : ℕ) → contains point_cmp old (point j n) ≡ list_any (declares j n) earlier) → (j n : ℕ) → contains point_cmp new (point j n) ≡ list_any (declares j n) (now ∷ earlier)
+pub declared_more : (old new : BTreeSet Point) (earlier : List Said) (now : Said) (m : ℕ) → snapshot_of now ≡ Some m → is_declared now.scope ≡ true →
+    Puts old new (point now.session m) → ((j n : ℕ) → contains point_cmp old (point j n) ≡ list_any (declares j n) earlier) → (j n : ℕ) →
+    contains point_cmp new (point j n) ≡ list_any (declares j n) (now ∷ earlier)
 declared_more old new earlier now m e d put h j n =
     put (point j n) ∙ (λ i. cond (at_point (point now.session m) (point j n) i) true (h j n i)) ∙ cond_or ((now.session == j) && (m == n)) (list_any (declares j n) earlier)
     ∙ ap (λ b. b || list_any (declares j n) earlier) (sym (prints_it now m j n e) ∙ and_true (prints_point j n now) (is_declared now.scope) d)
 
-pub declared_same : (old : BTreeSet Point) (earlier : List Said) (now : Said) → is_declared now.scope ≡ false → ((j n : ℕ) → contains point_cmp old (point j n) ≡ list_any (declares j n) earlier) → (j n : ℕ) → contains point_cmp old (point j n) ≡ list_any (declares j n) (now ∷ earlier)
+pub declared_same : (old : BTreeSet Point) (earlier : List Said) (now : Said) → is_declared now.scope ≡ false →
+    ((j n : ℕ) → contains point_cmp old (point j n) ≡ list_any (declares j n) earlier) → (j n : ℕ) → contains point_cmp old (point j n) ≡ list_any (declares j n) (now ∷ earlier)
 declared_same old earlier now d h j n = h j n ∙ sym (ap (λ b. b || list_any (declares j n) earlier) (and_false (prints_point j n now) (is_declared now.scope) d))
 
 -- ---- in either order

@@ -21,7 +21,8 @@ Puts old new s x = (j : ℕ) → get nat_cmp new j ≡ cond (is_at (nat_cmp s) j
 pub put_at : {X : Type 0} (old new : BTreeMap ℕ X) (s : ℕ) (x : X) → Puts old new s x → (j : ℕ) → get nat_cmp new j ≡ cond (s == j) (Some x) (get nat_cmp old j)
 put_at old new s x h j = h j ∙ ap (λ b. cond b (Some x) (get nat_cmp old j)) (alike_numbers s j)
 
-pub lasts_more : (old new : BTreeMap ℕ Last) (earlier : List Said) (now : Said) (left : Last) → AreLasts old earlier → without_rest left ≡ left_by now → nat_lt 0 now.transaction ≡ true → Puts old new now.session left → AreLasts new (now ∷ earlier)
+pub lasts_more : (old new : BTreeMap ℕ Last) (earlier : List Said) (now : Said) (left : Last) → AreLasts old earlier → without_rest left ≡ left_by now →
+    nat_lt 0 now.transaction ≡ true → Puts old new now.session left → AreLasts new (now ∷ earlier)
 lasts_more old new earlier now left h is some put j = ap (option_map without_rest) (put_at old new now.session left put j) ∙ go (now.session == j)
   where
     go : (b : Bool) → option_map without_rest (cond b (Some left) (get nat_cmp old j)) ≡ option_map left_by (cond (b && nat_lt 0 now.transaction) (Some now) (last_of j earlier))
@@ -51,7 +52,8 @@ onto_push [] earlier x = refl
 onto_push (y ∷ ys) earlier x = onto_push ys (y ∷ earlier) x
 
 -- line k, read behind those before it
-pub read_at : (earlier : List Said) (records : List Record) (lines : List Line) (k : ℕ) (r : Record) (reply : Reply) (d : Said) → k < length records → k < length lines → r ≡ get_or records k r → ((line : Line) → line ≡ get_or lines k line → reply ≡ line.reply) →
+pub read_at : (earlier : List Said) (records : List Record) (lines : List Line) (k : ℕ) (r : Record) (reply : Reply) (d : Said) → k < length records → k < length lines →
+    r ≡ get_or records k r → ((line : Line) → line ≡ get_or lines k line → reply ≡ line.reply) →
     get_or (said_from earlier records lines) k d ≡ said (onto (take k (said_from earlier records lines)) earlier) r reply
 read_at earlier [] lines k r reply d less short e f = absurd (omega (arith, less))
 read_at earlier (x ∷ rs) [] k r reply d less short e f = absurd (omega (arith, short))
@@ -83,7 +85,8 @@ after_reply last r reply (Scan table low high) = standing_reply (open_after last
 after_reply last r reply Commit = standing_reply (open_after last) (next_after last) r reply
 after_reply last r reply Rollback = standing_reply (open_after last) (next_after last) r reply
 
-pub reply_at : (earlier : List Said) (records : List Record) (lines : List Line) (k : ℕ) (line : Line) (d : Said) → length records ≡ length lines → k < length lines → line ≡ get_or lines k line → line.reply ≡ (get_or (said_from earlier records lines) k d).reply
+pub reply_at : (earlier : List Said) (records : List Record) (lines : List Line) (k : ℕ) (line : Line) (d : Said) → length records ≡ length lines → k < length lines →
+    line ≡ get_or lines k line → line.reply ≡ (get_or (said_from earlier records lines) k d).reply
 reply_at earlier [] [] k line d e less f = absurd (omega (arith, less))
 reply_at earlier [] (y ∷ ls) k line d e less f = absurd (omega (arith, e))
 reply_at earlier (r ∷ rs) [] k line d e less f = absurd (omega (arith, less))

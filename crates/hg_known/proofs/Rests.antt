@@ -89,7 +89,8 @@ some_is_some : (s t : Said) → Some s ≡ Some t → s ≡ t
 some_is_some s t e = cc
 
 -- a line of a transaction of the session
-rests_own : (earlier : List Said) (now : Said) (old : Option Last) (left : Last) → IsRest now.session earlier old → nat_lt 0 now.transaction ≡ true → next_after (last_of now.session earlier) ≤ suc now.transaction →
+rests_own : (earlier : List Said) (now : Said) (old : Option Last) (left : Last) → IsRest now.session earlier old → nat_lt 0 now.transaction ≡ true →
+    next_after (last_of now.session earlier) ≤ suc now.transaction →
     (ends now ≡ false → left_rest (Some left) ≡ rest_after now.statement now.reply.answer (rest_in now.session now.transaction earlier)) → IsRest now.session (now ∷ earlier) (Some left)
 rests_own earlier now old left h some next is = record {
   within = λ opened o. go (ends now) refl opened (sym (ap open_after last) ∙ o);
@@ -104,10 +105,12 @@ rests_own earlier now old left h some next is = record {
 
     go : (b : Bool) → ends now ≡ b → (opened : Said) → (if b then None else Some now) ≡ Some opened → left_rest (Some left) ≡ rest_in now.session opened.transaction (now ∷ earlier)
     go true e opened o = absurd (none_is_not_some opened o)
-    go false e opened o = subst (λ (s : Said). left_rest (Some left) ≡ rest_in now.session s.transaction (now ∷ earlier)) (some_is_some now opened o) (is e ∙ sym (rest_here now.session now.transaction earlier now (its_own now)))
+    go false e opened o = subst (λ (s : Said). left_rest (Some left) ≡ rest_in now.session s.transaction (now ∷ earlier)) (some_is_some now opened o) (is e ∙
+        sym (rest_here now.session now.transaction earlier now (its_own now)))
 
 -- a line in no transaction
-rests_outside : (j : ℕ) (earlier : List Said) (now : Said) (last : Option Last) → nat_lt 0 now.transaction ≡ false → ((q : Option Rest) → rest_after now.statement now.reply.answer q ≡ q) → IsRest j earlier last → IsRest j (now ∷ earlier) last
+rests_outside : (j : ℕ) (earlier : List Said) (now : Said) (last : Option Last) → nat_lt 0 now.transaction ≡ false →
+    ((q : Option Rest) → rest_after now.statement now.reply.answer q ≡ q) → IsRest j earlier last → IsRest j (now ∷ earlier) last
 rests_outside j earlier now last none keeps h = record {
   within = λ opened o. h.within opened (sym (ap open_after same) ∙ o) ∙ sym (kept opened.transaction);
   later = λ x over. kept x ∙ h.later x (subst (λ o. next_after o ≤ x) same over);
@@ -208,19 +211,23 @@ said_stands earlier r reply now is =
 
 -- ---- one line more
 
-pub rests_more : (old new : BTreeMap ℕ Last) (earlier : List Said) (r : Record) (reply : Reply) (now : Said) (left : Last) (rest : Option rests.Rest) → now ≡ said earlier r reply → AreRests old earlier → nat_lt 0 now.transaction ≡ true →
-    option_map rest_of rest ≡ rest_in now.session now.transaction earlier → (ends now ≡ false → left_rest (Some left) ≡ rest_after now.statement now.reply.answer (option_map rest_of rest)) → Puts old new now.session left → AreRests new (now ∷ earlier)
+pub rests_more : (old new : BTreeMap ℕ Last) (earlier : List Said) (r : Record) (reply : Reply) (now : Said) (left : Last) (rest : Option rests.Rest) → now ≡ said earlier r reply →
+    AreRests old earlier → nat_lt 0 now.transaction ≡ true →
+    option_map rest_of rest ≡ rest_in now.session now.transaction earlier →
+    (ends now ≡ false → left_rest (Some left) ≡ rest_after now.statement now.reply.answer (option_map rest_of rest)) → Puts old new now.session left → AreRests new (now ∷ earlier)
 rests_more old new earlier r reply now left rest is h some shown left_is put j = subst (IsRest j (now ∷ earlier)) (sym (put_at old new now.session left put j)) (cases (now.session == j) mine other)
   where
     mine : (now.session == j) ≡ true → IsRest j (now ∷ earlier) (cond (now.session == j) (Some left) (get nat_cmp old j))
     mine e = subst (λ b. IsRest j (now ∷ earlier) (cond b (Some left) (get nat_cmp old j))) (sym e)
         (subst (λ i. IsRest i (now ∷ earlier) (Some left)) ((Decides-eqb now.session j).0 e)
-        (rests_own earlier now (get nat_cmp old now.session) left (h now.session) some ((said_stands earlier r reply now is).1 some) (λ f. left_is f ∙ ap (rest_after now.statement now.reply.answer) shown)))
+        (rests_own earlier now (get nat_cmp old now.session) left (h now.session) some ((said_stands earlier r reply now is).1 some) (λ f. left_is f ∙
+        ap (rest_after now.statement now.reply.answer) shown)))
 
     other : (now.session == j) ≡ false → IsRest j (now ∷ earlier) (cond (now.session == j) (Some left) (get nat_cmp old j))
     other e = subst (λ b. IsRest j (now ∷ earlier) (cond b (Some left) (get nat_cmp old j))) (sym e) (rests_other j earlier now (get nat_cmp old j) e (h j))
 
-pub rests_same : (old : BTreeMap ℕ Last) (earlier : List Said) (r : Record) (reply : Reply) (now : Said) → now ≡ said earlier r reply → AreRests old earlier → nat_lt 0 now.transaction ≡ false → AreRests old (now ∷ earlier)
+pub rests_same : (old : BTreeMap ℕ Last) (earlier : List Said) (r : Record) (reply : Reply) (now : Said) → now ≡ said earlier r reply → AreRests old earlier →
+    nat_lt 0 now.transaction ≡ false → AreRests old (now ∷ earlier)
 rests_same old earlier r reply now is h none j = rests_outside j earlier now (get nat_cmp old j) none ((said_stands earlier r reply now is).0 none) (h j)
 
 -- no line was read
@@ -234,10 +241,13 @@ pub none_before : (j : ℕ) (earlier : List Said) (last : Option Last) (next : �
 none_before j earlier last next e h = sym (h.later next (omega (arith, e)))
 
 -- a line of the open transaction
-pub open_before : (j : ℕ) (earlier : List Said) (transaction at : ℕ) (scope : Scope) (rest : Option rests.Rest) → option_map without_rest (Some (Open transaction at scope rest)) ≡ option_map left_by (last_of j earlier) → IsRest j earlier (Some (Open transaction at scope rest)) → option_map rest_of rest ≡ rest_in j transaction earlier
+pub open_before : (j : ℕ) (earlier : List Said) (transaction at : ℕ) (scope : Scope) (rest : Option rests.Rest) →
+    option_map without_rest (Some (Open transaction at scope rest)) ≡ option_map left_by (last_of j earlier) → IsRest j earlier (Some (Open transaction at scope rest)) →
+    option_map rest_of rest ≡ rest_in j transaction earlier
 open_before j earlier transaction at scope rest e h = go (last_of j earlier) refl e
   where
-    within : (said : Said) (b : Bool) → ends said ≡ b → last_of j earlier ≡ Some said → Some (Open transaction at scope None) ≡ Some (if b then Over said.transaction else Open said.transaction said.at said.scope None) → option_map rest_of rest ≡ rest_in j transaction earlier
+    within : (said : Said) (b : Bool) → ends said ≡ b → last_of j earlier ≡ Some said →
+        Some (Open transaction at scope None) ≡ Some (if b then Over said.transaction else Open said.transaction said.at said.scope None) → option_map rest_of rest ≡ rest_in j transaction earlier
     within said true f is e = absurd (apart e)
       where
         apart : Some (Open transaction at scope None) ≡ Some (Over said.transaction) → ⊥

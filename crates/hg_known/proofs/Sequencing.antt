@@ -21,7 +21,8 @@ pub sessions_next : (f : ℕ → List Record) (j : ℕ) → flat_map f (numbers_
 sessions_next f j =
     let one : j + 1 ≡ suc j = omega arith in
     let back : 1 + j ≡ j + 1 = omega arith in
-    sym (ap (λ m. flat_map f (numbers_from 1 m)) one ∙ ap (flat_map f) (numbers_from_snoc 1 j) ∙ flat_map-append f (numbers_from 1 j) ((1 + j) ∷ []) ∙ ap (λ ys. flat_map f (numbers_from 1 j) ++ ys) (append_nil (f (1 + j)) ∙ ap f back))
+    sym (ap (λ m. flat_map f (numbers_from 1 m)) one ∙ ap (flat_map f) (numbers_from_snoc 1 j) ∙ flat_map-append f (numbers_from 1 j) ((1 + j) ∷ []) ∙
+    ap (λ ys. flat_map f (numbers_from 1 j) ++ ys) (append_nil (f (1 + j)) ∙ ap f back))
 
 -- where no session is named, the first has no record
 pub none_of_one : (records : List Record) → greatest (map (λ (r : Record). r.session) records) ≡ 0 → of_session 1 records ≡ []
@@ -38,7 +39,8 @@ all_sessions records =
     let f : ℕ → List Record = λ j. of_session j records in
     cases (nat_lt 0 g)
     (λ e. let some : 0 < g = ltb-true 0 g e in let same : max 1 g ≡ g = omega (arith, some) in ap (λ n. flat_map f (numbers_from 1 n)) same)
-    (λ e. let most : g ≤ 0 = ltb-false 0 g e in let none : g ≡ 0 = omega (arith, most) in ap (λ n. flat_map f (numbers_from 1 (max 1 n))) none ∙ append_nil (f 1) ∙ none_of_one records none ∙ sym (ap (λ n. flat_map f (numbers_from 1 n)) none))
+    (λ e. let most : g ≤ 0 = ltb-false 0 g e in let none : g ≡ 0 = omega (arith, most) in ap (λ n. flat_map f (numbers_from 1 (max 1 n))) none ∙ append_nil (f 1) ∙
+    none_of_one records none ∙ sym (ap (λ n. flat_map f (numbers_from 1 n)) none))
 
 -- ---- lengths
 
@@ -57,7 +59,8 @@ run_length shown n =
     let a = length-append shown (rounds_of kinds.Group n) in
     let b = length-append (shown ++ rounds_of kinds.Group n) (rounds_of kinds.Table n) in
     let c = length-append (shown ++ rounds_of kinds.Group n ++ rounds_of kinds.Table n) (rounds_of kinds.Interval n) in
-    sum (length (with_rounds shown n)) (length (shown ++ rounds_of kinds.Group n ++ rounds_of kinds.Table n)) (length (shown ++ rounds_of kinds.Group n)) (length shown) (length (rounds_of kinds.Group n)) (length (rounds_of kinds.Table n)) (length (rounds_of kinds.Interval n)) n a b c g t i
+    sum (length (with_rounds shown n)) (length (shown ++ rounds_of kinds.Group n ++ rounds_of kinds.Table n)) (length (shown ++ rounds_of kinds.Group n)) (length shown)
+    (length (rounds_of kinds.Group n)) (length (rounds_of kinds.Table n)) (length (rounds_of kinds.Interval n)) n a b c g t i
   where
     sum : (all two one none g t i n : ℕ) → one ≡ none + g → two ≡ one + t → all ≡ two + i → g ≡ n → t ≡ n → i ≡ n → all ≡ none + 3 * n
     sum all two one none g t i n a b c x y z = omega (arith, a, b, c, x, y, z)
@@ -81,7 +84,8 @@ at_shown shown n k d h =
     let two = one ++ rounds_of kinds.Table n in
     let a = length-append shown (rounds_of kinds.Group n) in
     let b = length-append one (rounds_of kinds.Table n) in
-    get_or-append two (rounds_of kinds.Interval n) d k (omega (arith, a, b, h)) ∙ get_or-append one (rounds_of kinds.Table n) d k (omega (arith, a, h)) ∙ get_or-append shown (rounds_of kinds.Group n) d k h
+    get_or-append two (rounds_of kinds.Interval n) d k (omega (arith, a, b, h)) ∙ get_or-append one (rounds_of kinds.Table n) d k (omega (arith, a, h)) ∙
+    get_or-append shown (rounds_of kinds.Group n) d k h
 
 pub at_round : (shown : List Record) (n k : ℕ) (d : Record) → length shown ≤ k → k < length shown + 3 * n → get_or (with_rounds shown n) k d ≡ round_at (k - length shown) n
 at_round shown n k d low high = cases (nat_lt i n) group (λ e. cases (nat_lt (i - n) n) (table e) (interval e))
@@ -106,7 +110,8 @@ at_round shown n k d low high = cases (nat_lt i n) group (λ e. cases (nat_lt (i
         let less : i < n = ltb-true i n e in
         let a : k < length one = omega (arith, less, first, low) in
         let b : k < length two = omega (arith, a, first, second) in
-        get_or-append two (rounds_of kinds.Interval n) d k b ∙ get_or-append one (rounds_of kinds.Table n) d k a ∙ get_or-append_right shown (rounds_of kinds.Group n) k d low ∙ rounds_at kinds.Group n i i d refl less
+        get_or-append two (rounds_of kinds.Interval n) d k b ∙ get_or-append one (rounds_of kinds.Table n) d k a ∙ get_or-append_right shown (rounds_of kinds.Group n) k d low ∙
+        rounds_at kinds.Group n i i d refl less
         ∙ sym (ap (λ b. cond b (round kinds.Group (i + 1)) (cond (nat_lt (i - n) n) (round kinds.Table (i - n + 1)) (round kinds.Interval (i - n - n + 1)))) e)
 
     table : nat_lt i n ≡ false → nat_lt (i - n) n ≡ true → get_or (with_rounds shown n) k d ≡ round_at i n
@@ -116,8 +121,10 @@ at_round shown n k d low high = cases (nat_lt i n) group (λ e. cases (nat_lt (i
         let a : length one ≤ k = omega (arith, over, first, low) in
         let b : k < length two = omega (arith, less, over, second, low) in
         let here : k - length one ≡ i - n = omega (arith, first) in
-        get_or-append two (rounds_of kinds.Interval n) d k b ∙ get_or-append_right one (rounds_of kinds.Table n) k d a ∙ rounds_at kinds.Table n (k - length one) (i - n) d here (omega (arith, here, less))
-        ∙ sym (ap (λ b. cond b (round kinds.Group (i + 1)) (cond (nat_lt (i - n) n) (round kinds.Table (i - n + 1)) (round kinds.Interval (i - n - n + 1)))) e ∙ ap (λ b. cond b (round kinds.Table (i - n + 1)) (round kinds.Interval (i - n - n + 1))) f)
+        get_or-append two (rounds_of kinds.Interval n) d k b ∙ get_or-append_right one (rounds_of kinds.Table n) k d a ∙
+        rounds_at kinds.Table n (k - length one) (i - n) d here (omega (arith, here, less))
+        ∙ sym (ap (λ b. cond b (round kinds.Group (i + 1)) (cond (nat_lt (i - n) n) (round kinds.Table (i - n + 1)) (round kinds.Interval (i - n - n + 1)))) e ∙
+        ap (λ b. cond b (round kinds.Table (i - n + 1)) (round kinds.Interval (i - n - n + 1))) f)
 
     interval : nat_lt i n ≡ false → nat_lt (i - n) n ≡ false → get_or (with_rounds shown n) k d ≡ round_at i n
     interval e f =
@@ -126,7 +133,8 @@ at_round shown n k d low high = cases (nat_lt i n) group (λ e. cases (nat_lt (i
         let b : length two ≤ k = omega (arith, more, over, second, low) in
         let here : k - length two ≡ i - n - n = omega (arith, second) in
         get_or-append_right two (rounds_of kinds.Interval n) k d b ∙ rounds_at kinds.Interval n (k - length two) (i - n - n) d here (omega (arith, here, high, low, over, more))
-        ∙ sym (ap (λ b. cond b (round kinds.Group (i + 1)) (cond (nat_lt (i - n) n) (round kinds.Table (i - n + 1)) (round kinds.Interval (i - n - n + 1)))) e ∙ ap (λ b. cond b (round kinds.Table (i - n + 1)) (round kinds.Interval (i - n - n + 1))) f)
+        ∙ sym (ap (λ b. cond b (round kinds.Group (i + 1)) (cond (nat_lt (i - n) n) (round kinds.Table (i - n + 1)) (round kinds.Interval (i - n - n + 1)))) e ∙
+        ap (λ b. cond b (round kinds.Table (i - n + 1)) (round kinds.Interval (i - n - n + 1))) f)
 
 -- ---- records of a script
 
@@ -134,8 +142,11 @@ pub are_records : (script : Script) (done rest : List Record) → script.records
 are_records script done [] e = tt
 are_records script done (r ∷ rest) e =
     let long = length-append done (r ∷ rest) in
-    let all : length script.records ≡ length done + length (r ∷ rest) = ap length e ∙ long in
-    ((length done, (omega (arith, all), ap (λ rs. get_or rs (length done) no_record) e ∙ get_or-append_seam done r rest no_record)), are_records script (done ++ r ∷ []) rest (e ∙ sym (append_assoc done (r ∷ []) rest)))
+    let all : length script.records ≡ length done + length (r ∷ rest) = ap length e ∙ long in (
+      (length done, (omega (arith, all), ap (λ rs. get_or rs (length done) no_record) e ∙ get_or-append_seam done r rest no_record)),
+      are_records script (done ++ r ∷ []) rest (e ∙
+          sym (append_assoc done (r ∷ []) rest)),
+    )
 
 pub each_filter : {X : Type 0} (P : X → Type 0) (q : X → Bool) (xs : List X) → Each P xs → Each P (filter q xs)
 each_filter P q [] h = tt
@@ -153,7 +164,8 @@ each_item P [] k x less e h = absurd (omega (arith, less))
 each_item P (y ∷ ys) zero x less e h = subst P (sym e) h.0
 each_item P (y ∷ ys) (suc k) x less e h = each_item P ys k x (omega (arith, less)) e h.1
 
-pub from_script : (script : Script) (is : List ℕ) (k i : ℕ) (r : Record) → k < length is → i ≡ get_or is k i → i < length script.records → r ≡ get_or script.records i r → r ≡ get_or (map (record_at script) is) k r
+pub from_script : (script : Script) (is : List ℕ) (k i : ℕ) (r : Record) → k < length is → i ≡ get_or is k i → i < length script.records → r ≡ get_or script.records i r →
+    r ≡ get_or (map (record_at script) is) k r
 from_script script is k i r less e within at =
     let there : k < length (map (record_at script) is) = subst (λ n. k < n) (sym (length-map is (record_at script))) less in
     let same : record_at script i ≡ r = sym (at ∙ get_or_default script.records i r no_record within) in

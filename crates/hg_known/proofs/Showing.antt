@@ -28,7 +28,8 @@ use Rattle.hg_known.proofs.Pairs.{any_append, none_of_no, or_left, or_right}
 use Rattle.hg_known.proofs.Whole.{last_image_in, image_push}
 
 -- what the transaction stored is what it commits
-pub stored_is : (own : List (Spot × Image)) (earlier : List Said) (now : Said) → HasOwn own (now ∷ earlier) now → (n : ℕ) (r : Rid) → own_at own now.session now.transaction r ≡ image_in r (printed n earlier now).1.images
+pub stored_is : (own : List (Spot × Image)) (earlier : List Said) (now : Said) → HasOwn own (now ∷ earlier) now → (n : ℕ) (r : Rid) →
+    own_at own now.session now.transaction r ≡ image_in r (printed n earlier now).1.images
 stored_is own earlier now h n r = h r ∙ sym (last_image_in r (own_writes (now ∷ earlier) now))
 
 pub is_not_none : (o : Option Image) → o ≡ None → IsSome o → ⊥
@@ -70,7 +71,11 @@ clashed p (q ∷ qs) r s t h = go (q.0 == p.0) refl t (λ t. clashed p qs r s t 
 pub all_apart : (p : ℕ × Commit) (ps : List (ℕ × Commit)) → sits p.0 p.1.session ps ≡ false → ((r : Rid) → IsSome (image_in r p.1.images) → image_of ps r p.0 ≡ None) → Each (λ q. AreApart q p) ps
 all_apart p [] e f = tt
 all_apart p (q ∷ qs) e f = (
-  λ same. (other ((Decides-eqb q.0 p.0).1 same), λ r s. cases (is_some (image_in r p.1.images)) (λ t. absurd (is_not_none (image_in r q.1.images) (first_none (image_in r q.1.images) (image_of qs r p.0) (here r t same)) s)) (λ n. none_of_no (image_in r p.1.images) n)),
+  λ same. (
+    other ((Decides-eqb q.0 p.0).1 same),
+    λ r s. cases (is_some (image_in r p.1.images))
+        (λ t. absurd (is_not_none (image_in r q.1.images) (first_none (image_in r q.1.images) (image_of qs r p.0) (here r t same)) s)) (λ n. none_of_no (image_in r p.1.images) n),
+  ),
   all_apart p qs (or_right ((q.0 == p.0) && (q.1.session == p.1.session)) (sits p.0 p.1.session qs) e) (λ r s. rest r (q.0 == p.0) (f r s)),
 )
   where
@@ -99,7 +104,8 @@ or_flip None None f = refl
 or_flip None (Some i) f = refl
 or_flip (Some i) b f = ap (λ o. option_or o (Some i)) (sym (f refl))
 
-pub writes_more : (own : List (Spot × Image)) (j x : ℕ) (old new : List (Slot × Image)) (ps : List (ℕ × Commit)) (p : ℕ × Commit) → IsJoined own j x p.0 old new → ((r : Rid) → own_at own j x r ≡ image_in r p.1.images) → ((r : Rid) (n : ℕ) → image_at old r n ≡ image_of ps r n) → (r : Rid) (n : ℕ) → image_at new r n ≡ image_of (ps ++ p ∷ []) r n
+pub writes_more : (own : List (Spot × Image)) (j x : ℕ) (old new : List (Slot × Image)) (ps : List (ℕ × Commit)) (p : ℕ × Commit) → IsJoined own j x p.0 old new →
+    ((r : Rid) → own_at own j x r ≡ image_in r p.1.images) → ((r : Rid) (n : ℕ) → image_at old r n ≡ image_of ps r n) → (r : Rid) (n : ℕ) → image_at new r n ≡ image_of (ps ++ p ∷ []) r n
 writes_more own j x old new ps p joined its shows r n =
     joined.joined r n ∙ go (p.0 == n) refl ∙ sym (image_push ps p r n)
   where
@@ -120,12 +126,16 @@ or_last false false = refl
 pub at_seat : (a b : Seat) → is_at (seat_cmp a) b ≡ ((a.number == b.number) && (a.session == b.session))
 at_seat a b = alike_parts (nat_cmp a.number b.number) (nat_cmp a.session b.session) ∙ (λ i. alike_numbers a.number b.number i && alike_numbers a.session b.session i)
 
-pub seats_more : (old new : BTreeSet Seat) (ps : List (ℕ × Commit)) (p : ℕ × Commit) → ((q : Seat) → contains seat_cmp new q ≡ cond (is_at (seat_cmp (seat p.0 p.1.session)) q) true (contains seat_cmp old q)) → ((n j : ℕ) → contains seat_cmp old (seat n j) ≡ sits n j ps) → (n j : ℕ) → contains seat_cmp new (seat n j) ≡ sits n j (ps ++ p ∷ [])
+pub seats_more : (old new : BTreeSet Seat) (ps : List (ℕ × Commit)) (p : ℕ × Commit) →
+    ((q : Seat) → contains seat_cmp new q ≡ cond (is_at (seat_cmp (seat p.0 p.1.session)) q) true (contains seat_cmp old q)) →
+    ((n j : ℕ) → contains seat_cmp old (seat n j) ≡ sits n j ps) → (n j : ℕ) → contains seat_cmp new (seat n j) ≡ sits n j (ps ++ p ∷ [])
 seats_more old new ps p put shows n j =
     put (seat n j) ∙ (λ i. cond (at_seat (seat p.0 p.1.session) (seat n j) i) true (shows n j i)) ∙ or_last ((p.0 == n) && (p.1.session == j)) (sits n j ps)
     ∙ sym (any_append (λ (q : ℕ × Commit). (q.0 == n) && (q.1.session == j)) ps (p ∷ []))
 
-pub numbers_more : (old new : BTreeSet ℕ) (ps : List (ℕ × Commit)) (p : ℕ × Commit) → ((q : ℕ) → contains nat_cmp new q ≡ cond (is_at (nat_cmp p.0) q) true (contains nat_cmp old q)) → ((n : ℕ) → contains nat_cmp old n ≡ list_any (λ p. p.0 == n) ps) → (n : ℕ) → contains nat_cmp new n ≡ list_any (λ p. p.0 == n) (ps ++ p ∷ [])
+pub numbers_more : (old new : BTreeSet ℕ) (ps : List (ℕ × Commit)) (p : ℕ × Commit) →
+    ((q : ℕ) → contains nat_cmp new q ≡ cond (is_at (nat_cmp p.0) q) true (contains nat_cmp old q)) → ((n : ℕ) → contains nat_cmp old n ≡ list_any (λ p. p.0 == n) ps) → (n : ℕ) →
+    contains nat_cmp new n ≡ list_any (λ p. p.0 == n) (ps ++ p ∷ [])
 numbers_more old new ps p put shows n =
     put n ∙ (λ i. cond (alike_numbers p.0 n i) true (shows n i)) ∙ or_last (p.0 == n) (list_any (λ p. p.0 == n) ps)
     ∙ sym (any_append (λ (q : ℕ × Commit). q.0 == n) ps (p ∷ []))

@@ -64,7 +64,8 @@ pub record Last (m : BTreeMap Slot Image) (r : Rid) (s : ℕ) (e : Slot) (image 
   pub found : lookup (same_slot e) m.entries ≡ Some image
   pub last : (n : ℕ) → n ≤ s → IsSome (image_at m.entries r n) → is_lt (slot_cmp e (slot r n)) ≡ false
 
-pub last_entry : (m : BTreeMap Slot Image) (r : Rid) (s : ℕ) (es : List (Slot × Image)) (e : Slot) (image : Image) (t : List (Slot × Image)) → UpTo m r s es → es ≡ t ++ (e, image) ∷ [] → Last m r s e image
+pub last_entry : (m : BTreeMap Slot Image) (r : Rid) (s : ℕ) (es : List (Slot × Image)) (e : Slot) (image : Image) (t : List (Slot × Image)) → UpTo m r s es →
+    es ≡ t ++ (e, image) ∷ [] → Last m r s e image
 last_entry m r s es e image t h is =
     let at = h.3 (e, image) t is in
     record {
@@ -123,28 +124,35 @@ pub record LastKey (m : BTreeMap Slot Image) (t : TableId) (key s : ℕ) (e : Sl
   pub found : lookup (same_slot e) m.entries ≡ Some image
   pub last : (k n : ℕ) → k ≤ key → n ≤ s → IsSome (image_at m.entries (record_at t k) n) → is_lt (slot_cmp e (slot (record_at t k) n)) ≡ false
 
-pub last_key : (m : BTreeMap Slot Image) (t : TableId) (key s : ℕ) (es : List (Slot × Image)) (e : Slot) (image : Image) (front : List (Slot × Image)) → UpTo m (record_at t key) s es → es ≡ front ++ (e, image) ∷ [] → LastKey m t key s e image
+pub last_key : (m : BTreeMap Slot Image) (t : TableId) (key s : ℕ) (es : List (Slot × Image)) (e : Slot) (image : Image) (front : List (Slot × Image)) →
+    UpTo m (record_at t key) s es → es ≡ front ++ (e, image) ∷ [] → LastKey m t key s e image
 last_key m t key s es e image front h is =
     let at = h.3 (e, image) front is in
     record {
       within = at.0.1;
       found = sym (looked_up m.entries e) ∙ at.1;
-      last = λ k n below small there. h.4 (e, image) front is (slot (record_at t k) n) (tt, keys_in_order t k key n s below small) (subst IsSome (sym (looked_up m.entries (slot (record_at t k) n))) there);
+      last = λ k n below small there. h.4 (e, image) front is (slot (record_at t k) n) (tt, keys_in_order t k key n s below small)
+          (subst IsSome (sym (looked_up m.entries (slot (record_at t k) n))) there);
     }
 
 -- no group up to a snapshot writes the key, so no row of it is visible
-pub unseen : (h : History) (es : List (Slot × Image)) (t : TableId) (k at : ℕ) → IsOfHistory h es → ((n : ℕ) → n ≤ at → image_at es (record_at t k) n ≡ None) → (visible h (record_at t k) at).row ≡ None
+pub unseen : (h : History) (es : List (Slot × Image)) (t : TableId) (k at : ℕ) → IsOfHistory h es → ((n : ℕ) → n ≤ at → image_at es (record_at t k) n ≡ None) →
+    (visible h (record_at t k) at).row ≡ None
 unseen h es t k at shows none = ap (λ (i : Image). i.row) (none_visible h (record_at t k) at (λ n small. sym (shows (record_at t k) n) ∙ none n small))
 
-pub no_key : (m : BTreeMap Slot Image) (t : TableId) (key s at : ℕ) (es : List (Slot × Image)) → at ≤ s → UpTo m (record_at t key) s es → es ≡ [] → (h : History) → IsOfHistory h m.entries → IsLastShown h t key at None
+pub no_key : (m : BTreeMap Slot Image) (t : TableId) (key s at : ℕ) (es : List (Slot × Image)) → at ≤ s → UpTo m (record_at t key) s es → es ≡ [] → (h : History) →
+    IsOfHistory h m.entries → IsLastShown h t key at None
 no_key m t key s at es small range e h shows k below =
-    unseen h m.entries t k at shows (λ n fits. sym (looked_up m.entries (slot (record_at t k) n)) ∙ range.5 e (slot (record_at t k) n) (tt, keys_in_order t k key n s below (omega (arith, fits, small))))
+    unseen h m.entries t k at shows (λ n fits. sym (looked_up m.entries (slot (record_at t k) n)) ∙
+    range.5 e (slot (record_at t k) n) (tt, keys_in_order t k key n s below (omega (arith, fits, small))))
 
-pub other_table : (m : BTreeMap Slot Image) (t : TableId) (key s at : ℕ) (e : Slot) (image : Image) → at ≤ s → LastKey m t key s e image → (e.rid.table.0 ≡ t.0 → ⊥) → (h : History) → IsOfHistory h m.entries → IsLastShown h t key at None
+pub other_table : (m : BTreeMap Slot Image) (t : TableId) (key s at : ℕ) (e : Slot) (image : Image) → at ≤ s → LastKey m t key s e image → (e.rid.table.0 ≡ t.0 → ⊥) →
+    (h : History) → IsOfHistory h m.entries → IsLastShown h t key at None
 other_table m t key s at e image small last apart h shows k below =
     let most = table_at_most t e key s last.within in
     let under : e.rid.table.0 < t.0 = le_not_same most apart in
-    unseen h m.entries t k at shows (λ n fits. none_if (image_at m.entries (record_at t k) n) (λ there. false_true (sym (last.last k n below (omega (arith, fits, small)) there) ∙ table_below t e k n under)))
+    unseen h m.entries t k at shows (λ n fits. none_if (image_at m.entries (record_at t k) n) (λ there. false_true (sym (last.last k n below (omega (arith, fits, small)) there) ∙
+    table_below t e k n under)))
   where
     le_not_same : {a b : ℕ} → a ≤ b → (a ≡ b → ⊥) → a < b
     le_not_same l f = omega (arith, l, f)
@@ -154,14 +162,17 @@ pub this_key : (m : BTreeMap Slot Image) (t : TableId) (key s at : ℕ) (e : Slo
 this_key m t key s at e image row small last same h shows is = (
   key_at_most t e key s last.within same,
   is ∙ (λ i. (visible h (record { table = record { 0 = same i }; key = e.rid.key }) at).row),
-  λ k over below. unseen h m.entries t k at shows (λ n fits. none_if (image_at m.entries (record_at t k) n) (λ there. false_true (sym (last.last k n below (omega (arith, fits, small)) there) ∙ key_below t e k n same over))),
+  λ k over below. unseen h m.entries t k at shows (λ n fits. none_if (image_at m.entries (record_at t k) n)
+      (λ there. false_true (sym (last.last k n below (omega (arith, fits, small)) there) ∙ key_below t e k n same over))),
 )
 
-pub newest : (m : BTreeMap Slot Image) (t : TableId) (key s at : ℕ) (e : Slot) (image : Image) → at ≤ s → LastKey m t key s e image → e.rid.table.0 ≡ t.0 → e.number ≤ at → (h : History) → IsOfHistory h m.entries → image.row ≡ (visible h e.rid at).row
+pub newest : (m : BTreeMap Slot Image) (t : TableId) (key s at : ℕ) (e : Slot) (image : Image) → at ≤ s → LastKey m t key s e image → e.rid.table.0 ≡ t.0 → e.number ≤ at →
+    (h : History) → IsOfHistory h m.entries → image.row ≡ (visible h e.rid at).row
 newest m t key s at e image small last same fits h shows =
     sym (ap (λ (i : Image). i.row) (last_visible h e.rid at e.number image fits (sym (shows e.rid e.number) ∙ last.found)
     (λ n over within. sym (shows e.rid n) ∙ none_if (image_at m.entries e.rid n) (λ there.
-    false_true (sym (last.last e.rid.key n (key_at_most t e key s last.within same) (omega (arith, within, small)) (subst (λ r. IsSome (image_at m.entries r n)) its there)) ∙ sym (ap (λ r. is_lt (slot_cmp e (slot r n))) its) ∙ number_below e.rid e.number n over)))))
+    false_true (sym (last.last e.rid.key n (key_at_most t e key s last.within same) (omega (arith, within, small)) (subst (λ r. IsSome (image_at m.entries r n)) its there)) ∙
+    sym (ap (λ r. is_lt (slot_cmp e (slot r n))) its) ∙ number_below e.rid e.number n over)))))
   where
     its : e.rid ≡ record_at t e.rid.key
     its = λ i. record { table = record { 0 = same i }; key = e.rid.key }
@@ -174,7 +185,8 @@ Over m r n rs = IsRangeOf slot_cmp (Excluded (slot r n)) Unbounded m rs
 pub over_none : (m : BTreeMap Slot Image) (r : Rid) (n : ℕ) (rs : List (Slot × Image)) → Over m r n rs → rs ≡ [] → IsNextRid m.entries r n None
 over_none m r n rs h e q k over = sym (looked_up m.entries (slot q k)) ∙ h.5 e (slot q k) (over, tt)
 
-pub over_found : (m : BTreeMap Slot Image) (r : Rid) (n : ℕ) (rs : List (Slot × Image)) (e : Slot) (image : Image) (more : List (Slot × Image)) → Over m r n rs → rs ≡ (e, image) ∷ more → IsNextRid m.entries r n (Some e.rid)
+pub over_found : (m : BTreeMap Slot Image) (r : Rid) (n : ℕ) (rs : List (Slot × Image)) (e : Slot) (image : Image) (more : List (Slot × Image)) → Over m r n rs →
+    rs ≡ (e, image) ∷ more → IsNextRid m.entries r n (Some e.rid)
 over_found m r n rs e image more h is =
     let k : Over m r n ((e, image) ∷ more) = subst (Over m r n) is h in
     let found : lookup (same_slot e) m.entries ≡ Some image = sym (looked_up m.entries e) ∙ k.1.1 in (

@@ -33,7 +33,8 @@ spot_cmp a b = ordering_then (ordering_then (nat_cmp a.tx.session b.tx.session) 
 pub at_spot : (a b : Spot) → is_at (spot_cmp a) b ≡ same_spot a b
 at_spot a b =
     alike_parts (ordering_then (nat_cmp a.tx.session b.tx.session) (nat_cmp a.tx.number b.tx.number)) (rid_cmp a.rid b.rid)
-    ∙ (λ i. (alike_parts (nat_cmp a.tx.session b.tx.session) (nat_cmp a.tx.number b.tx.number) ∙ (λ j. alike_numbers a.tx.session b.tx.session j && alike_numbers a.tx.number b.tx.number j)) i && at_rid a.rid b.rid i)
+    ∙ (λ i. (alike_parts (nat_cmp a.tx.session b.tx.session) (nat_cmp a.tx.number b.tx.number) ∙
+    (λ j. alike_numbers a.tx.session b.tx.session j && alike_numbers a.tx.number b.tx.number j)) i && at_rid a.rid b.rid i)
 
 pub looked_up : (es : List (Spot × Image)) (a : Spot) → lookup (is_at (spot_cmp a)) es ≡ lookup (same_spot a) es
 looked_up es a = ap (λ (test : Spot → Bool). lookup test es) (λ i k. at_spot a k i)
@@ -59,13 +60,15 @@ own_none es earlier now e j x r h = h ∙ go (is_of j x now)
     go true = ap (λ o. image_in r (cons_option o (stored_in j x earlier))) (sym e)
     go false = refl
 
-pub own_more : (es fs : List (Spot × Image)) (earlier : List Said) (now : Said) (w : Write) → stored now ≡ Some w → Puts es fs (spot now.session now.transaction w.rid) w.image → (j x : ℕ) (r : Rid) → IsOwn es earlier j x r → IsOwn fs (now ∷ earlier) j x r
+pub own_more : (es fs : List (Spot × Image)) (earlier : List Said) (now : Said) (w : Write) → stored now ≡ Some w → Puts es fs (spot now.session now.transaction w.rid) w.image →
+    (j x : ℕ) (r : Rid) → IsOwn es earlier j x r → IsOwn fs (now ∷ earlier) j x r
 own_more es fs earlier now w e h j x r own =
     put es fs (spot now.session now.transaction w.rid) w.image h (spot j x r)
     ∙ ap (cond (same_spot (spot now.session now.transaction w.rid) (spot j x r)) (Some w.image)) own
     ∙ go (is_of j x now)
   where
-    go : (b : Bool) → cond (b && same_rid w.rid r) (Some w.image) (image_in r (stored_in j x earlier)) ≡ image_in r (filter_map stored (cond b (now ∷ filter (is_of j x) earlier) (filter (is_of j x) earlier)))
+    go : (b : Bool) → cond (b && same_rid w.rid r) (Some w.image) (image_in r (stored_in j x earlier)) ≡ image_in r
+        (filter_map stored (cond b (now ∷ filter (is_of j x) earlier) (filter (is_of j x) earlier)))
     go true = ap (λ o. image_in r (cons_option o (stored_in j x earlier))) (sym e)
     go false = refl
 
@@ -73,7 +76,8 @@ own_more es fs earlier now w e h j x r own =
 pub first_none : (earlier : List Said) (now : Said) → stored now ≡ None → is_some (first_write earlier now) ≡ false
 first_none earlier now e = ap (λ o. is_some (cond (option_map_or (λ (w : Write). is_none (image_in w.rid (stored_in now.session now.transaction earlier))) o false) (Some now) None)) e
 
-pub first_some : (earlier : List Said) (now : Said) (w : Write) (o : Option Image) → stored now ≡ Some w → o ≡ image_in w.rid (stored_in now.session now.transaction earlier) → is_some (first_write earlier now) ≡ is_none o
+pub first_some : (earlier : List Said) (now : Said) (w : Write) (o : Option Image) → stored now ≡ Some w → o ≡ image_in w.rid (stored_in now.session now.transaction earlier) →
+    is_some (first_write earlier now) ≡ is_none o
 first_some earlier now w o e is =
     ap (λ o. is_some (cond (option_map_or (λ (w : Write). is_none (image_in w.rid (stored_in now.session now.transaction earlier))) o false) (Some now) None)) e
     ∙ ap (λ o. is_some (cond (is_none o) (Some now) None)) (sym is)
@@ -127,14 +131,16 @@ apart Greater p q r is e l g = cc
 pub at_tx : (a b : Tx) → is_eq (tx_cmp a b) ≡ ((a.session == b.session) && (a.number == b.number))
 at_tx a b = alike_parts (nat_cmp a.session b.session) (nat_cmp a.number b.number) ∙ (λ j. alike_numbers a.session b.session j && alike_numbers a.number b.number j)
 
-pub next_other : (m : BTreeMap Spot Image) (t : Tx) (from : Rid) (e : Spot) (image : Image) → First m (record { tx = t; rid = from }) e image → ((e.tx.session == t.session) && (e.tx.number == t.number)) ≡ false → IsNextOwn m.entries t.session t.number from None
+pub next_other : (m : BTreeMap Spot Image) (t : Tx) (from : Rid) (e : Spot) (image : Image) → First m (record { tx = t; rid = from }) e image →
+    ((e.tx.session == t.session) && (e.tx.number == t.number)) ≡ false → IsNextOwn m.entries t.session t.number from None
 next_other m t from e image first other =
     λ r k. none_if (own_at m.entries t.session t.number r) (λ there.
     let s : Spot = record { tx = t; rid = r } in
     let least = first.least s (ap is_gt (spot_within t from r) ∙ k) there in
     apart (tx_cmp e.tx t) (tx_cmp t e.tx) (rid_cmp e.rid r) (rid_cmp from e.rid) (txs_total.antisymm t e.tx) (at_tx e.tx t ∙ other) least first.above)
 
-pub next_found : (m : BTreeMap Spot Image) (t : Tx) (from : Rid) (e : Spot) (image : Image) → First m (record { tx = t; rid = from }) e image → e.tx ≡ t → IsNextOwn m.entries t.session t.number from (Some e.rid)
+pub next_found : (m : BTreeMap Spot Image) (t : Tx) (from : Rid) (e : Spot) (image : Image) → First m (record { tx = t; rid = from }) e image → e.tx ≡ t →
+    IsNextOwn m.entries t.session t.number from (Some e.rid)
 next_found m t from e image first same =
     let is : e ≡ record { tx = t; rid = e.rid } = (λ i. record { tx = same i; rid = e.rid }) in
     let s : Rid → Spot = λ r. record { tx = t; rid = r } in (
@@ -178,14 +184,17 @@ over_entry m s rs e image more h is =
 pub not_greater : (o : Ordering) → o ≡ Less → is_gt o ≡ false
 not_greater o e = ap is_gt e
 
-pub over_other : (m : BTreeMap Spot Image) (t : Tx) (from : Rid) (e : Spot) (image : Image) → FirstOver m (record { tx = t; rid = from }) e image → ((e.tx.session == t.session) && (e.tx.number == t.number)) ≡ false → IsNextAfter m.entries t.session t.number from None
+pub over_other : (m : BTreeMap Spot Image) (t : Tx) (from : Rid) (e : Spot) (image : Image) → FirstOver m (record { tx = t; rid = from }) e image →
+    ((e.tx.session == t.session) && (e.tx.number == t.number)) ≡ false → IsNextAfter m.entries t.session t.number from None
 over_other m t from e image first other =
     λ r k. none_if (own_at m.entries t.session t.number r) (λ there.
     let s : Spot = record { tx = t; rid = r } in
     let least = first.least s (spot_within t from r ∙ k) there in
-    apart (tx_cmp e.tx t) (tx_cmp t e.tx) (rid_cmp e.rid r) (rid_cmp from e.rid) (txs_total.antisymm t e.tx) (at_tx e.tx t ∙ other) least (not_greater (spot_cmp (record { tx = t; rid = from }) e) first.above))
+    apart (tx_cmp e.tx t) (tx_cmp t e.tx) (rid_cmp e.rid r) (rid_cmp from e.rid) (txs_total.antisymm t e.tx) (at_tx e.tx t ∙ other) least
+    (not_greater (spot_cmp (record { tx = t; rid = from }) e) first.above))
 
-pub over_found : (m : BTreeMap Spot Image) (t : Tx) (from : Rid) (e : Spot) (image : Image) → FirstOver m (record { tx = t; rid = from }) e image → e.tx ≡ t → IsNextAfter m.entries t.session t.number from (Some e.rid)
+pub over_found : (m : BTreeMap Spot Image) (t : Tx) (from : Rid) (e : Spot) (image : Image) → FirstOver m (record { tx = t; rid = from }) e image → e.tx ≡ t →
+    IsNextAfter m.entries t.session t.number from (Some e.rid)
 over_found m t from e image first same =
     let is : e ≡ record { tx = t; rid = e.rid } = (λ i. record { tx = same i; rid = e.rid }) in
     let s : Rid → Spot = λ r. record { tx = t; rid = r } in (

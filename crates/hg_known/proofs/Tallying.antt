@@ -164,7 +164,8 @@ module _ (earlier : List Said) (now : Said) (opened : IsOpen earlier now) where
       last true = refl
       last false = refl
 
-      go : (b : Bool) → is_of now.session now.transaction f ≡ b → commits_one (cond b (now ∷ filter (is_of f.session f.transaction) earlier) (filter (is_of f.session f.transaction) earlier)) ≡ cond b (is_some (committed now)) (is_committed earlier f)
+      go : (b : Bool) → is_of now.session now.transaction f ≡ b →
+          commits_one (cond b (now ∷ filter (is_of f.session f.transaction) earlier) (filter (is_of f.session f.transaction) earlier)) ≡ cond b (is_some (committed now)) (is_committed earlier f)
       go false e = refl
       go true e = ap (λ c. is_some (committed now) || c) (its_none f e) ∙ or_false (is_some (committed now))
         where
@@ -172,7 +173,8 @@ module _ (earlier : List Said) (now : Said) (opened : IsOpen earlier now) where
           or_false true = refl
           or_false false = refl
 
-  pub kept_more : (fs : List Said) → length (filter (is_committed (now ∷ earlier)) fs) ≡ length (filter (is_committed earlier) fs) + cond (is_some (committed now)) (length (filter (is_of now.session now.transaction) fs)) 0
+  pub kept_more : (fs : List Said) → length (filter (is_committed (now ∷ earlier)) fs) ≡ length (filter (is_committed earlier) fs) + cond (is_some (committed now))
+      (length (filter (is_of now.session now.transaction) fs)) 0
   kept_more [] = go (is_some (committed now))
     where
       go : (c : Bool) → 0 ≡ 0 + cond c 0 0
@@ -223,7 +225,8 @@ module _ (earlier : List Said) (now : Said) (opened : IsOpen earlier now) where
   -- what is counted after the line, where `b` says whether it is a first write
   pub tallied_more : (old new : Versions) (b : Bool) → AreTallied old earlier → b ≡ is_some (first_write earlier now) → new.made ≡ old.made + cond b 1 0 →
       new.kept ≡ old.kept + cond (is_some (committed now)) (unwrap_or (get tx_order old.pending (tx now.session now.transaction)) 0 + cond b 1 0) 0 →
-      ((j x : ℕ) → is_over j x (now ∷ earlier) ≡ false → unwrap_or (get tx_order new.pending (tx j x)) 0 ≡ unwrap_or (get tx_order old.pending (tx j x)) 0 + cond b (cond (is_of j x now) 1 0) 0) → AreTallied new (now ∷ earlier)
+      ((j x : ℕ) → is_over j x (now ∷ earlier) ≡ false → unwrap_or (get tx_order new.pending (tx j x)) 0 ≡ unwrap_or (get tx_order old.pending (tx j x)) 0 + cond b
+      (cond (is_of j x now) 1 0) 0) → AreTallied new (now ∷ earlier)
   tallied_more old new b is e made kept pending = record {
     made = made ∙ ap (λ n. n + cond b 1 0) is.made ∙ sym (ap length (firsts_next earlier now b e) ∙ longer b);
     kept = kept ∙ (λ i. is.kept i + cond (is_some (committed now)) (is.pending now.session now.transaction opened i + cond b 1 0) 0) ∙ sym (all_kept (is_some (committed now)) refl);
@@ -242,7 +245,8 @@ module _ (earlier : List Said) (now : Said) (opened : IsOpen earlier now) where
       longer true = omega arith
       longer false = omega arith
 
-      all_kept : (c : Bool) → is_some (committed now) ≡ c → length (filter (is_committed (now ∷ earlier)) (firsts (now ∷ earlier))) ≡ length (filter (is_committed earlier) fs) + cond c (its + cond b 1 0) 0
+      all_kept : (c : Bool) → is_some (committed now) ≡ c → length (filter (is_committed (now ∷ earlier)) (firsts (now ∷ earlier))) ≡ length
+          (filter (is_committed earlier) fs) + cond c (its + cond b 1 0) 0
       all_kept c f =
           ap (λ gs. length (filter (is_committed (now ∷ earlier)) gs)) (firsts_next earlier now b e)
           ∙ filter_head (is_committed (now ∷ earlier)) now fs b c (committed_more now true (of_itself now) ∙ f)
@@ -256,7 +260,8 @@ module _ (earlier : List Said) (now : Said) (opened : IsOpen earlier now) where
           sum false false = omega arith
 
   -- none of the counts is over the lines
-  pub tallied_few : (old : Versions) → AreTallied old earlier → (old.made ≤ length earlier) × (old.kept ≤ length earlier) × (unwrap_or (get tx_order old.pending (tx now.session now.transaction)) 0 ≤ length earlier)
+  pub tallied_few : (old : Versions) → AreTallied old earlier → (old.made ≤ length earlier) × (old.kept ≤ length earlier) ×
+      (unwrap_or (get tx_order old.pending (tx now.session now.transaction)) 0 ≤ length earlier)
   tallied_few old is =
       let few = firsts_few earlier in
       let one = is.made in
@@ -277,11 +282,13 @@ module _ (earlier : List Said) (now : Said) (opened : IsOpen earlier now) where
       tallied_more old old false is (sym f ∙ e) (omega arith) (omega arith ∙ sym (ap (λ o. old.kept + cond (is_some o) (its_count old + 0) 0) (committed_ends now g))) (λ j x o. omega arith)
 
   -- nothing ends
-  pub tallied_going : (old new : Versions) (b : Bool) (count : ℕ) → AreTallied old earlier → b ≡ is_some (first_write earlier now) → ends now ≡ false → new.made ≡ old.made + cond b 1 0 → new.kept ≡ old.kept → count ≡ its_count old + cond b 1 0 →
+  pub tallied_going : (old new : Versions) (b : Bool) (count : ℕ) → AreTallied old earlier → b ≡ is_some (first_write earlier now) → ends now ≡ false →
+      new.made ≡ old.made + cond b 1 0 → new.kept ≡ old.kept → count ≡ its_count old + cond b 1 0 →
       ((q : Tx) → get tx_order new.pending q ≡ cond (is_at (tx_order (tx now.session now.transaction)) q) (Some count) (get tx_order old.pending q)) → AreTallied new (now ∷ earlier)
   tallied_going old new b count is e g made kept counts put =
       tallied_more old new b is e made (kept ∙ omega arith ∙ sym (ap (λ o. old.kept + cond (is_some o) (its_count old + cond b 1 0) 0) (committed_ends now g)))
-      (λ j x o. ap (λ n. unwrap_or n 0) (put (tx j x)) ∙ (λ i. unwrap_or (cond (at_tx (tx now.session now.transaction) (tx j x) i) (Some count) (get tx_order old.pending (tx j x))) 0) ∙ go j x (is_of j x now) refl)
+      (λ j x o. ap (λ n. unwrap_or n 0) (put (tx j x)) ∙ (λ i. unwrap_or (cond (at_tx (tx now.session now.transaction) (tx j x) i) (Some count) (get tx_order old.pending (tx j x)))
+      0) ∙ go j x (is_of j x now) refl)
     where
       none : (b : Bool) (n : ℕ) → n ≡ n + cond b 0 0
       none true n = omega arith
@@ -297,22 +304,26 @@ module _ (earlier : List Said) (now : Said) (opened : IsOpen earlier now) where
 
   -- its transaction ends
   pub tallied_ended : (old new : Versions) (b : Bool) → AreTallied old earlier → b ≡ is_some (first_write earlier now) → ends now ≡ true → new.made ≡ old.made + cond b 1 0 →
-      new.kept ≡ old.kept + cond (is_some (committed now)) (its_count old + cond b 1 0) 0 → ((q : Tx) → get tx_order new.pending q ≡ cond (is_at (tx_order (tx now.session now.transaction)) q) None (get tx_order old.pending q)) → AreTallied new (now ∷ earlier)
+      new.kept ≡ old.kept + cond (is_some (committed now)) (its_count old + cond b 1 0) 0 →
+      ((q : Tx) → get tx_order new.pending q ≡ cond (is_at (tx_order (tx now.session now.transaction)) q) None (get tx_order old.pending q)) → AreTallied new (now ∷ earlier)
   tallied_ended old new b is e g made kept drop =
       tallied_more old new b is e made kept
-      (λ j x o. ap (λ n. unwrap_or n 0) (drop (tx j x)) ∙ (λ i. unwrap_or (cond (at_tx (tx now.session now.transaction) (tx j x) i) None (get tx_order old.pending (tx j x))) 0) ∙ go j x (is_of j x now) o)
+      (λ j x o. ap (λ n. unwrap_or n 0) (drop (tx j x)) ∙ (λ i. unwrap_or (cond (at_tx (tx now.session now.transaction) (tx j x) i) None (get tx_order old.pending (tx j x))) 0) ∙
+      go j x (is_of j x now) o)
     where
       none : (b : Bool) (n : ℕ) → n ≡ n + cond b 0 0
       none true n = omega arith
       none false n = omega arith
 
-      go : (j x : ℕ) (c : Bool) → list_any ends (cond c (now ∷ filter (is_of j x) earlier) (filter (is_of j x) earlier)) ≡ false → unwrap_or (cond c None (get tx_order old.pending (tx j x))) 0 ≡ unwrap_or (get tx_order old.pending (tx j x)) 0 + cond b (cond c 1 0) 0
+      go : (j x : ℕ) (c : Bool) → list_any ends (cond c (now ∷ filter (is_of j x) earlier) (filter (is_of j x) earlier)) ≡ false →
+          unwrap_or (cond c None (get tx_order old.pending (tx j x))) 0 ≡ unwrap_or (get tx_order old.pending (tx j x)) 0 + cond b (cond c 1 0) 0
       go j x false o = none b (unwrap_or (get tx_order old.pending (tx j x)) 0)
       go j x true o = absurd (false_true (sym o ∙ ap (λ d. d || list_any ends (filter (is_of j x) earlier)) g))
 
 -- ---- all lines
 
-pub tallied_all : (all : List Said) (versions : Versions) (tally : Tally) → AreTallied versions (onto all []) → tally.made ≡ versions.made → tally.undone ≡ versions.made - versions.kept → IsTally tally all
+pub tallied_all : (all : List Said) (versions : Versions) (tally : Tally) → AreTallied versions (onto all []) → tally.made ≡ versions.made →
+    tally.undone ≡ versions.made - versions.kept → IsTally tally all
 tallied_all all versions tally is made undone =
     let q : Said → Bool = is_committed all in
     let fs = first_writes all in

@@ -85,16 +85,19 @@ pub commits_append : (earlier xs ys : List Said) → commits_from earlier (xs ++
 commits_append earlier [] ys = refl
 commits_append earlier (x ∷ xs) ys = ap (cons_option (commit_of earlier x)) (commits_append (x ∷ earlier) xs ys) ∙ go (commit_of earlier x)
   where
-    go : (o : Option (ℕ × Commit)) → cons_option o (commits_from (x ∷ earlier) xs ++ commits_from (onto xs (x ∷ earlier)) ys) ≡ cons_option o (commits_from (x ∷ earlier) xs) ++ commits_from (onto xs (x ∷ earlier)) ys
+    go : (o : Option (ℕ × Commit)) → cons_option o (commits_from (x ∷ earlier) xs ++ commits_from (onto xs (x ∷ earlier)) ys) ≡ cons_option o
+        (commits_from (x ∷ earlier) xs) ++ commits_from (onto xs (x ∷ earlier)) ys
     go None = refl
     go (Some p) = refl
 
 -- a line that prints none, and one that prints one
 pub commits_same : (xs : List Said) (k : ℕ) (now : Said) → AtLine xs k now → committed now ≡ None → commits (take k xs) ≡ commits (take (k + 1) xs)
-commits_same xs k now at e = sym (ap commits at.up_to ∙ commits_from_snoc [] (take k xs) now ∙ ap (λ o. commits (take k xs) ++ cons_option (option_map (λ c. (c, commit_by (earlier_at xs k) now)) o) []) e ∙ append_nil (commits (take k xs)))
+commits_same xs k now at e = sym (ap commits at.up_to ∙ commits_from_snoc [] (take k xs) now ∙
+    ap (λ o. commits (take k xs) ++ cons_option (option_map (λ c. (c, commit_by (earlier_at xs k) now)) o) []) e ∙ append_nil (commits (take k xs)))
 
 pub commits_more : (xs : List Said) (k : ℕ) (now : Said) (n : ℕ) → AtLine xs k now → committed now ≡ Some n → commits (take k xs) ++ printed n (earlier_at xs k) now ∷ [] ≡ commits (take (k + 1) xs)
-commits_more xs k now n at e = sym (ap commits at.up_to ∙ commits_from_snoc [] (take k xs) now ∙ ap (λ o. commits (take k xs) ++ cons_option (option_map (λ c. (c, commit_by (earlier_at xs k) now)) o) []) e)
+commits_more xs k now n at e = sym (ap commits at.up_to ∙ commits_from_snoc [] (take k xs) now ∙
+    ap (λ o. commits (take k xs) ++ cons_option (option_map (λ c. (c, commit_by (earlier_at xs k) now)) o) []) e)
 
 -- a commit that does not fit those before it
 pub not_whole : (xs : List Said) (k : ℕ) (now : Said) (n : ℕ) → AtLine xs k now → committed now ≡ Some n → (Fits (commits (take k xs)) (printed n (earlier_at xs k) now) → ⊥) → IsWhole xs → ⊥
@@ -102,7 +105,8 @@ not_whole xs k now n at e f whole =
     let ps = commits (take k xs) in
     let p = printed n (earlier_at xs k) now in
     let rest = commits_from (now ∷ earlier_at xs k) (drop (k + 1) xs) in
-    let is : commits xs ≡ ps ++ p ∷ rest = ap commits at.all ∙ commits_append [] (take k xs) (now ∷ drop (k + 1) xs) ∙ ap (λ o. ps ++ cons_option (option_map (λ c. (c, commit_by (earlier_at xs k) now)) o) rest) e in
+    let is : commits xs ≡ ps ++ p ∷ rest = ap commits at.all ∙ commits_append [] (take k xs) (now ∷ drop (k + 1) xs) ∙
+    ap (λ o. ps ++ cons_option (option_map (λ c. (c, commit_by (earlier_at xs k) now)) o) rest) e in
     let h : AreCommits (ps ++ p ∷ rest) = subst AreCommits is (commits_of xs whole) in
     f ((each_right IsFit ps (p ∷ rest) h.fit).0, fits_there ps rest p h.apart)
 
@@ -147,14 +151,16 @@ pub kept_same : (xs : List Said) (k : ℕ) (now : Said) (c : kept.Commits) → A
 kept_same xs k now c at e h = (subst (Shows c) (commits_same xs k now at e) h.0, subst Fine (commits_same xs k now at e) h.1)
 
 pub kept_more : (xs : List Said) (k : ℕ) (now : Said) (n : ℕ) (new : kept.Commits) (b : Bool) → AtLine xs k now → committed now ≡ Some n → Fine (commits (take k xs)) → b ≡ true →
-    MatchBool b (Shows new (commits (take k xs) ++ printed n (earlier_at xs k) now ∷ []) × Fits (commits (take k xs)) (printed n (earlier_at xs k) now)) (Fits (commits (take k xs)) (printed n (earlier_at xs k) now) → ⊥) → Kept xs (k + 1) new
+    MatchBool b (Shows new (commits (take k xs) ++ printed n (earlier_at xs k) now ∷ []) × Fits (commits (take k xs)) (printed n (earlier_at xs k) now))
+    (Fits (commits (take k xs)) (printed n (earlier_at xs k) now) → ⊥) → Kept xs (k + 1) new
 kept_more xs k now n new true at e fine is h =
     let more = commits_more xs k now n at e in
     (subst (Shows new) more h.0, subst Fine more (fine_push (commits (take k xs)) (printed n (earlier_at xs k) now) fine h.1))
 kept_more xs k now n new false at e fine is h = absurd (false_true is)
 
 pub lost_there : (xs : List Said) (k : ℕ) (now : Said) (n : ℕ) (new : kept.Commits) (b : Bool) → AtLine xs k now → committed now ≡ Some n → b ≡ false →
-    MatchBool b (Shows new (commits (take k xs) ++ printed n (earlier_at xs k) now ∷ []) × Fits (commits (take k xs)) (printed n (earlier_at xs k) now)) (Fits (commits (take k xs)) (printed n (earlier_at xs k) now) → ⊥) → IsWhole xs → ⊥
+    MatchBool b (Shows new (commits (take k xs) ++ printed n (earlier_at xs k) now ∷ []) × Fits (commits (take k xs)) (printed n (earlier_at xs k) now))
+    (Fits (commits (take k xs)) (printed n (earlier_at xs k) now) → ⊥) → IsWhole xs → ⊥
 lost_there xs k now n new true at e is h = absurd (false_true (sym is))
 lost_there xs k now n new false at e is h = not_whole xs k now n at e h
 
@@ -168,7 +174,8 @@ left_out xs c n shows low high e whole =
     let top = shows.greatest in
     false_true (sym (sym (shows.numbers n) ∙ e) ∙ (commits_of xs whole).every n low (omega (arith, high, top)))
 
-pub number_more : (xs : List Said) (c : kept.Commits) (k : ℕ) → Shows c (commits xs) → ((n : ℕ) → 1 ≤ n → n < k → has_number n (commits xs)) → contains nat_cmp c.numbers k ≡ true → (n : ℕ) → 1 ≤ n → n < k + 1 → has_number n (commits xs)
+pub number_more : (xs : List Said) (c : kept.Commits) (k : ℕ) → Shows c (commits xs) → ((n : ℕ) → 1 ≤ n → n < k → has_number n (commits xs)) → contains nat_cmp c.numbers k ≡ true →
+    (n : ℕ) → 1 ≤ n → n < k + 1 → has_number n (commits xs)
 number_more xs c k shows h e n low high = cases (n == k)
     (λ same. subst (λ m. has_number m (commits xs)) (sym ((Decides-eqb n k).0 same)) (sym (shows.numbers k) ∙ e))
     (λ other. h n low (below n k high (λ q. false_true (sym other ∙ (Decides-eqb n k).1 q))))
@@ -176,7 +183,8 @@ number_more xs c k shows h e n low high = cases (n == k)
     below : (n k : ℕ) → n < k + 1 → (n ≡ k → ⊥) → n < k
     below n k h f = grind (arith, h, f)
 
-pub history_is : (xs : List Said) (c : kept.Commits) (k : ℕ) → Shows c (commits xs) → Fine (commits xs) → ((n : ℕ) → 1 ≤ n → n < k → has_number n (commits xs)) → c.greatest ≤ k → IsWhole xs × IsOfHistory (history_of xs) c.writes
+pub history_is : (xs : List Said) (c : kept.Commits) (k : ℕ) → Shows c (commits xs) → Fine (commits xs) → ((n : ℕ) → 1 ≤ n → n < k → has_number n (commits xs)) → c.greatest ≤ k →
+    IsWhole xs × IsOfHistory (history_of xs) c.writes
 history_is xs c k shows fine every over =
     let top = shows.greatest in
     let are : AreCommits (commits xs) = all_numbers (commits xs) fine (λ n low high. every n low (omega (arith, high, top, over))) in

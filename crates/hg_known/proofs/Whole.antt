@@ -24,7 +24,8 @@ pub filter_none : (q r : Rid) (ws : List Write) → is_among q (rids_of ws) ≡ 
 filter_none q r [] e = refl
 filter_none q r (w ∷ ws) e = go (same_rid r w.rid) (filter_none q r ws (or_right (same_rid q w.rid) (is_among q (rids_of ws)) e))
   where
-    go : (b : Bool) → is_among q (rids_of (filter (λ v. not (same_rid r v.rid)) ws)) ≡ false → is_among q (rids_of (cond (not b) (w ∷ filter (λ v. not (same_rid r v.rid)) ws) (filter (λ v. not (same_rid r v.rid)) ws))) ≡ false
+    go : (b : Bool) → is_among q (rids_of (filter (λ v. not (same_rid r v.rid)) ws)) ≡ false →
+        is_among q (rids_of (cond (not b) (w ∷ filter (λ v. not (same_rid r v.rid)) ws) (filter (λ v. not (same_rid r v.rid)) ws))) ≡ false
     go true k = k
     go false k = ap (λ b. b || is_among q (rids_of (filter (λ v. not (same_rid r v.rid)) ws))) (or_left (same_rid q w.rid) (is_among q (rids_of ws)) e) ∙ k
 
@@ -32,7 +33,8 @@ pub filter_once : (r : Rid) (ws : List Write) → NoneTwice (rids_of ws) → Non
 filter_once r [] h = tt
 filter_once r (w ∷ ws) h = go (same_rid r w.rid) (filter_once r ws h.1)
   where
-    go : (b : Bool) → NoneTwice (rids_of (filter (λ v. not (same_rid r v.rid)) ws)) → NoneTwice (rids_of (cond (not b) (w ∷ filter (λ v. not (same_rid r v.rid)) ws) (filter (λ v. not (same_rid r v.rid)) ws)))
+    go : (b : Bool) → NoneTwice (rids_of (filter (λ v. not (same_rid r v.rid)) ws)) →
+        NoneTwice (rids_of (cond (not b) (w ∷ filter (λ v. not (same_rid r v.rid)) ws) (filter (λ v. not (same_rid r v.rid)) ws)))
     go true k = k
     go false k = (filter_none w.rid r ws h.0, k)
 
@@ -40,7 +42,8 @@ pub filtered_out : (r : Rid) (ws : List Write) → is_among r (rids_of (filter (
 filtered_out r [] = refl
 filtered_out r (w ∷ ws) = go (same_rid r w.rid) refl (filtered_out r ws)
   where
-    go : (b : Bool) → same_rid r w.rid ≡ b → is_among r (rids_of (filter (λ v. not (same_rid r v.rid)) ws)) ≡ false → is_among r (rids_of (cond (not b) (w ∷ filter (λ v. not (same_rid r v.rid)) ws) (filter (λ v. not (same_rid r v.rid)) ws))) ≡ false
+    go : (b : Bool) → same_rid r w.rid ≡ b → is_among r (rids_of (filter (λ v. not (same_rid r v.rid)) ws)) ≡ false →
+        is_among r (rids_of (cond (not b) (w ∷ filter (λ v. not (same_rid r v.rid)) ws) (filter (λ v. not (same_rid r v.rid)) ws))) ≡ false
     go true e k = k
     go false e k = ap (λ b. b || is_among r (rids_of (filter (λ v. not (same_rid r v.rid)) ws))) e ∙ k
 
@@ -53,7 +56,8 @@ pub filter_image : (q r : Rid) (ws : List Write) → same_rid r q ≡ false → 
 filter_image q r [] e = refl
 filter_image q r (w ∷ ws) e = go (same_rid r w.rid) refl (filter_image q r ws e)
   where
-    go : (b : Bool) → same_rid r w.rid ≡ b → image_in q (filter (λ v. not (same_rid r v.rid)) ws) ≡ image_in q ws → image_in q (cond (not b) (w ∷ filter (λ v. not (same_rid r v.rid)) ws) (filter (λ v. not (same_rid r v.rid)) ws)) ≡ cond (same_rid w.rid q) (Some w.image) (image_in q ws)
+    go : (b : Bool) → same_rid r w.rid ≡ b → image_in q (filter (λ v. not (same_rid r v.rid)) ws) ≡ image_in q ws →
+        image_in q (cond (not b) (w ∷ filter (λ v. not (same_rid r v.rid)) ws) (filter (λ v. not (same_rid r v.rid)) ws)) ≡ cond (same_rid w.rid q) (Some w.image) (image_in q ws)
     go true same k = k ∙ sym (ap (λ b. cond b (Some w.image) (image_in q ws)) (ap (λ x. same_rid x q) (sym (same_rid_equal r w.rid same)) ∙ e))
     go false other k = ap (cond (same_rid w.rid q) (Some w.image)) k
 
@@ -61,7 +65,8 @@ pub last_image_in : (q : Rid) (ws : List Write) → image_in q (last_images ws) 
 last_image_in q [] = refl
 last_image_in q (w ∷ ws) = go (same_rid w.rid q) refl (last_image_in q ws)
   where
-    go : (b : Bool) → same_rid w.rid q ≡ b → image_in q (last_images ws) ≡ image_in q ws → cond b (Some w.image) (image_in q (filter (λ v. not (same_rid w.rid v.rid)) (last_images ws))) ≡ cond b (Some w.image) (image_in q ws)
+    go : (b : Bool) → same_rid w.rid q ≡ b → image_in q (last_images ws) ≡ image_in q ws →
+        cond b (Some w.image) (image_in q (filter (λ v. not (same_rid w.rid v.rid)) (last_images ws))) ≡ cond b (Some w.image) (image_in q ws)
     go true e k = refl
     go false e k = filter_image q w.rid (last_images ws) e ∙ k
 
@@ -74,7 +79,8 @@ pub commits_once : (earlier xs : List Said) → Each (λ p. OwnOnce p.1) (commit
 commits_once earlier [] = tt
 commits_once earlier (now ∷ later) = go (committed now) (commits_once (now ∷ earlier) later)
   where
-    go : (o : Option ℕ) → Each (λ p. OwnOnce p.1) (commits_from (now ∷ earlier) later) → Each (λ p. OwnOnce p.1) (cons_option (option_map (λ c. (c, commit_by earlier now)) o) (commits_from (now ∷ earlier) later))
+    go : (o : Option ℕ) → Each (λ p. OwnOnce p.1) (commits_from (now ∷ earlier) later) →
+        Each (λ p. OwnOnce p.1) (cons_option (option_map (λ c. (c, commit_by earlier now)) o) (commits_from (now ∷ earlier) later))
     go None h = h
     go (Some c) h = (last_once (own_writes (now ∷ earlier) now), h)
 
@@ -82,7 +88,8 @@ pub commits_numbers : (earlier xs : List Said) → map (λ p. p.0) (commits_from
 commits_numbers earlier [] = refl
 commits_numbers earlier (x ∷ xs) = go (committed x) (commits_numbers (x ∷ earlier) xs)
   where
-    go : (o : Option ℕ) → map (λ p. p.0) (commits_from (x ∷ earlier) xs) ≡ filter_map committed xs → map (λ p. p.0) (cons_option (option_map (λ c. (c, commit_by earlier x)) o) (commits_from (x ∷ earlier) xs)) ≡ cons_option o (filter_map committed xs)
+    go : (o : Option ℕ) → map (λ p. p.0) (commits_from (x ∷ earlier) xs) ≡ filter_map committed xs →
+        map (λ p. p.0) (cons_option (option_map (λ c. (c, commit_by earlier x)) o) (commits_from (x ∷ earlier) xs)) ≡ cons_option o (filter_map committed xs)
     go None e = e
     go (Some c) e = ap (λ ns. c ∷ ns) e
 
@@ -113,7 +120,8 @@ numbered_of P f first (suc many) h n j k = cases (first == n)
 -- no commit of a number
 pub group_none : (ps : List (ℕ × Commit)) (n : ℕ) → list_any (λ p. p.0 == n) ps ≡ false → group_of ps n ≡ []
 group_none [] n e = refl
-group_none (p ∷ ps) n e = ap (λ b. cond b (put_by_session p.1 (group_of ps n)) (group_of ps n)) (or_left (p.0 == n) (list_any (λ p. p.0 == n) ps) e) ∙ group_none ps n (or_right (p.0 == n) (list_any (λ p. p.0 == n) ps) e)
+group_none (p ∷ ps) n e = ap (λ b. cond b (put_by_session p.1 (group_of ps n)) (group_of ps n)) (or_left (p.0 == n) (list_any (λ p. p.0 == n) ps) e) ∙
+    group_none ps n (or_right (p.0 == n) (list_any (λ p. p.0 == n) ps) e)
 
 pub put_some : (c : Commit) (g : Group) → 0 < length (put_by_session c g)
 put_some c [] = omega arith
@@ -153,7 +161,8 @@ groups_of ps h o n j k =
 pub whole_of : (all : List Said) → AreCommits (commits all) → IsWhole all
 whole_of all h = record {
   numbers = each_keeps IsFit (λ p. 1 ≤ p.0) (λ p fit. fit.number) (commits all) h.fit;
-  history = numbered_to IsGroup (group_of (commits all)) 1 (greatest_commit all) (λ n j k. let b : n ≤ greatest_commit all = omega (arith, k) in groups_of (commits all) h (commits_once [] all) n j (subst (λ m. n ≤ m) (sym (greatest_number all)) b));
+  history = numbered_to IsGroup (group_of (commits all)) 1 (greatest_commit all) (λ n j k. let b : n ≤ greatest_commit all = omega (arith, k) in
+      groups_of (commits all) h (commits_once [] all) n j (subst (λ m. n ≤ m) (sym (greatest_number all)) b));
 }
 
 -- ---- and back
@@ -170,7 +179,8 @@ pub group_at_number : (all : List Said) → IsWhole all → (n : ℕ) → IsNumb
 group_at_number all h n q = let low : 1 ≤ n = q.0 in let high = q.1 in numbered_of IsGroup (group_of (commits all)) 1 (greatest_commit all) h.history n low (omega (arith, high))
 
 pub numbers_within : (all : List Said) → IsWhole all → Each (λ p. IsNumber all p.0) (commits all)
-numbers_within all h = each_pairs (λ p. 1 ≤ p.0) (λ p. p.0 ≤ greatest_commit all) (commits all) h.numbers (each_keeps (λ p. p.0 < suc (greatest_commit all)) (λ p. p.0 ≤ greatest_commit all) (λ p k. omega (arith, k)) (commits all) (commits_below [] all))
+numbers_within all h = each_pairs (λ p. 1 ≤ p.0) (λ p. p.0 ≤ greatest_commit all) (commits all) h.numbers
+    (each_keeps (λ p. p.0 < suc (greatest_commit all)) (λ p. p.0 ≤ greatest_commit all) (λ p k. omega (arith, k)) (commits all) (commits_below [] all))
 
 pub its_number : (Q : ℕ → Type 0) (ps : List (ℕ × Commit)) (n : ℕ) → Each (λ p. Q p.0) ps → has_number n ps → Q n
 its_number Q [] n h e = absurd (false_true e)
@@ -181,8 +191,11 @@ commits_of all h =
     let ps = commits all in
     let within = numbers_within all h in
     record {
-      fit = each_own (IsNumber all) IsFit ps (λ n q. each_keeps (λ p. p.0 ≡ n → IsCommit n p.1) (λ p. p.0 ≡ n → IsFit p) (λ p f e. record { number = subst (λ m. 1 ≤ m) (sym e) q.0; some = (f e).some; before = subst (λ m. p.1.at < m) (sym e) (f e).before }) ps (group_each (IsCommit n) n ps (group_at_number all h n q).commits)) within;
-      apart = from_pairs ps (λ n. cases (list_any (λ p. p.0 == n) ps) (λ e. let g = group_at_number all h n (its_number (IsNumber all) ps n within e) in once_pairs (group_of ps n) g.sessions g.rids) (λ e. subst InPairs (sym (group_none ps n e)) tt));
+      fit = each_own (IsNumber all) IsFit ps (λ n q. each_keeps (λ p. p.0 ≡ n → IsCommit n p.1) (λ p. p.0 ≡ n → IsFit p)
+          (λ p f e. record { number = subst (λ m. 1 ≤ m) (sym e) q.0; some = (f e).some; before = subst (λ m. p.1.at < m) (sym e) (f e).before }) ps
+          (group_each (IsCommit n) n ps (group_at_number all h n q).commits)) within;
+      apart = from_pairs ps (λ n. cases (list_any (λ p. p.0 == n) ps) (λ e. let g = group_at_number all h n (its_number (IsNumber all) ps n within e) in
+          once_pairs (group_of ps n) g.sessions g.rids) (λ e. subst InPairs (sym (group_none ps n e)) tt));
       every = λ n j k. some_number ps n (group_at_number all h n (j, subst (λ m. n ≤ m) (greatest_number all) k)).some;
     }
 
@@ -196,7 +209,8 @@ pub put_image : (r : Rid) (c : Commit) (g : Group) → Each (AreOfTwo c) g → g
 put_image r c [] h = refl
 put_image r c (d ∷ ds) h = go (nat_lt d.session c.session) (put_image r c ds h.1)
   where
-    go : (b : Bool) → group_image r (put_by_session c ds) ≡ option_or (image_in r c.images) (group_image r ds) → group_image r (cond b (d ∷ put_by_session c ds) (c ∷ d ∷ ds)) ≡ option_or (image_in r c.images) (option_or (image_in r d.images) (group_image r ds))
+    go : (b : Bool) → group_image r (put_by_session c ds) ≡ option_or (image_in r c.images) (group_image r ds) →
+        group_image r (cond b (d ∷ put_by_session c ds) (c ∷ d ∷ ds)) ≡ option_or (image_in r c.images) (option_or (image_in r d.images) (group_image r ds))
     go true e = ap (option_or (image_in r d.images)) e ∙ or_swap (image_in r c.images) (image_in r d.images) (group_image r ds) (h.0.1 r)
     go false e = refl
 
@@ -204,8 +218,10 @@ pub group_is : (r : Rid) (ps : List (ℕ × Commit)) (n : ℕ) → AllApart ps �
 group_is r [] n h = refl
 group_is r (p ∷ ps) n h = go (p.0 == n) refl (group_is r ps n h.1)
   where
-    go : (b : Bool) → (p.0 == n) ≡ b → group_image r (group_of ps n) ≡ image_of ps r n → group_image r (cond b (put_by_session p.1 (group_of ps n)) (group_of ps n)) ≡ cond b (option_or (image_in r p.1.images) (image_of ps r n)) (image_of ps r n)
-    go true e k = put_image r p.1 (group_of ps n) (each_group (AreOfTwo p.1) n ps (each_keeps _ _ (λ q f same. f ((Decides-eqb p.0 n).0 e ∙ sym same)) ps h.0)) ∙ ap (option_or (image_in r p.1.images)) k
+    go : (b : Bool) → (p.0 == n) ≡ b → group_image r (group_of ps n) ≡ image_of ps r n → group_image r (cond b (put_by_session p.1 (group_of ps n)) (group_of ps n)) ≡ cond b
+        (option_or (image_in r p.1.images) (image_of ps r n)) (image_of ps r n)
+    go true e k = put_image r p.1 (group_of ps n) (each_group (AreOfTwo p.1) n ps (each_keeps _ _ (λ q f same. f ((Decides-eqb p.0 n).0 e ∙ sym same)) ps h.0)) ∙
+        ap (option_or (image_in r p.1.images)) k
     go false e k = k
 
 pub or_assoc : (a b x : Option Image) → option_or (option_or a b) x ≡ option_or a (option_or b x)
@@ -225,7 +241,9 @@ image_push [] p r n = go (p.0 == n)
     go false = refl
 image_push (q ∷ ps) p r n = go (q.0 == n) (image_push ps p r n)
   where
-    go : (b : Bool) → image_of (ps ++ p ∷ []) r n ≡ option_or (image_of ps r n) (cond (p.0 == n) (image_in r p.1.images) None) → cond b (option_or (image_in r q.1.images) (image_of (ps ++ p ∷ []) r n)) (image_of (ps ++ p ∷ []) r n) ≡ option_or (cond b (option_or (image_in r q.1.images) (image_of ps r n)) (image_of ps r n)) (cond (p.0 == n) (image_in r p.1.images) None)
+    go : (b : Bool) → image_of (ps ++ p ∷ []) r n ≡ option_or (image_of ps r n) (cond (p.0 == n) (image_in r p.1.images) None) →
+        cond b (option_or (image_in r q.1.images) (image_of (ps ++ p ∷ []) r n)) (image_of (ps ++ p ∷ []) r n) ≡ option_or
+        (cond b (option_or (image_in r q.1.images) (image_of ps r n)) (image_of ps r n)) (cond (p.0 == n) (image_in r p.1.images) None)
     go true e = ap (option_or (image_in r q.1.images)) e ∙ sym (or_assoc (image_in r q.1.images) (image_of ps r n) (cond (p.0 == n) (image_in r p.1.images) None))
     go false e = e
 

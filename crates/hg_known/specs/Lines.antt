@@ -13,7 +13,16 @@ use Rattle.hg_known.specs.declared.said.Last.TheVariants.{Over, Open}
 
 -- what a line says; a transaction of its own declares the statement's one table
 abbrev pub said_of : kept.Said → Said
-said_of s = record { session = s.session; place = s.place; transaction = s.transaction; at = s.at; scope = (if s.alone then only (table_of s.statement) else s.scope); alone = s.alone; statement = s.statement; reply = s.reply.now }
+said_of s = record {
+  session = s.session;
+  place = s.place;
+  transaction = s.transaction;
+  at = s.at;
+  scope = (if s.alone then only (table_of s.statement) else s.scope);
+  alone = s.alone;
+  statement = s.statement;
+  reply = s.reply.now;
+}
 
 -- what a cursor has left; after the greatest key of 64 bits it goes on at 2^64
 abbrev pub rest_of : rests.Rest → Rest

@@ -66,4 +66,5 @@ abbrev pub IsNextRid : List (Slot × Image) → Rid → ℕ → Option Rid → T
 IsNextRid writes r n found =
     MatchOption found
     ((q : Rid) (k : ℕ) → IsOver (slot r n) (slot q k) → image_at writes q k ≡ None)
-    (λ least. (m : ℕ) × IsOver (slot r n) (slot least m) × IsSome (image_at writes least m) × ((q : Rid) (k : ℕ) → IsOver (slot r n) (slot q k) → IsSome (image_at writes q k) → is_gt (slot_cmp (slot least m) (slot q k)) ≡ false))
+    (λ least. (m : ℕ) × IsOver (slot r n) (slot least m) × IsSome (image_at writes least m) × ((q : Rid) (k : ℕ) → IsOver (slot r n) (slot q k) → IsSome (image_at writes q k) →
+    is_gt (slot_cmp (slot least m) (slot q k)) ≡ false))

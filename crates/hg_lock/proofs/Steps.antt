@@ -35,7 +35,8 @@ module _ {X V : Type 0} (fits : ℕ → X → Type 0) where
         (λ (miss : (line_of k ≢ line_of i) × (get_elem? s.words (line_of k) ≡ some 0)). let u = g.free k miss.1 in (u.0, set_else s.homes (line_of i) (line_of k) none miss.0 ∙ u.1, u.2))
         (at_set s.words (line_of i) (line_of k) (suc n) 0 e);
     held = λ k m e. ⊎_elim
-        (λ (hit : (line_of k ≡ line_of i) × (suc n ≡ suc m)). let below = below_of s.words (line_of i) 0 at in let p = g.paired in ap (λ j. get_elem? (set s.homes (line_of i) none) j) hit.0 ∙ set_here s.homes (line_of i) none (omega arith))
+        (λ (hit : (line_of k ≡ line_of i) × (suc n ≡ suc m)). let below = below_of s.words (line_of i) 0 at in let p = g.paired in
+        ap (λ j. get_elem? (set s.homes (line_of i) none) j) hit.0 ∙ set_here s.homes (line_of i) none (omega arith))
         (λ (miss : (line_of k ≢ line_of i) × (get_elem? s.words (line_of k) ≡ some (suc m))). set_else s.homes (line_of i) (line_of k) none miss.0 ∙ g.held k m miss.1)
         (at_set s.words (line_of i) (line_of k) (suc n) (suc m) e);
   }
@@ -61,7 +62,12 @@ module _ {X V : Type 0} (fits : ℕ → X → Type 0) where
   released s views i x g below ok = record {
     paired = length-set s.words (line_of i) 0 ∙ g.paired ∙ sym (length-set s.homes (line_of i) (some (Some x)));
     free = λ k e. ⊎_elim
-        (λ (hit : (line_of k ≡ line_of i) × (0 ≡ 0)). (x, ap (λ j. get_elem? (set s.homes (line_of i) (some (Some x))) j) hit.0 ∙ set_here s.homes (line_of i) (some (Some x)) below, subst (λ j. fits j x) (sym (one_lock k i hit.0)) ok))
+        (λ (hit : (line_of k ≡ line_of i) × (0 ≡ 0)). (
+          x,
+          ap (λ j. get_elem? (set s.homes (line_of i) (some (Some x))) j) hit.0 ∙
+              set_here s.homes (line_of i) (some (Some x)) below,
+          subst (λ j. fits j x) (sym (one_lock k i hit.0)) ok,
+        ))
         (λ (miss : (line_of k ≢ line_of i) × (get_elem? s.words (line_of k) ≡ some 0)). let u = g.free k miss.1 in (u.0, set_else s.homes (line_of i) (line_of k) (some (Some x)) miss.0 ∙ u.1, u.2))
         (at_set s.words (line_of i) (line_of k) 0 0 e);
     held = λ k m e. ⊎_elim
@@ -72,14 +78,25 @@ module _ {X V : Type 0} (fits : ℕ → X → Type 0) where
 
   -- a swap takes the slot where it finds the lock free, and leaves it held; the new seat's view is what it is told
   swaps_at : (told : V → Type 0) (i to : ℕ) (v : V) → told v → (s : State (Option X) V) → Guarded fits s → line_of i < length s.words → (n : ℕ) → n ≡ slice_index s.words (line_of i)
-      → (w : V) × (a : Act (Option X)) × Valid s.homes [] a × Guarded fits record { words = set s.words (line_of i) (suc to); homes = homes_after s.homes [] a; views = s.views ++ w ∷ [] } × (told w × ((k : ℕ) → line_of i ≡ line_of k → n ≡ 0 → HasValue fits k (w, carried_after [] a)))
+      → (w : V) × (a : Act (Option X)) × Valid s.homes [] a × Guarded fits record {
+        words = set s.words (line_of i) (suc to);
+        homes = homes_after s.homes [] a;
+        views = s.views ++ w ∷ [];
+      } × (told w × ((k : ℕ) → line_of i ≡ line_of k → n ≡ 0 → HasValue fits k (w, carried_after [] a)))
   swaps_at told i to v tells s g below zero is =
       let at = word_at s.words (line_of i) 0 below is in
-      let t = g.free i at in (v, takes (line_of i) (Some t.0), t.1, seized s _ i to g at, (tells, λ k same _. (t.0, ap (λ j. (j, Some t.0) ∷ []) same, subst (λ j. fits j t.0) (one_lock i k same) t.2)))
+      let t = g.free i at in (
+        v,
+        takes (line_of i) (Some t.0),
+        t.1,
+        seized s _ i to g at,
+        (tells, λ k same _. (t.0, ap (λ j. (j, Some t.0) ∷ []) same, subst (λ j. fits j t.0) (one_lock i k same) t.2)),
+      )
   swaps_at told i to v tells s g below (suc m) is =
       let at = word_at s.words (line_of i) (suc m) below is in (v, keeps, tt, marked s _ i m to g at, (tells, λ (k : ℕ) (same : line_of i ≡ line_of k) (z : suc m ≡ 0). absurd (omega arith)))
 
-  pub swaps : (told : V → Type 0) (slots i word : ℕ) (v : V) → told v → line_of i < slots → 0 < word → Arrives (Guarded {V = V} fits) slots (line_of i) (λ _. word) (λ found me. told me.0 × ((k : ℕ) → line_of i ≡ line_of k → found ≡ 0 → HasValue fits k me))
+  pub swaps : (told : V → Type 0) (slots i word : ℕ) (v : V) → told v → line_of i < slots → 0 < word →
+      Arrives (Guarded {V = V} fits) slots (line_of i) (λ _. word) (λ found me. told me.0 × ((k : ℕ) → line_of i ≡ line_of k → found ≡ 0 → HasValue fits k me))
   swaps told slots i zero v tells below held s g wide small = absurd (omega arith)
   swaps told slots i (suc to) v tells below held s g wide small = swaps_at told i to v tells s g (let p = g.paired in omega arith) (slice_index s.words (line_of i)) refl
 
@@ -88,4 +105,5 @@ pub releases : {X T : Type 0} (fits : ℕ → X → Type 0) (slots id i : ℕ) (
     → Allows (Guarded {V = Seen T} fits) slots id m (line_of i) (λ _. 0) (λ found me. (me.1 ≡ []) × (me.0.found ≡ found))
 releases {X} {T} fits slots id i m x below has ok s g wide at small =
     let n = slice_index s.words (line_of i) in
-    subst (λ (c : List (ℕ × Option X)). (w : Seen T) × (a : Act (Option X)) × Valid s.homes c a × Guarded fits (stepped s (line_of i) 0 id c w a) × ((carried_after c a ≡ []) × (w.found ≡ n))) (sym has) (record { tag = m.0.tag; found = n; left = 0 }, gives, tt, released fits s _ i x g (omega arith) ok, (refl, refl))
+    subst (λ (c : List (ℕ × Option X)). (w : Seen T) × (a : Act (Option X)) × Valid s.homes c a × Guarded fits (stepped s (line_of i) 0 id c w a) ×
+    ((carried_after c a ≡ []) × (w.found ≡ n))) (sym has) (record { tag = m.0.tag; found = n; left = 0 }, gives, tt, released fits s _ i x g (omega arith) ok, (refl, refl))

@@ -45,8 +45,14 @@ twins i v shut push items views h at = let q = queued items views i v h at shut 
       out = q.out;
       good = q.good;
       fits = λ j u e. ⊎_elim
-          (λ (x : get_elem? (set views i v) j ≡ some u). ⊎_elim (λ (y : (j ≡ i) × (v ≡ u)). subst (Fits q.board q.at q.out (q.out ++ map pair_of items) j) y.1 (subst (λ n. Fits q.board q.at q.out (q.out ++ map pair_of items) n v) (sym y.0) mine)) (λ (y : (j ≢ i) × (get_elem? views j ≡ some u)). q.fits j u y.1) (at_set views i j v u x))
-          (λ (x : v ≡ u). subst (Fits q.board q.at q.out (q.out ++ map pair_of items) j) x record { opened = mine.opened; board_is = mine.board_is; leads = λ p. absurd (true≢false (sym p ∙ push)); pushes = mine.pushes })
+          (λ (x : get_elem? (set views i v) j ≡ some u). ⊎_elim (λ (y : (j ≡ i) × (v ≡ u)). subst (Fits q.board q.at q.out (q.out ++ map pair_of items) j) y.1
+          (subst (λ n. Fits q.board q.at q.out (q.out ++ map pair_of items) n v) (sym y.0) mine)) (λ (y : (j ≢ i) × (get_elem? views j ≡ some u)). q.fits j u y.1) (at_set views i j v u x))
+          (λ (x : v ≡ u). subst (Fits q.board q.at q.out (q.out ++ map pair_of items) j) x record {
+            opened = mine.opened;
+            board_is = mine.board_is;
+            leads = λ p. absurd (true≢false (sym p ∙ push));
+            pushes = mine.pushes;
+          })
           (at_snoc (set views i v) v u j e);
     }
 
@@ -64,8 +70,14 @@ may_push n i v x shut push good items views room h at = let q = queued items vie
         out = q.out;
         good = each_append (IsHandedOf q.board) items (x ∷ []) q.good (subst (λ t. IsHandedOf t x) mine.board_is good, tt);
         fits = λ j u e. ⊎_elim
-            (λ (y : (j ≡ i) × (w ≡ u)). subst (Fits q.board q.at q.out new j) y.1 record { opened = shut; board_is = mine.board_is; leads = λ p. absurd (true≢false (sym p ∙ push)); pushes = λ _. subst (StartsWith new) (sym is) (starts_same new) })
-            (λ (y : (j ≢ i) × (get_elem? views j ≡ some u)). let f = q.fits j u y.1 in record { opened = f.opened; board_is = f.board_is; leads = f.leads; pushes = λ p. starts_on new all u.pairs (f.pushes p) (pair_of x ∷ [], more) })
+            (λ (y : (j ≡ i) × (w ≡ u)). subst (Fits q.board q.at q.out new j) y.1 record {
+              opened = shut;
+              board_is = mine.board_is;
+              leads = λ p. absurd (true≢false (sym p ∙ push));
+              pushes = λ _. subst (StartsWith new) (sym is) (starts_same new);
+            })
+            (λ (y : (j ≢ i) × (get_elem? views j ≡ some u)). let f = q.fits j u y.1 in
+            record { opened = f.opened; board_is = f.board_is; leads = f.leads; pushes = λ p. starts_on new all u.pairs (f.pushes p) (pair_of x ∷ [], more) })
             (at_set views i j w u e);
       },
       (start.0, refl),
@@ -83,7 +95,12 @@ may_pop i v shut pop x items views h at = let q = queued (x ∷ items) views i v
         out = out;
         good = q.good.1;
         fits = λ j u e. ⊎_elim
-            (λ (y : (j ≡ i) × (w ≡ u)). subst (Fits q.board q.at out (out ++ map pair_of items) j) y.1 record { opened = shut; board_is = mine.board_is; leads = λ _. (y.0 ∙ lead.0, ap (λ l. l ++ pair_of x ∷ []) lead.1); pushes = λ p. absurd (true≢false (sym pop ∙ p)) })
+            (λ (y : (j ≡ i) × (w ≡ u)). subst (Fits q.board q.at out (out ++ map pair_of items) j) y.1 record {
+              opened = shut;
+              board_is = mine.board_is;
+              leads = λ _. (y.0 ∙ lead.0, ap (λ l. l ++ pair_of x ∷ []) lead.1);
+              pushes = λ p. absurd (true≢false (sym pop ∙ p));
+            })
             (λ (y : (j ≢ i) × (get_elem? views j ≡ some u)). let f = q.fits j u y.1 in record {
               opened = f.opened;
               board_is = f.board_is;

@@ -1,5 +1,6 @@
 -- Statements that lead to the next of their session, with one more.
-use Rattle.std.proofs.Common.{◌≡◌, ◌≢◌, ◌==◌, ◌&&◌, ◌<◌, ◌≤◌, ◌+◌, ◌∙◌, ◌⊎◌, inl, inr, ℕ, zero, suc, List, [], ◌∷◌, ◌++◌, length, drop, get_or, set, true, false, cond, refl, sym, ap, arith, add-one, length-append}
+use Rattle.std.proofs.Common.{◌≡◌, ◌≢◌, ◌==◌, ◌&&◌, ◌<◌, ◌≤◌, ◌+◌, ◌∙◌, ◌⊎◌, inl, inr, ℕ, zero, suc, List, [], ◌∷◌, ◌++◌, length, drop, get_or, set, true, false, cond, refl, sym, ap, arith}
+use Rattle.std.proofs.Common.{add-one, length-append}
 use Rattle.std.proofs.Math.ListN.{get_or-append}
 use Rattle.std.proofs.Math.Seq.{get_or-append_seam}
 use Rattle.std.proofs.lemmas.Bool.{leb-false, leb-true}
@@ -114,7 +115,8 @@ linked_next n (suc l) i (e ∷ es) x less of last end is most h =
     let within : l < length es = omega (arith, less) in
     let other = λ (k : (x.session == e.session) ≡ false). next_other e.session x.session (n + 1) (sessions_in es) k in
     let found = λ (k : (x.session == e.session) ≡ true). next_kept e.session (n + 1) (sessions_in es) (x.session ∷ [])
-    (next_found e.session (n + 1) l (sessions_in es) (omega (arith, within, many_sessions es)) (session_at es l x within ∙ of ∙ alike x.session e.session k) (omega (arith, is, most, many_sessions es))) in (
+    (next_found e.session (n + 1) l (sessions_in es) (omega (arith, within, many_sessions es)) (session_at es l x within ∙ of ∙ alike x.session e.session k)
+    (omega (arith, is, most, many_sessions es))) in (
       h.0 ∙ sym (ap (next_of e.session (n + 1)) (led_sessions l i (es ++ x ∷ []) ∙ more_sessions es x) ∙ cases (x.session == e.session) found other),
       linked_next (n + 1) l i es x within of last end (omega (arith, is)) most h.1,
     )
@@ -221,7 +223,8 @@ no_session j n [] over h = refl
 no_session j n (e ∷ es) over h = let other : (e.session == j) ≡ false = not_equal e.session j (omega (arith, over, h.0)) in rw other (no_session j (n + 1) es over h.1)
 
 -- the first of a session
-pub first_known : (ends : Ends) (es : List Entry) (j first : ℕ) → IsChained ends es → Each HasSession es → (j ≤ MOST_SESSIONS → first ≡ first_in ends j) → (MOST_SESSIONS < j → first ≡ NOWHERE) → first ≡ next_from j 0 (sessions_in es)
+pub first_known : (ends : Ends) (es : List Entry) (j first : ℕ) → IsChained ends es → Each HasSession es → (j ≤ MOST_SESSIONS → first ≡ first_in ends j) →
+    (MOST_SESSIONS < j → first ≡ NOWHERE) → first ≡ next_from j 0 (sessions_in es)
 first_known ends es j first h sessions known other = cases (nat_le j MOST_SESSIONS)
     (λ e. let at : j ≤ MOST_SESSIONS = leb-true j MOST_SESSIONS e in known at ∙ (h.each j at).first)
     (λ e. let over : MOST_SESSIONS < j = leb-false j MOST_SESSIONS e in other over ∙ sym (no_session j 0 es over sessions))

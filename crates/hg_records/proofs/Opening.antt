@@ -100,7 +100,8 @@ pub cursored_at : (before es : List Entry) (i : ℕ) (d : Entry) → i < length 
 cursored_at before [] i d less h = absurd (omega (arith, less))
 cursored_at before (e ∷ es) zero d less h = subst (λ es. HasCursor (cursor_among e.session es) e.packed) (sym (append_nil before)) h.0
 cursored_at before (e ∷ es) (suc i) d less h =
-    subst (λ fs. HasCursor (cursor_among (get_or es i d).session fs) (get_or es i d).packed) (append_assoc before (e ∷ []) (take i es)) (cursored_at (before ++ e ∷ []) es i d (omega (arith, less)) h.1)
+    subst (λ fs. HasCursor (cursor_among (get_or es i d).session fs) (get_or es i d).packed) (append_assoc before (e ∷ []) (take i es))
+    (cursored_at (before ++ e ∷ []) es i d (omega (arith, less)) h.1)
 
 stored_opens : (ns : List ℤ) (rows : List (List Value)) (p : Packed) → table_opened p ≡ opens (statement_in ns rows p)
 stored_opens ns rows (Begin scope) = refl

@@ -1,5 +1,6 @@
 -- Statements whose values stand in one list.
-use Rattle.std.proofs.Common.{◌≡◌, ◌≤◌, ◌<◌, ◌+◌, ◌∙◌, ℕ, zero, suc, ℤ, false, List, [], ◌∷◌, ◌++◌, length, length-drop, map, take, drop, max, fold, get_or, Option, None, refl, ap, arith, length-append}
+use Rattle.std.proofs.Common.{◌≡◌, ◌≤◌, ◌<◌, ◌+◌, ◌∙◌, ℕ, zero, suc, ℤ, false, List, [], ◌∷◌, ◌++◌, length, length-drop, map, take, drop, max, fold, get_or, Option, None, refl, ap, arith}
+use Rattle.std.proofs.Common.{length-append}
 use Rattle.std.specs.List.{list_any}
 use Rattle.std.proofs.Math.ListN.{get_or-append}
 use Rattle.std.proofs.Math.Seq.{get_or-append_seam, take-append-le, drop-append-le, drop-append_seam}
@@ -31,12 +32,14 @@ pub numbers_back : (ns : List ℤ) → map number_of (map Number ns) ≡ ns
 numbers_back [] = refl
 numbers_back (n ∷ ns) = ap (λ rest. n ∷ rest) (numbers_back ns)
 
-put_back : (ns : List ℤ) (rows : List (List Value)) (rid : Rid) (row : List Value) → statement_in (ns ++ added (say.Put rid row)) (rows ++ added_rows (say.Put rid row)) (packed_as None (length ns) (length rows) (say.Put rid row)) ≡ say.Put rid row
+put_back : (ns : List ℤ) (rows : List (List Value)) (rid : Rid) (row : List Value) → statement_in (ns ++ added (say.Put rid row)) (rows ++ added_rows (say.Put rid row))
+    (packed_as None (length ns) (length rows) (say.Put rid row)) ≡ say.Put rid row
 put_back ns rows rid row = cases (list_any is_text row)
     (λ e. rw e (ap (say.Put rid) (get_or-append_seam rows row [] [])))
     (λ e. rw e (rw (drop-append_seam ns (map number_of row), take_all (length row) (map number_of row) (omega (arith, length-map row number_of))) (ap (say.Put rid) (numbers_alone row e))))
 
-pub comes_back : (cursor : Option TableId) (ns : List ℤ) (rows : List (List Value)) (s : Statement) → statement_in (ns ++ added s) (rows ++ added_rows s) (packed_as cursor (length ns) (length rows) s) ≡ s
+pub comes_back : (cursor : Option TableId) (ns : List ℤ) (rows : List (List Value)) (s : Statement) →
+    statement_in (ns ++ added s) (rows ++ added_rows s) (packed_as cursor (length ns) (length rows) s) ≡ s
 comes_back cursor ns rows (say.Begin scope) = refl
 comes_back cursor ns rows (say.Get rid) = refl
 comes_back cursor ns rows (say.Put rid row) = put_back ns rows rid row
@@ -82,23 +85,27 @@ more_room n m k l (Gc kind) le less h = tt
 
 -- ---- all statements
 
-all_stay : (ns more : List ℤ) (rows others : List (List Value)) (es : List Entry) → Each (IsWithin (length ns) (length rows)) es → map (unpacked (ns ++ more) (rows ++ others)) es ≡ map (unpacked ns rows) es
+all_stay : (ns more : List ℤ) (rows others : List (List Value)) (es : List Entry) → Each (IsWithin (length ns) (length rows)) es →
+    map (unpacked (ns ++ more) (rows ++ others)) es ≡ map (unpacked ns rows) es
 all_stay ns more rows others [] h = refl
 all_stay ns more rows others (e ∷ es) h = rw (stays ns more rows others e.packed h.0, all_stay ns more rows others es h.1) refl
 
 -- one statement more
 pub one_more : (cursor : Option TableId) (ns : List ℤ) (rows : List (List Value)) (es : List Entry) (session next : ℕ) (s : Statement) → Each (IsWithin (length ns) (length rows)) es
-    → map (unpacked (ns ++ added s) (rows ++ added_rows s)) (es ++ (record { session = session; next = next; packed = packed_as cursor (length ns) (length rows) s }) ∷ []) ≡ map (unpacked ns rows) es ++ (session, s) ∷ []
+    → map (unpacked (ns ++ added s) (rows ++ added_rows s)) (es ++ (record { session = session; next = next; packed = packed_as cursor (length ns) (length rows) s }) ∷ []) ≡ map
+    (unpacked ns rows) es ++ (session, s) ∷ []
 one_more cursor ns rows es session next s h =
     let e : Entry = record { session = session; next = next; packed = packed_as cursor (length ns) (length rows) s } in
     map-append (unpacked (ns ++ added s) (rows ++ added_rows s)) es (e ∷ []) ∙ rw (all_stay ns (added s) rows (added_rows s) es h, comes_back cursor ns rows s) refl
 
-pub within_more : (ns more : List ℤ) (rows others : List (List Value)) (es : List Entry) → Each (IsWithin (length ns) (length rows)) es → Each (IsWithin (length (ns ++ more)) (length (rows ++ others))) es
+pub within_more : (ns more : List ℤ) (rows others : List (List Value)) (es : List Entry) → Each (IsWithin (length ns) (length rows)) es →
+    Each (IsWithin (length (ns ++ more)) (length (rows ++ others))) es
 within_more ns more rows others es h =
     each_keeps (IsWithin (length ns) (length rows)) (IsWithin (length (ns ++ more)) (length (rows ++ others)))
     (λ e k. more_room (length ns) (length (ns ++ more)) (length rows) (length (rows ++ others)) e.packed (omega (arith, length-append ns more)) (omega (arith, length-append rows others)) k) es h
 
-pub fold_greatest : (n : ℕ) (ns : List ℤ) (rows : List (List Value)) (es : List Entry) → fold (λ (most : ℕ) (e : Entry). max most e.session) n es ≡ max n (greatest (map (λ said. said.0) (map (unpacked ns rows) es)))
+pub fold_greatest : (n : ℕ) (ns : List ℤ) (rows : List (List Value)) (es : List Entry) →
+    fold (λ (most : ℕ) (e : Entry). max most e.session) n es ≡ max n (greatest (map (λ said. said.0) (map (unpacked ns rows) es)))
 fold_greatest n ns rows [] = omega arith
 fold_greatest n ns rows (e ∷ es) = omega (arith, fold_greatest (max n e.session) ns rows es)
 
@@ -124,13 +131,15 @@ pub unpacked_sessions : (ns : List ℤ) (rows : List (List Value)) (es : List En
 unpacked_sessions ns rows [] = refl
 unpacked_sessions ns rows (e ∷ es) = ap (λ ks. e.session ∷ ks) (unpacked_sessions ns rows es)
 
-pub unpacked_session : (ns : List ℤ) (rows : List (List Value)) (es : List Entry) (i : ℕ) (said : ℕ × Statement) (e : Entry) → i < length es → (get_or (map (unpacked ns rows) es) i said).0 ≡ (get_or es i e).session
+pub unpacked_session : (ns : List ℤ) (rows : List (List Value)) (es : List Entry) (i : ℕ) (said : ℕ × Statement) (e : Entry) → i < length es →
+    (get_or (map (unpacked ns rows) es) i said).0 ≡ (get_or es i e).session
 unpacked_session ns rows [] i said e less = absurd (omega (arith, less))
 unpacked_session ns rows (x ∷ es) zero said e less = refl
 unpacked_session ns rows (x ∷ es) (suc i) said e less = unpacked_session ns rows es i said e (omega (arith, less))
 
 -- the statement at i
-pub unpacked_at : (ns : List ℤ) (rows : List (List Value)) (es : List Entry) (i : ℕ) (said : ℕ × Statement) (e : Entry) → i < length es → get_or (map (unpacked ns rows) es) i said ≡ unpacked ns rows (get_or es i e)
+pub unpacked_at : (ns : List ℤ) (rows : List (List Value)) (es : List Entry) (i : ℕ) (said : ℕ × Statement) (e : Entry) → i < length es →
+    get_or (map (unpacked ns rows) es) i said ≡ unpacked ns rows (get_or es i e)
 unpacked_at ns rows [] i said e less = absurd (omega (arith, less))
 unpacked_at ns rows (x ∷ es) zero said e less = refl
 unpacked_at ns rows (x ∷ es) (suc i) said e less = unpacked_at ns rows es i said e (omega (arith, less))

@@ -20,7 +20,8 @@ use Rattle.hg_report.proofs.Following.{is_text, is_only_text, is_refused, none_n
 pub refusal_tells : (script : Script) (bytes : List ℕ) (line : ℕ) (e : TextRefusal) → e ≡ At line → IsRefusedAt script bytes line → TellsRefusal script bytes e
 refusal_tells script bytes line e same h = subst (TellsRefusal script bytes) (sym same) h
 
-module _ (script : Script) (bytes rest : List ℕ) (records : List (List Field)) (progress : Progress) (runs : Runs script at_start records progress) (split : bytes ≡ flat_map record_bytes records ++ rest) (none : rest ≡ []) where
+module _ (script : Script) (bytes rest : List ℕ) (records : List (List Field)) (progress : Progress) (runs : Runs script at_start records progress)
+    (split : bytes ≡ flat_map record_bytes records ++ rest) (none : rest ≡ []) where
   abbrev IsDone : Printed → Type 0
   IsDone printed = progress ≡ finished printed.lines printed.totals
 
@@ -39,4 +40,5 @@ module _ (script : Script) (bytes rest : List ℕ) (records : List (List Field))
       → IfErr result (λ e. (e ≡ At line) × ((lines : List Line) (totals : Totals) → progress ≡ finished lines totals → ⊥)) → IfErr result (TellsRefusal script bytes)
   refused_at_end lawful line count (Ok printed) h = tt
   refused_at_end lawful line count (Err e) h =
-      refusal_tells script bytes line e h.0 (is_refused script lawful bytes rest records progress line runs split count (none_next_of_none script progress rest none) (λ lines totals empty. h.1 lines totals))
+      refusal_tells script bytes line e h.0 (is_refused script lawful bytes rest records progress line runs split count (none_next_of_none script progress rest none)
+      (λ lines totals empty. h.1 lines totals))

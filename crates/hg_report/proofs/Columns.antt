@@ -48,7 +48,8 @@ module _ (session place : ℕ) where
   abbrev is_it : Record → Bool
   is_it r = (r.place == place) && (r.session == session)
 
-  found : (tables : List Declaration) (records : List Record) → Each IsTable tables → Each (IsStatement tables) records → IfSome (option_map_or (λ r. Some r.statement) (find is_it records) None) (λ statement. HasFew tables (table_of statement))
+  found : (tables : List Declaration) (records : List Record) → Each IsTable tables → Each (IsStatement tables) records →
+      IfSome (option_map_or (λ r. Some r.statement) (find is_it records) None) (λ statement. HasFew tables (table_of statement))
   found tables [] h k = tt
   found tables (r ∷ rs) h k = elim (cases_Bool (is_it r)) [
     | inl it ↦ rw it (statement_columns tables r h k.0)
@@ -75,7 +76,8 @@ cursor_fits tables (r ∷ rs) session place h k =
     either tables (cursor_before rs session place) (if (r.session == session) && nat_lt r.place place then opens r.statement else None) (cursor_fits tables rs session place h k.1)
     (where_so tables ((r.session == session) && nat_lt r.place place) (opens r.statement) (opened tables r.statement h k.0.fits))
 
-and_cursor : (tables : List Declaration) (cursor : Option TableId) (o : Option Statement) → HasFew tables cursor → IfSome o (λ statement. HasFew tables (table_of statement)) → IfSome o (HasColumns tables cursor)
+and_cursor : (tables : List Declaration) (cursor : Option TableId) (o : Option Statement) → HasFew tables cursor → IfSome o (λ statement. HasFew tables (table_of statement)) →
+    IfSome o (HasColumns tables cursor)
 and_cursor tables cursor None h k = tt
 and_cursor tables cursor (Some statement) h k = (k, h)
 

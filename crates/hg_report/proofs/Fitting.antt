@@ -33,7 +33,8 @@ use Rattle.hg_transcript.specs.declared.piece.Piece.TheVariants as piece
 use Rattle.hg_report.specs.declared.progress.Open.{Open}
 use Rattle.hg_report.specs.declared.progress.Open.TheVariants as opens
 use Rattle.hg_report.specs.Fields.{nth, says, natural_at, session_in, narrow, integer_value, text_in, value_in, values_in, row_in}
-use Rattle.hg_report.specs.Guess.{answer_guess, answer_place, answered_guess, at_guess, first_guess, head_guess, held_guess, number_guess, piece_of, refusal_guess, row_guess, statement_at, sweep_guess, the_table}
+use Rattle.hg_report.specs.Guess.{answer_guess, answer_place, answered_guess, at_guess, first_guess, head_guess, held_guess, number_guess, piece_of, refusal_guess, row_guess, statement_at}
+use Rattle.hg_report.specs.Guess.{sweep_guess, the_table}
 use Rattle.hg_report.specs.Progress.{guess_after, scan_line, sweep_line}
 use Rattle.hg_report.proofs.Asking.{same_table}
 
@@ -114,7 +115,8 @@ fetch_fits : (tables : List Declaration) (cursor : Option TableId) (n : ℕ) →
 fetch_fits tables None n = tt
 fetch_fits tables (Some table) n = ((omega arith, tt), refl)
 
-answer_fits : (tables : List Declaration) (cursor : Option TableId) (statement : Statement) (fields : List Field) (i : ℕ) → IfSome (answer_guess tables (asked_by cursor statement) fields i) (IsGuess tables cursor statement)
+answer_fits : (tables : List Declaration) (cursor : Option TableId) (statement : Statement) (fields : List Field) (i : ℕ) →
+    IfSome (answer_guess tables (asked_by cursor statement) fields i) (IsGuess tables cursor statement)
 answer_fits tables cursor (Begin scope) fields i = (number_fits fields (i + 1), tt)
 answer_fits tables cursor (Get r) fields i =
     let P = λ (o : Option Answer). IfSome o (IsGuess tables cursor (Get r)) in
@@ -158,51 +160,65 @@ FitsHead script (piece.Sweep session place sweep) = (sweep.held ≡ []) × Fits 
 FitsHead script _ = ⊥
 
 number_fits_write : (answer : Answer) (fields : List Field) (i : ℕ) → IfSome (number_guess answer fields i) (λ c. Fits64 c × IsTrue (is_write answer))
-number_fits_write answer fields i = cond_both (is_write answer && says fields (i + 1) (codes "committed")) (Some (natural_at fields (i + 2))) None (λ (o : Option ℕ). IfSome o (λ c. Fits64 c × IsTrue (is_write answer)))
+number_fits_write answer fields i = cond_both (is_write answer && says fields (i + 1) (codes "committed")) (Some (natural_at fields (i + 2))) None
+    (λ (o : Option ℕ). IfSome o (λ c. Fits64 c × IsTrue (is_write answer)))
     (λ e. (number_fits fields (i + 2), (both _ _ e).0)) (λ e. tt)
 
-fetch_more : (tables : List Declaration) (cursor : Option TableId) (n : ℕ) (rows more : List (ℕ × List Value)) → FitsAnswer tables cursor (Fetch n) (Rows rows) → Fits64 (length more) → Each (FitsKey tables (the_table (asked_by cursor (Fetch n)))) more → FitsAnswer tables cursor (Fetch n) (Rows more)
+fetch_more : (tables : List Declaration) (cursor : Option TableId) (n : ℕ) (rows more : List (ℕ × List Value)) → FitsAnswer tables cursor (Fetch n) (Rows rows) →
+    Fits64 (length more) → Each (FitsKey tables (the_table (asked_by cursor (Fetch n)))) more → FitsAnswer tables cursor (Fetch n) (Rows more)
 fetch_more tables None n rows more h many each = absurd h
 fetch_more tables (Some table) n rows more h many each = (many, each)
 
-rows_fit_statement : (tables : List Declaration) (cursor : Option TableId) (statement : Statement) (rows more : List (ℕ × List Value)) → FitsAnswer tables cursor statement (Rows rows) → Fits64 (length more) → Each (FitsKey tables (the_table (asked_by cursor statement))) more → FitsAnswer tables cursor statement (Rows more)
+rows_fit_statement : (tables : List Declaration) (cursor : Option TableId) (statement : Statement) (rows more : List (ℕ × List Value)) →
+    FitsAnswer tables cursor statement (Rows rows) → Fits64 (length more) → Each (FitsKey tables (the_table (asked_by cursor statement))) more → FitsAnswer tables cursor statement (Rows more)
 rows_fit_statement tables cursor (Scan table low high) rows more h many each = (many, each)
 rows_fit_statement tables cursor (Fetch n) rows more h many each = fetch_more tables cursor n rows more h many each
 rows_fit_statement tables cursor statement rows more h many each = absurd h
 
-module _ (script : Script) (session place : ℕ) (narrow_session : Fits32 session) (wide_place : Fits64 place) (some : (session == 0) ≡ false) (statement : Statement) (is : statement_at script.records session place ≡ Some statement) where
+module _ (script : Script) (session place : ℕ) (narrow_session : Fits32 session) (wide_place : Fits64 place) (some : (session == 0) ≡ false) (statement : Statement)
+    (is : statement_at script.records session place ≡ Some statement) where
   line_fits : (reply : Reply) → FitsReply script.tables (cursor_before script.records session place) statement reply → Fits script (record { session = session; place = place; reply = reply })
   line_fits reply h = record { session = narrow_session; place = wide_place; reply = rw (some, is) h }
 
   module _ (fields : List Field) (at : Option ℕ) (wide_at : IfSome at (λ s. Fits64 s × IsTrue (is_some (table_of statement)))) (i : ℕ) where
-    short_fits : (answer : Answer) → FitsAnswer script.tables (cursor_before script.records session place) statement answer → Fits script (record { session = session; place = place; reply = record { at = at; answer = answer; number = number_guess answer fields i } })
+    short_fits : (answer : Answer) → FitsAnswer script.tables (cursor_before script.records session place) statement answer →
+        Fits script (record { session = session; place = place; reply = record { at = at; answer = answer; number = number_guess answer fields i } })
     short_fits answer h = line_fits _ (record { at = wide_at; answer = h; number = number_fits_write answer fields i })
 
-    scan_fits : (rows more : List (ℕ × List Value)) → FitsAnswer script.tables (cursor_before script.records session place) statement (Rows rows) → Fits64 (length more) → Each (FitsKey script.tables (the_table (asked_by (cursor_before script.records session place) statement))) more → FitsAnswer script.tables (cursor_before script.records session place) statement (Rows more)
+    scan_fits : (rows more : List (ℕ × List Value)) → FitsAnswer script.tables (cursor_before script.records session place) statement (Rows rows) → Fits64 (length more) →
+        Each (FitsKey script.tables (the_table (asked_by (cursor_before script.records session place) statement))) more →
+        FitsAnswer script.tables (cursor_before script.records session place) statement (Rows more)
     scan_fits rows more h many each = rows_fit_statement script.tables (cursor_before script.records session place) statement rows more h many each
 
-    head_fits : (answer : Answer) → IsGuess script.tables (cursor_before script.records session place) statement answer → FitsHead script (piece_of (asked_by (cursor_before script.records session place) statement) session place at fields i answer)
+    head_fits : (answer : Answer) → IsGuess script.tables (cursor_before script.records session place) statement answer →
+        FitsHead script (piece_of (asked_by (cursor_before script.records session place) statement) session place at fields i answer)
     head_fits (Rows rows) h = λ more many each. line_fits _ (record { at = wide_at; answer = scan_fits rows more h.0 (rw many (number_fits fields (i + 1))) each; number = tt })
     head_fits (Swept sweep) h = (h.1, line_fits _ (record { at = tt; answer = h.0; number = tt }))
     head_fits answer h = (short_fits answer h.0, tt)
 
-    pub answered_fits : (o : Option Answer) → IfSome o (IsGuess script.tables (cursor_before script.records session place) statement) → IfSome (option_map (piece_of (asked_by (cursor_before script.records session place) statement) session place at fields i) o) (FitsHead script)
+    pub answered_fits : (o : Option Answer) → IfSome o (IsGuess script.tables (cursor_before script.records session place) statement) →
+        IfSome (option_map (piece_of (asked_by (cursor_before script.records session place) statement) session place at fields i) o) (FitsHead script)
     answered_fits None h = tt
     answered_fits (Some answer) h = head_fits answer h
 
 at_fits : (cursor : Option TableId) (statement : Statement) (fields : List Field) → IfSome (at_guess (asked_by cursor statement) fields) (λ s. Fits64 s × IsTrue (is_some (table_of statement)))
-at_fits cursor statement fields = cond_both (is_some (table_asked (asked_by cursor statement)) && says fields 2 (codes "at")) (Some (natural_at fields 3)) None (λ (o : Option ℕ). IfSome o (λ s. Fits64 s × IsTrue (is_some (table_of statement))))
+at_fits cursor statement fields = cond_both (is_some (table_asked (asked_by cursor statement)) && says fields 2 (codes "at")) (Some (natural_at fields 3)) None
+    (λ (o : Option ℕ). IfSome o (λ s. Fits64 s × IsTrue (is_some (table_of statement))))
     (λ e. (number_fits fields 3, subst (λ (o : Option TableId). IsTrue (is_some o)) (same_table cursor statement) (both _ _ e).0)) (λ e. tt)
 
 module _ (script : Script) (fields : List Field) where
   abbrev replied : ℕ → ℕ → Option Statement → Option Piece
-  replied session place o = option_and_then (λ asked. answered_guess script.tables asked session place (at_guess asked fields) fields) (option_map (asked_by (cursor_before script.records session place)) o)
+  replied session place o = option_and_then (λ asked. answered_guess script.tables asked session place (at_guess asked fields) fields)
+      (option_map (asked_by (cursor_before script.records session place)) o)
 
-  reply_fits : (session place : ℕ) → Fits32 session → Fits64 place → (session == 0) ≡ false → (o : Option Statement) → statement_at script.records session place ≡ o → IfSome (replied session place o) (FitsHead script)
+  reply_fits : (session place : ℕ) → Fits32 session → Fits64 place → (session == 0) ≡ false → (o : Option Statement) → statement_at script.records session place ≡ o →
+      IfSome (replied session place o) (FitsHead script)
   reply_fits session place h k some None is = tt
   reply_fits session place h k some (Some statement) is =
       let at = at_guess (asked_by (cursor_before script.records session place) statement) fields in
-      answered_fits script session place h k some statement is fields at (at_fits (cursor_before script.records session place) statement fields) (answer_place at) (answer_guess script.tables (asked_by (cursor_before script.records session place) statement) fields (answer_place at)) (answer_fits script.tables (cursor_before script.records session place) statement fields (answer_place at))
+      answered_fits script session place h k some statement is fields at (at_fits (cursor_before script.records session place) statement fields) (answer_place at)
+      (answer_guess script.tables (asked_by (cursor_before script.records session place) statement) fields (answer_place at))
+      (answer_fits script.tables (cursor_before script.records session place) statement fields (answer_place at))
 
   report_fits : Fits script (sweep_line 0 (natural_at fields 1) (sweep_guess fields 2))
   report_fits = record { session = omega arith; place = number_fits fields 1; reply = record { at = refl; answer = sweep_fits fields 2; number = refl } }
@@ -230,7 +246,8 @@ FitsTold told = Fits32 told.session × Fits64 told.number
 
 pub data FitsNext (script : Script) : Open → Piece → Type 0 where
   comes_first : (state : Open) (next : Piece) → IsFree state → FitsFirst script next → FitsNext script state next
-  comes_row : (session place : ℕ) (at : Option ℕ) (table : TableId) (left : ℕ) (rows : List (ℕ × List Value)) (key : ℕ) (values : List Value) → 0 < left → FitsKey script.tables table (key, values) → FitsNext script (opens.Scan session place at table left rows) (piece.Row session place key values)
+  comes_row : (session place : ℕ) (at : Option ℕ) (table : TableId) (left : ℕ) (rows : List (ℕ × List Value)) (key : ℕ) (values : List Value) → 0 < left →
+      FitsKey script.tables table (key, values) → FitsNext script (opens.Scan session place at table left rows) (piece.Row session place key values)
   comes_held : (session place : ℕ) (sweep : Sweep) (told : Told) → FitsTold told → FitsNext script (opens.Sweep session place sweep) (piece.Held session place told)
   comes_total : (index : ℕ) (totals : Totals) (number : ℕ) → index < 6 → Fits64 number → FitsNext script (opens.Totals index totals) (piece.Total index number)
 
@@ -251,10 +268,13 @@ module _ (script : Script) (fields : List Field) where
 
   pub guess_fits : (state : Open) → IfSome (guess_after script state fields) (FitsNext script state)
   guess_fits opens.Nothing = first_fits opens.Nothing tt
-  guess_fits (opens.Scan session place at table left rows) = cond_both (nat_lt 0 left) (row_guess script.tables session place table fields) (first_guess script fields) (λ (o : Option Piece). IfSome o (FitsNext script (opens.Scan session place at table left rows)))
+  guess_fits (opens.Scan session place at table left rows) = cond_both (nat_lt 0 left) (row_guess script.tables session place table fields) (first_guess script fields)
+      (λ (o : Option Piece). IfSome o (FitsNext script (opens.Scan session place at table left rows)))
       (λ e. row_guess_fits session place at table left rows (ltb-true 0 left e) _ (row_fits fields 4 (kinds_of script.tables table)))
       (λ e. first_fits (opens.Scan session place at table left rows) (grind (arith, nat_tests, e)))
-  guess_fits (opens.Sweep session place sweep) = cond_both (says fields 2 (codes "held")) (Some (held_guess session place fields)) (first_guess script fields) (λ (o : Option Piece). IfSome o (FitsNext script (opens.Sweep session place sweep)))
+  guess_fits (opens.Sweep session place sweep) = cond_both (says fields 2 (codes "held")) (Some (held_guess session place fields)) (first_guess script fields)
+      (λ (o : Option Piece). IfSome o (FitsNext script (opens.Sweep session place sweep)))
       (λ e. comes_held session place sweep _ (session_fits fields 3, number_fits fields 4)) (λ e. first_fits (opens.Sweep session place sweep) tt)
-  guess_fits (opens.Totals index totals) = cond_both (nat_lt index 6) (Some (piece.Total index (natural_at fields 2))) None (λ (o : Option Piece). IfSome o (FitsNext script (opens.Totals index totals)))
+  guess_fits (opens.Totals index totals) = cond_both (nat_lt index 6) (Some (piece.Total index (natural_at fields 2))) None
+      (λ (o : Option Piece). IfSome o (FitsNext script (opens.Totals index totals)))
       (λ e. comes_total index totals (natural_at fields 2) (ltb-true index 6 e) (number_fits fields 2)) (λ e. tt)

@@ -115,7 +115,8 @@ module _ (script : Script) where
   abbrev pub printed : List Line → Totals → Printed
   printed lines totals = record { lines = lines; totals = totals }
 
-  pub is_text : (bytes : List ℕ) (records : Records) (lines : List Line) (totals : Totals) → Runs script at_start records (finished lines totals) → bytes ≡ bytes_of records → IsTextOf script bytes (printed lines totals)
+  pub is_text : (bytes : List ℕ) (records : Records) (lines : List Line) (totals : Totals) → Runs script at_start records (finished lines totals) → bytes ≡ bytes_of records →
+      IsTextOf script bytes (printed lines totals)
   is_text bytes records lines totals h e =
       let whole = whole_text script lines totals records (runs_stand script at_start (finished lines totals) [] records (at_start_stands script) h) in
       record { fits = whole.0; text = e ∙ ap bytes_of whole.1 }
@@ -124,10 +125,12 @@ module _ (script : Script) where
       → (other : Printed) → IsTextOf script bytes other → other ≡ printed lines totals
   is_only_text lawful bytes records lines totals h e other k =
       let runs = text_runs script other lawful k.fits in
-      let end = ends at_start (finished lines totals) (finished other.lines other.totals) records (text_records script other) [] h runs (none_next_of_none _ [] refl) (append-nil (bytes_of records) ∙ sym e ∙ k.text) in
+      let end = ends at_start (finished lines totals) (finished other.lines other.totals) records (text_records script other) [] h runs (none_next_of_none _ [] refl)
+      (append-nil (bytes_of records) ∙ sym e ∙ k.text) in
       ap printed_of (sym end.state)
 
-  pub is_refused : IsLawful script → (bytes rest : List ℕ) (records : Records) (state : Progress) (line : ℕ) → Runs script at_start records state → bytes ≡ bytes_of records ++ rest → suc (length records) ≡ line → NoNext state rest
+  pub is_refused : IsLawful script → (bytes rest : List ℕ) (records : Records) (state : Progress) (line : ℕ) → Runs script at_start records state →
+      bytes ≡ bytes_of records ++ rest → suc (length records) ≡ line → NoNext state rest
       → ((lines : List Line) (totals : Totals) → rest ≡ [] → state ≡ finished lines totals → ⊥) → IsRefusedAt script bytes line
   is_refused lawful bytes rest records state line h e count none unfinished =
       let begun = runs_begin script state records h in

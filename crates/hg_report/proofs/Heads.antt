@@ -13,7 +13,8 @@ use Rattle.hg_base.specs.declared.line.Answer.{Answer}
 use Rattle.hg_base.specs.declared.line.Answer.TheVariants.{Begun, Stored, Found, Nothing, Gone, Rows, Committed, Ended, Undone, Newer, OpenBy, Undeclared, Swept, Beside}
 use Rattle.hg_base.specs.declared.value.Value.{Value}
 use Rattle.hg_base.specs.Script.{Declaration}
-use Rattle.hg_base.specs.Text.{Field, Fits64, FitsRefusal, FitsBegin, FitsGet, FitsPut, FitsDel, FitsScan, FitsFetch, FitsClose, FitsCommit, FitsRollback, FitsSweep, FitsGc, FitsAnswer, answer_fields, kind_word, told_as, kinds_of, value_field, is_write}
+use Rattle.hg_base.specs.Text.{Field, Fits64, FitsRefusal, FitsBegin, FitsGet, FitsPut, FitsDel, FitsScan, FitsFetch, FitsClose, FitsCommit, FitsRollback, FitsSweep, FitsGc, FitsAnswer}
+use Rattle.hg_base.specs.Text.{answer_fields, kind_word, told_as, kinds_of, value_field, is_write}
 use Rattle.hg_csv.specs.Bytes.{field_bytes}
 use Rattle.hg_report.specs.Fields.{nth, natural_at}
 use Rattle.hg_records.specs.Asked.{asked_by}
@@ -58,7 +59,8 @@ module _ (tables : List Declaration) (fields : List Field) (i : ℕ) (tail : Lis
   Answers answer = AreFrom fields i (answer_fields tables answer ++ tail)
 
   pub sweep_read : (sweep : Sweep) → Answers (Swept sweep) → FitsSweep sweep → sweep_guess fields i ≡ record sweep { held = [] }
-  sweep_read sweep are h = same_make _ _ _ _ _ _ _ _ (kind_read fields (i + 1) sweep.kind (are.later 1)) (number_read fields (i + 2) sweep.mark h.0 (are.later 2)) (number_read fields (i + 3) sweep.horizon h.1 (are.later 3)) (number_read fields (i + 4) sweep.removed h.2 (are.later 4))
+  sweep_read sweep are h = same_make _ _ _ _ _ _ _ _ (kind_read fields (i + 1) sweep.kind (are.later 1)) (number_read fields (i + 2) sweep.mark h.0 (are.later 2))
+      (number_read fields (i + 3) sweep.horizon h.1 (are.later 3)) (number_read fields (i + 4) sweep.removed h.2 (are.later 4))
 
   same_writer : (a b : ℕ) (writer : Writer) → a ≡ writer.session → b ≡ writer.transaction → OpenBy (record { session = a; transaction = b }) ≡ OpenBy writer
   same_writer a b writer e f = ap (λ x. OpenBy (record { session = x; transaction = b })) e ∙ ap (λ x. OpenBy (record { session = writer.session; transaction = x })) f
@@ -81,7 +83,8 @@ module _ (tables : List Declaration) (fields : List Field) (i : ℕ) (tail : Lis
   refusal_read : (table : TableId) (answer : Answer) → Answers answer → FitsRefusal table answer → refusal_guess table fields i ≡ answer
   unfolding field_bytes
   refusal_read table (Newer c) are h = rw (are.later 1) (ap Newer (number_read fields (i + 2) c h (are.later 2)))
-  refusal_read table (OpenBy writer) are h = rw (are.later 1) (same_writer _ _ writer (session_read fields (i + 2) writer.session h.0 (are.later 2)) (number_read fields (i + 3) writer.transaction h.1 (are.later 3)))
+  refusal_read table (OpenBy writer) are h = rw (are.later 1) (same_writer _ _ writer (session_read fields (i + 2) writer.session h.0 (are.later 2))
+      (number_read fields (i + 3) writer.transaction h.1 (are.later 3)))
   refusal_read table (Undeclared other) are h = rw (are.later 1) (undeclared table other h)
   refusal_read table answer are h = absurd h
 
@@ -151,7 +154,8 @@ module _ (tables : List Declaration) (fields : List Field) (i : ℕ) (tail : Lis
   gc_read (Swept sweep) are h = rw are.first (ap Swept (sweep_read sweep are h))
   gc_read answer are h = absurd h
 
-  pub answer_read : (cursor : Option TableId) (statement : Statement) (answer : Answer) → Answers answer → HasColumns tables cursor statement → FitsAnswer tables cursor statement answer → answer_guess tables (asked_by cursor statement) fields i ≡ Some (emptied answer)
+  pub answer_read : (cursor : Option TableId) (statement : Statement) (answer : Answer) → Answers answer → HasColumns tables cursor statement →
+      FitsAnswer tables cursor statement answer → answer_guess tables (asked_by cursor statement) fields i ≡ Some (emptied answer)
   answer_read cursor (Begin scope) answer are few h = begin_read answer are h
   answer_read cursor (Get r) answer are few h = get_read r.table answer are few.0 h
   answer_read cursor (Put r row) answer are few h = ap Some (put_read r.table answer are h)
@@ -165,7 +169,8 @@ module _ (tables : List Declaration) (fields : List Field) (i : ℕ) (tail : Lis
   answer_read cursor (Gc kind) answer are few h = ap Some (gc_read answer are h)
 
 -- the commit number behind a stored write
-pub number_behind : (tables : List Declaration) (fields : List Field) (i : ℕ) (answer : Answer) (number : Option ℕ) → Answers tables fields i (told_as (codes "committed") number) answer → IfSome number (λ c. Fits64 c × IsTrue (is_write answer))
+pub number_behind : (tables : List Declaration) (fields : List Field) (i : ℕ) (answer : Answer) (number : Option ℕ) →
+    Answers tables fields i (told_as (codes "committed") number) answer → IfSome number (λ c. Fits64 c × IsTrue (is_write answer))
     → number_guess answer fields i ≡ number
 unfolding field_bytes
 number_behind tables fields i Stored None are h = rw (are.later 1) refl

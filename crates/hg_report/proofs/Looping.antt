@@ -23,7 +23,8 @@ pub record HasTaken (script : Script) (old new : Progress) (bytes rest : List �
   pub split : bytes ≡ record_bytes fields ++ rest
   pub some : 0 < length (record_bytes fields)
 
-pub has_taken : (script : Script) (old new : Progress) (stood : List Field) (bytes rest : List ℕ) → stood ≡ parted false [] bytes → Takes script old stood bytes new (Some rest) → HasTaken script old new bytes rest
+pub has_taken : (script : Script) (old new : Progress) (stood : List Field) (bytes rest : List ℕ) → stood ≡ parted false [] bytes → Takes script old stood bytes new (Some rest) →
+    HasTaken script old new bytes rest
 has_taken script old new stood bytes rest part (next, guess, split, new_is) =
     let is : stood ≡ standing (piece_fields script.tables next) = part ∙ ap (parted false []) split ∙ parted_piece script.tables next rest in
     record {
@@ -43,7 +44,8 @@ module _ (script : Script) where
     pub runs : Runs script at_start records progress
     pub split : bytes ≡ bytes_of records ++ rest
 
-  pub stood_more : (records : List (List Field)) (old new : Progress) (bytes rest more : List ℕ) → Runs script at_start records old → bytes ≡ bytes_of records ++ rest → (took : HasTaken script old new rest more)
+  pub stood_more : (records : List (List Field)) (old new : Progress) (bytes rest more : List ℕ) → Runs script at_start records old → bytes ≡ bytes_of records ++ rest →
+      (took : HasTaken script old new rest more)
       → Stood (records ++ took.fields ∷ []) new bytes more
   stood_more records old new bytes rest more h split took = record {
     runs = runs_append script at_start old new records (took.fields ∷ []) h (took.next, took.is, took.new_is);

@@ -1,5 +1,6 @@
 -- The bytes of a record are parted into its fields, as they stand.
-use Rattle.std.proofs.Common.{◌≡◌, ◌<◌, ◌≤◌, ◌+◌, ◌-◌, ◌∙◌, ℕ, List, [], ◌∷◌, ◌++◌, ◌==◌, ◌&&◌, ◌⊎◌, Bool, not, length, take, drop, get_or, true, false, inl, inr, refl, sym, ap, subst, append_assoc, append-nil, length-drop, get_or-drop, arith}
+use Rattle.std.proofs.Common.{◌≡◌, ◌<◌, ◌≤◌, ◌+◌, ◌-◌, ◌∙◌, ℕ, List, [], ◌∷◌, ◌++◌, ◌==◌, ◌&&◌, ◌⊎◌, Bool, not, length, take, drop, get_or, true, false, inl, inr, refl, sym, ap, subst}
+use Rattle.std.proofs.Common.{append_assoc, append-nil, length-drop, get_or-drop, arith}
 use Rattle.std.specs.Prelude.{if◌then◌else◌}
 use Rattle.std.specs.Borrow.{Bor}
 use Rattle.std.specs.List.{flat_map, list_any}
@@ -153,7 +154,8 @@ module _ (old new : List Field) (bytes : List ℕ) (a i : ℕ) (quoted : Bool) (
   pub closed_at_comma : i < length bytes → get_or bytes i 0 ≡ 44 → quoted ≡ false → So (quoted_behind quoted (get_or bytes i 0)) (new) bytes (i + 1) (i + 1)
   closed_at_comma within h out =
       ap (λ q. new ++ parted q (between bytes (i + 1) (i + 1)) (drop (i + 1) bytes)) (ap (quoted_behind quoted) h ∙ out)
-      ∙ ap (λ w. new ++ parted false w (drop (i + 1) bytes)) (between_none bytes (i + 1)) ∙ closed (parted false [] (drop (i + 1) bytes)) (parted_at_comma quoted (between bytes a i) bytes i within h out)
+      ∙ ap (λ w. new ++ parted false w (drop (i + 1) bytes)) (between_none bytes (i + 1)) ∙
+      closed (parted false [] (drop (i + 1) bytes)) (parted_at_comma quoted (between bytes a i) bytes i within h out)
 
 apart : (quoted : Bool) (b k : ℕ) → (b ≡ k → quoted ≡ false → ⊥) → (not quoted && (b == k)) ≡ false
 apart true b k h = refl

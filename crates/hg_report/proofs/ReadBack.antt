@@ -52,15 +52,18 @@ value_read : (value : Value) → FitsValue value → value_in (kind_of value) (f
 value_read (Number v) h = ap (λ text. Number (integer_value (integer_of text))) (value_bytes v) ∙ ap Number (integer_text v h)
 value_read (Text t) h = ap (λ text. Text (take MOST_TEXT_BYTES text)) (text_back t) ∙ ap Text (take_all MOST_TEXT_BYTES t h)
 
-values_read : (fields : List Field) (i : ℕ) (row : List Value) → Each FitsValue row → ((k : ℕ) → k < length row → nth fields (i + k) ≡ field_bytes (nth (map value_field row) k)) → values_in fields i (map kind_of row) ≡ row
+values_read : (fields : List Field) (i : ℕ) (row : List Value) → Each FitsValue row → ((k : ℕ) → k < length row → nth fields (i + k) ≡ field_bytes (nth (map value_field row) k)) →
+    values_in fields i (map kind_of row) ≡ row
 unfolding values_in
 values_read fields i [] h are = refl
 values_read fields i (value ∷ row) h are =
     let here : i + 0 ≡ i = omega arith in
-    let first : value_in (kind_of value) (nth fields i) ≡ value = ap (λ k. value_in (kind_of value) (nth fields k)) (sym here) ∙ ap (value_in (kind_of value)) (are 0 (omega arith)) ∙ value_read value h.0 in
+    let first : value_in (kind_of value) (nth fields i) ≡ value = ap (λ k. value_in (kind_of value) (nth fields k)) (sym here) ∙
+    ap (value_in (kind_of value)) (are 0 (omega arith)) ∙ value_read value h.0 in
     let others = values_read fields (i + 1) row h.1 (λ k less. let next : (i + 1) + k ≡ i + suc k = omega arith in ap (nth fields) next ∙ are (suc k) (omega (arith, less))) in
     ap (λ v. v ∷ values_in fields (i + 1) (map kind_of row)) first ∙ ap (λ vs. value ∷ vs) others
 
-pub row_read : (fields : List Field) (i : ℕ) (kinds : List Column) (row : List Value) → FitsColumns kinds row → AreFew kinds → ((k : ℕ) → k < length row → nth fields (i + k) ≡ field_bytes (nth (map value_field row) k)) → row_in fields i kinds ≡ Some row
+pub row_read : (fields : List Field) (i : ℕ) (kinds : List Column) (row : List Value) → FitsColumns kinds row → AreFew kinds →
+    ((k : ℕ) → k < length row → nth fields (i + k) ≡ field_bytes (nth (map value_field row) k)) → row_in fields i kinds ≡ Some row
 row_read fields i kinds row h few are =
     rw (le-leb 1 (length kinds) few.some, le-leb (length kinds) MOST_COLUMNS few.most) (ap Some (ap (values_in fields i) (sym h.0) ∙ values_read fields i row h.1 are))

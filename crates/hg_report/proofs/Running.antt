@@ -1,5 +1,6 @@
 -- The records of a text that fits are taken one by one, and give what was printed.
-use Rattle.std.proofs.Common.{◌≡◌, ◌<◌, ◌+◌, ◌-◌, ◌∙◌, ℕ, suc, List, [], ◌∷◌, ◌++◌, length, map, Bool, true, false, ◌==◌, ◌&&◌, Option, Some, None, nat_lt, refl, sym, ap, subst, append_assoc, inl, inr, arith}
+use Rattle.std.proofs.Common.{◌≡◌, ◌<◌, ◌+◌, ◌-◌, ◌∙◌, ℕ, suc, List, [], ◌∷◌, ◌++◌, length, map, Bool, true, false, ◌==◌, ◌&&◌, Option, Some, None, nat_lt, refl, sym, ap, subst}
+use Rattle.std.proofs.Common.{append_assoc, inl, inr, arith}
 use Rattle.std.specs.Prelude.{IsTrue, IfSome, MatchOption, codes, decimal, is_some, is_none, option_map, option_and_then, bytes_eq, if◌then◌else◌}
 use Rattle.std.specs.List.{flat_map}
 use Rattle.std.proofs.lemmas.Bool.{false≢true, cond-false, cond-true, MatchBool-at_true, MatchBool-at_false, eqb-true, lt-ltb, cases_Bool}
@@ -19,7 +20,8 @@ use Rattle.hg_base.specs.declared.value.Value.{Value}
 use Rattle.hg_base.specs.Lists.{Each}
 use Rattle.hg_base.specs.Script.{Declaration, Script}
 use Rattle.hg_base.specs.Transcript.{table_of}
-use Rattle.hg_base.specs.Text.{Field, Fits64, Fits32, Fits, FitTotals, IsFit, FitsAnswer, FitsReply, FitsReport, FitsSweep, asked, cursor_before, kinds_of, answer_fields, held_fields, row_fields, told_as, value_field, line_records, total_fields, totals_records, text_records, is_write}
+use Rattle.hg_base.specs.Text.{Field, Fits64, Fits32, Fits, FitTotals, IsFit, FitsAnswer, FitsReply, FitsReport, FitsSweep, asked, cursor_before, kinds_of, answer_fields, held_fields}
+use Rattle.hg_base.specs.Text.{row_fields, told_as, value_field, line_records, total_fields, totals_records, text_records, is_write}
 use Rattle.hg_base.proofs.TextNumbers.{number_is_no_word}
 use Rattle.hg_base.proofs.TextReplies.{answer_begins, behind_at}
 use Rattle.hg_script.specs.Lawful.{IsLawful}
@@ -80,7 +82,8 @@ and_none true = refl
 and_none false = refl
 
 -- the first record of a scan's rows has no number behind it
-scan_head : (session place left : ℕ) (at : Option ℕ) → behind session place (told_as (codes "at") at ++ codes "rows" ∷ decimal left ∷ []) ≡ behind session place ((told_as (codes "at") at ++ codes "rows" ∷ decimal left ∷ []) ++ [])
+scan_head : (session place left : ℕ) (at : Option ℕ) → behind session place (told_as (codes "at") at ++ codes "rows" ∷ decimal left ∷ []) ≡ behind session place
+    ((told_as (codes "at") at ++ codes "rows" ∷ decimal left ∷ []) ++ [])
 scan_head session place left None = refl
 scan_head session place left (Some s) = refl
 
@@ -89,16 +92,19 @@ record ScanFacts (tables : List Declaration) (table : TableId) (rows : List (ℕ
   many : Fits64 (length rows)
   each : Each (FitsKey tables table) rows
 
-fetch_facts : (tables : List Declaration) (cursor : Option TableId) (n : ℕ) (rows : List (ℕ × List Value)) → FitsAnswer tables cursor (Fetch n) (Rows rows) → HasColumns tables cursor (Fetch n) → ScanFacts tables (the_table (asked_by cursor (Fetch n))) rows
+fetch_facts : (tables : List Declaration) (cursor : Option TableId) (n : ℕ) (rows : List (ℕ × List Value)) → FitsAnswer tables cursor (Fetch n) (Rows rows) →
+    HasColumns tables cursor (Fetch n) → ScanFacts tables (the_table (asked_by cursor (Fetch n))) rows
 fetch_facts tables None n rows h few = absurd h
 fetch_facts tables (Some table) n rows h few = record { few = few.1; many = h.0; each = h.1 }
 
-scan_facts : (tables : List Declaration) (cursor : Option TableId) (statement : Statement) (rows : List (ℕ × List Value)) → FitsAnswer tables cursor statement (Rows rows) → HasColumns tables cursor statement → ScanFacts tables (the_table (asked_by cursor statement)) rows
+scan_facts : (tables : List Declaration) (cursor : Option TableId) (statement : Statement) (rows : List (ℕ × List Value)) → FitsAnswer tables cursor statement (Rows rows) →
+    HasColumns tables cursor statement → ScanFacts tables (the_table (asked_by cursor statement)) rows
 scan_facts tables cursor (Scan table low high) rows h few = record { few = few.0; many = h.0; each = h.1 }
 scan_facts tables cursor (Fetch n) rows h few = fetch_facts tables cursor n rows h few
 scan_facts tables cursor statement rows h few = absurd h
 
-sweep_facts : (tables : List Declaration) (cursor : Option TableId) (statement : Statement) (sweep : Sweep) → FitsAnswer tables cursor statement (Swept sweep) → FitsSweep sweep × (table_of statement ≡ None)
+sweep_facts : (tables : List Declaration) (cursor : Option TableId) (statement : Statement) (sweep : Sweep) → FitsAnswer tables cursor statement (Swept sweep) → FitsSweep sweep ×
+    (table_of statement ≡ None)
 sweep_facts tables cursor (Gc kind) sweep h = (h, refl)
 sweep_facts tables cursor (Fetch n) sweep h = absurd (fetch_no_sweep tables cursor n sweep h)
 sweep_facts tables cursor statement sweep h = absurd h
@@ -123,8 +129,12 @@ module _ (script : Script) where
   total_step lines index number t rest end h k runs =
       let fields = total_fields (total_word index) number in
       let guess : guess_after script (opens.Totals index t) (standing fields) ≡ Some (piece.Total index number) =
-      rw (lt-ltb index 6 h) (ap (λ n. Some (piece.Total index n)) (number_read (standing fields) 2 number k refl)) in
-      (piece.Total index number, record { guess = guess; is = refl }, subst (λ (lines : List Line). Runs script (telling lines (index + 1) (with_total index number t)) rest end) (sym (append-nil lines)) runs)
+      rw (lt-ltb index 6 h) (ap (λ n. Some (piece.Total index n)) (number_read (standing fields) 2 number k refl)) in (
+        piece.Total index number,
+        record { guess = guess; is = refl },
+        subst (λ (lines : List Line). Runs script (telling lines (index + 1) (with_total index number t)) rest end)
+            (sym (append-nil lines)) runs,
+      )
 
   total_first : (progress : Progress) (number : ℕ) (rest : List (List Field)) (end : Progress) → IsFree progress.last → Fits64 number
       → Runs script (telling (lines_of progress) 1 (with_total 0 number no_totals)) rest end → Runs script progress (total_fields (codes "made") number ∷ rest) end
@@ -132,8 +142,13 @@ module _ (script : Script) where
   total_first progress number rest end free k runs =
       let fields = total_fields (codes "made") number in
       let guess : guess_after script progress.last (standing fields) ≡ Some (piece.Total 0 number) =
-      free_guess script progress.last (standing fields) free (says_no fields 2 104 _ refl (number_is_no_word number 104 _ k (omega arith))) ∙ ap (λ n. Some (piece.Total 0 n)) (number_read (standing fields) 2 number k refl) in
-      (piece.Total 0 number, record { guess = guess; is = refl }, subst (λ (t : Totals). Runs script (telling (lines_of progress) 1 (with_total 0 number t)) rest end) (sym (free_totals progress.last free)) runs)
+      free_guess script progress.last (standing fields) free (says_no fields 2 104 _ refl (number_is_no_word number 104 _ k (omega arith))) ∙
+      ap (λ n. Some (piece.Total 0 n)) (number_read (standing fields) 2 number k refl) in (
+        piece.Total 0 number,
+        record { guess = guess; is = refl },
+        subst (λ (t : Totals). Runs script (telling (lines_of progress) 1 (with_total 0 number t)) rest end)
+            (sym (free_totals progress.last free)) runs,
+      )
 
   totals_run : (progress : Progress) (t : Totals) → IsFree progress.last → FitTotals t → Runs script progress (totals_records t) (telling (lines_of progress) 6 t)
   totals_run progress t free h =
@@ -143,9 +158,12 @@ module _ (script : Script) where
       let r5 = total_step lines 5 t.left (some t.made t.undone t.group t.table t.interval 0) [] end (omega arith) h.left refl in
       let r4 = total_step lines 4 t.interval (some t.made t.undone t.group t.table 0 0) (total_fields (codes "left") t.left ∷ []) end (omega arith) h.interval r5 in
       let r3 = total_step lines 3 t.table (some t.made t.undone t.group 0 0 0) (total_fields (codes "interval") t.interval ∷ total_fields (codes "left") t.left ∷ []) end (omega arith) h.table r4 in
-      let r2 = total_step lines 2 t.group (some t.made t.undone 0 0 0 0) (total_fields (codes "table") t.table ∷ total_fields (codes "interval") t.interval ∷ total_fields (codes "left") t.left ∷ []) end (omega arith) h.group r3 in
-      let r1 = total_step lines 1 t.undone (some t.made 0 0 0 0 0) (total_fields (codes "group") t.group ∷ total_fields (codes "table") t.table ∷ total_fields (codes "interval") t.interval ∷ total_fields (codes "left") t.left ∷ []) end (omega arith) h.undone r2 in
-      total_first progress t.made (total_fields (codes "undone") t.undone ∷ total_fields (codes "group") t.group ∷ total_fields (codes "table") t.table ∷ total_fields (codes "interval") t.interval ∷ total_fields (codes "left") t.left ∷ []) end free h.made r1
+      let r2 = total_step lines 2 t.group (some t.made t.undone 0 0 0 0) (total_fields (codes "table") t.table ∷ total_fields (codes "interval") t.interval ∷ total_fields
+      (codes "left") t.left ∷ []) end (omega arith) h.group r3 in
+      let r1 = total_step lines 1 t.undone (some t.made 0 0 0 0 0) (total_fields (codes "group") t.group ∷ total_fields (codes "table") t.table ∷ total_fields
+      (codes "interval") t.interval ∷ total_fields (codes "left") t.left ∷ []) end (omega arith) h.undone r2 in
+      total_first progress t.made (total_fields (codes "undone") t.undone ∷ total_fields (codes "group") t.group ∷ total_fields (codes "table") t.table ∷ total_fields
+      (codes "interval") t.interval ∷ total_fields (codes "left") t.left ∷ []) end free h.made r1
 
   -- ---- rows and held snapshots
 
@@ -159,7 +177,8 @@ module _ (script : Script) where
       let values = row_read stood 4 (kinds_of script.tables table) p.1 h.1 few (λ k less. four_behind _ _ _ _ (map value_field p.1) k) in
       ap (λ o. option_map (λ row. piece.Row session place (natural_at stood 3) row) o) values ∙ ap (λ k. Some (piece.Row session place k p.1)) (number_read stood 3 p.0 h.0 refl)
 
-  rows_run : (lines : List Line) (session place : ℕ) (at : Option ℕ) (table : TableId) (done rows : List (ℕ × List Value)) → AreFew (kinds_of script.tables table) → Each (FitsKey script.tables table) rows
+  rows_run : (lines : List Line) (session place : ℕ) (at : Option ℕ) (table : TableId) (done rows : List (ℕ × List Value)) → AreFew (kinds_of script.tables table) →
+      Each (FitsKey script.tables table) rows
       → Runs script (scanning lines session place at table (length rows) done) (row_records session place rows) (scanning lines session place at table 0 (done ++ rows))
   rows_run lines session place at table done [] few h = ap (scanning lines session place at table 0) (append-nil done)
   rows_run lines session place at table done (p ∷ ps) few h =
@@ -171,7 +190,8 @@ module _ (script : Script) where
         piece.Row session place p.0 p.1,
         record { guess = guess; is = refl },
         subst (λ (n : ℕ). Runs script (scanning lines session place at table n (done ++ p ∷ [])) (row_records session place ps) (scanning lines session place at table 0 (done ++ p ∷ ps))) (sym count)
-            (subst (λ (rows : List (ℕ × List Value)). Runs script (scanning lines session place at table (length ps) (done ++ p ∷ [])) (row_records session place ps) (scanning lines session place at table 0 rows)) (append_assoc done (p ∷ []) ps) rest),
+            (subst (λ (rows : List (ℕ × List Value)). Runs script (scanning lines session place at table (length ps) (done ++ p ∷ [])) (row_records session place ps)
+            (scanning lines session place at table 0 rows)) (append_assoc done (p ∷ []) ps) rest),
       )
 
   abbrev reporting : List Line → ℕ → ℕ → Sweep → List Told → Progress
@@ -183,12 +203,14 @@ module _ (script : Script) where
   held_run lines session place sweep done [] h = ap (reporting lines session place sweep) (append-nil done)
   held_run lines session place sweep done (told ∷ others) h =
       let fields = standing (behind session place (held_fields told)) in
-      let told_same = same_told (session_in fields 3) told.session (natural_at fields 4) told.number (says fields 5 (codes "moved")) told.moved (session_read fields 3 told.session h.0.0 refl) (number_read fields 4 told.number h.0.1 refl) (moved_read told.moved) in
+      let told_same = same_told (session_in fields 3) told.session (natural_at fields 4) told.number (says fields 5 (codes "moved")) told.moved
+      (session_read fields 3 told.session h.0.0 refl) (number_read fields 4 told.number h.0.1 refl) (moved_read told.moved) in
       let guess : guess_after script (opens.Sweep session place (record sweep { held = done })) fields ≡ Some (piece.Held session place told) = ap (λ t. Some (piece.Held session place t)) told_same in
       let rest = held_run lines session place sweep (done ++ told ∷ []) others h.1 in (
         piece.Held session place told,
         record { guess = guess; is = refl },
-        subst (λ (held : List Told). Runs script (reporting lines session place sweep (done ++ told ∷ [])) (map (behind session place) (map held_fields others)) (reporting lines session place sweep held)) (append_assoc done (told ∷ []) others) rest,
+        subst (λ (held : List Told). Runs script (reporting lines session place sweep (done ++ told ∷ [])) (map (behind session place) (map held_fields others))
+            (reporting lines session place sweep held)) (append_assoc done (told ∷ []) others) rest,
       )
 
   -- ---- a line
@@ -214,7 +236,8 @@ module _ (script : Script) where
       free_guess script progress.last (stood line) free (says_no (head_fields line) 2 104 _ refl no_held) ∙ cond-false _ _ _ no_total
 
   -- a report
-  sweep_runs : (progress : Progress) (session place : ℕ) (sweep : Sweep) → guess_after script progress.last (stood (sweep_line session place sweep)) ≡ Some (piece.Sweep session place (record sweep { held = [] })) → FitsSweep sweep
+  sweep_runs : (progress : Progress) (session place : ℕ) (sweep : Sweep) → guess_after script progress.last (stood (sweep_line session place sweep)) ≡ Some
+      (piece.Sweep session place (record sweep { held = [] })) → FitsSweep sweep
       → LineRuns progress (sweep_line session place sweep)
   sweep_runs progress session place sweep guess h = record {
     end = reporting (lines_of progress) session place sweep sweep.held;
@@ -224,7 +247,8 @@ module _ (script : Script) where
   }
 
   report_runs : (progress : Progress) (session place : ℕ) (at : Option ℕ) (answer : Answer) (number : Option ℕ) → IsFree progress.last → (session == 0) ≡ true → Fits64 place
-      → IsTrue (is_none at) → FitsReport answer → IsTrue (is_none number) → LineRuns progress (record { session = session; place = place; reply = record { at = at; answer = answer; number = number } })
+      → IsTrue (is_none at) → FitsReport answer → IsTrue (is_none number) →
+      LineRuns progress (record { session = session; place = place; reply = record { at = at; answer = answer; number = number } })
   report_runs progress session place (Some s) answer number free zeroth wide a h n = absurd (false≢true a)
   report_runs progress session place None answer (Some c) free zeroth wide a h n = absurd (false≢true n)
   report_runs progress session place None (Swept sweep) None free zeroth wide a h n =
@@ -242,7 +266,8 @@ module _ (script : Script) where
       sweep_runs progress session place sweep guess h
   report_runs progress session place None answer None free zeroth wide a h n = absurd h
 
-  module _ (progress : Progress) (free : IsFree progress.last) (session place : ℕ) (small : Fits32 session) (wide : Fits64 place) (some : (session == 0) ≡ false) (statement : Statement) (is : statement_at script.records session place ≡ Some statement) (few : HasColumns script.tables (cursor_before script.records session place) statement) where
+  module _ (progress : Progress) (free : IsFree progress.last) (session place : ℕ) (small : Fits32 session) (wide : Fits64 place) (some : (session == 0) ≡ false)
+      (statement : Statement) (is : statement_at script.records session place ≡ Some statement) (few : HasColumns script.tables (cursor_before script.records session place) statement) where
     abbrev line_of : Option ℕ → Answer → Option ℕ → Line
     line_of at answer number = record { session = session; place = place; reply = record { at = at; answer = answer; number = number } }
 
@@ -253,10 +278,12 @@ module _ (script : Script) where
     unfolding field_bytes
     at_read None answer number h =
         let none = says_no (head_fields (line_of None answer number)) 2 97 _ refl (answer_begins script.tables answer (told_as (codes "committed") number)).0 in
-        cond-false _ _ _ (ap (λ b. is_some (table_asked (asked_by (cursor_before script.records session place) statement)) && b) none ∙ and_none (is_some (table_asked (asked_by (cursor_before script.records session place) statement))))
+        cond-false _ _ _ (ap (λ b. is_some (table_asked (asked_by (cursor_before script.records session place) statement)) && b) none ∙
+        and_none (is_some (table_asked (asked_by (cursor_before script.records session place) statement))))
     at_read (Some s) answer number h =
         let fields = stood (line_of (Some s) answer number) in
-        cond-true (is_some (table_asked (asked_by (cursor_before script.records session place) statement)) && true) _ _ (ap (λ b. b && true) (ap (λ (o : Option TableId). is_some o) (same_table (cursor_before script.records session place) statement) ∙ h.1)) ∙ ap Some (number_read fields 3 s h.0 refl)
+        cond-true (is_some (table_asked (asked_by (cursor_before script.records session place) statement)) && true) _ _
+        (ap (λ b. b && true) (ap (λ (o : Option TableId). is_some o) (same_table (cursor_before script.records session place) statement) ∙ h.1)) ∙ ap Some (number_read fields 3 s h.0 refl)
 
     answer_from : (at : Option ℕ) (answer : Answer) (number : Option ℕ) → Answers script.tables (stood (line_of at answer number)) (answer_place at) (told_as (codes "committed") number) answer
     answer_from None answer number =
@@ -267,7 +294,8 @@ module _ (script : Script) where
         record { first = field_stands fields 0; later = four_behind (decimal session) (decimal place) (codes "at") (decimal s) fields }
 
     replied : (at : Option ℕ) (answer : Answer) (number : Option ℕ) → IsAt at → FitsAnswer script.tables (cursor_before script.records session place) statement answer
-        → guess_after script progress.last (stood (line_of at answer number)) ≡ Some (piece_of (asked_by (cursor_before script.records session place) statement) session place at (stood (line_of at answer number)) (answer_place at) (emptied answer))
+        → guess_after script progress.last (stood (line_of at answer number)) ≡ Some (piece_of (asked_by (cursor_before script.records session place) statement) session place at
+        (stood (line_of at answer number)) (answer_place at) (emptied answer))
     replied at answer number h k =
         let line = line_of at answer number in
         let fields = stood line in
@@ -280,13 +308,15 @@ module _ (script : Script) where
         ∙ ap (λ o. option_map (piece_of (asked_by (cursor_before script.records session place) statement) session place at fields (answer_place at)) o)
         (answer_read script.tables fields (answer_place at) (told_as (codes "committed") number) (cursor_before script.records session place) statement answer (answer_from at answer number) few k)
 
-    scan_line_runs : (at : Option ℕ) (rows : List (ℕ × List Value)) → IsAt at → FitsAnswer script.tables (cursor_before script.records session place) statement (Rows rows) → LineRuns progress (line_of at (Rows rows) None)
+    scan_line_runs : (at : Option ℕ) (rows : List (ℕ × List Value)) → IsAt at → FitsAnswer script.tables (cursor_before script.records session place) statement (Rows rows) →
+        LineRuns progress (line_of at (Rows rows) None)
     scan_line_runs at rows h k =
         let fields = stood (line_of at (Rows rows) None) in
         let table = the_table (asked_by (cursor_before script.records session place) statement) in
         let facts = scan_facts script.tables (cursor_before script.records session place) statement rows k few in
         let count : natural_at fields (answer_place at + 1) ≡ length rows = number_read fields (answer_place at + 1) (length rows) facts.many ((answer_from at (Rows rows) None).later 1) in
-        let guess : guess_after script progress.last fields ≡ Some (piece.Scan session place at table (length rows)) = replied at (Rows rows) None h k ∙ ap (λ n. Some (piece.Scan session place at table n)) count in
+        let guess : guess_after script progress.last fields ≡ Some (piece.Scan session place at table (length rows)) = replied at (Rows rows) None h k ∙
+        ap (λ n. Some (piece.Scan session place at table n)) count in
         let is = scan_head session place (length rows) at in
         record {
           end = scanning (lines_of progress) session place at table 0 rows;
@@ -295,7 +325,8 @@ module _ (script : Script) where
           lines = refl;
         }
 
-    short_runs : (at : Option ℕ) (answer : Answer) (number : Option ℕ) → IsShort answer → IsAt at → FitsAnswer script.tables (cursor_before script.records session place) statement answer → IfSome number (λ c. Fits64 c × IsTrue (is_write answer)) → LineRuns progress (line_of at answer number)
+    short_runs : (at : Option ℕ) (answer : Answer) (number : Option ℕ) → IsShort answer → IsAt at →
+        FitsAnswer script.tables (cursor_before script.records session place) statement answer → IfSome number (λ c. Fits64 c × IsTrue (is_write answer)) → LineRuns progress (line_of at answer number)
     short_runs at (Rows rows) number short h k m = absurd short
     short_runs at (Swept sweep) number short h k m = absurd short
     short_runs at answer number short h k m =
@@ -308,18 +339,23 @@ module _ (script : Script) where
           lines = append-nil (lines_of progress ++ line ∷ []);
         }
 
-    reply_runs : (at : Option ℕ) (answer : Answer) (number : Option ℕ) → IsAt at → FitsAnswer script.tables (cursor_before script.records session place) statement answer → IfSome number (λ c. Fits64 c × IsTrue (is_write answer)) → LineRuns progress (line_of at answer number)
+    reply_runs : (at : Option ℕ) (answer : Answer) (number : Option ℕ) → IsAt at → FitsAnswer script.tables (cursor_before script.records session place) statement answer →
+        IfSome number (λ c. Fits64 c × IsTrue (is_write answer)) → LineRuns progress (line_of at answer number)
     reply_runs at (Rows rows) None h k m = scan_line_runs at rows h k
     reply_runs at (Rows rows) (Some c) h k m = absurd (false≢true m.1)
-    reply_runs None (Swept sweep) None h k m = sweep_runs progress session place sweep (replied None (Swept sweep) None h k) (sweep_facts script.tables (cursor_before script.records session place) statement sweep k).0
-    reply_runs (Some s) (Swept sweep) number h k m = absurd (false≢true (subst (λ (o : Option TableId). IsTrue (is_some o)) (sweep_facts script.tables (cursor_before script.records session place) statement sweep k).1 h.1))
+    reply_runs None (Swept sweep) None h k m = sweep_runs progress session place sweep (replied None (Swept sweep) None h k)
+        (sweep_facts script.tables (cursor_before script.records session place) statement sweep k).0
+    reply_runs (Some s) (Swept sweep) number h k m = absurd (false≢true
+        (subst (λ (o : Option TableId). IsTrue (is_some o)) (sweep_facts script.tables (cursor_before script.records session place) statement sweep k).1 h.1))
     reply_runs at (Swept sweep) (Some c) h k m = absurd (false≢true m.1)
     reply_runs at answer number h k m = short_runs at answer number tt h k m
 
-  asked_runs : (progress : Progress) (line : Line) → IsFree progress.last → Fits32 line.session → Fits64 line.place → (line.session == 0) ≡ false → (o : Option Statement) → asked script.records line ≡ o → IfSome o (HasColumns script.tables (cursor_before script.records line.session line.place))
+  asked_runs : (progress : Progress) (line : Line) → IsFree progress.last → Fits32 line.session → Fits64 line.place → (line.session == 0) ≡ false → (o : Option Statement) →
+      asked script.records line ≡ o → IfSome o (HasColumns script.tables (cursor_before script.records line.session line.place))
       → MatchOption o ⊥ (λ statement. FitsReply script.tables (cursor_before script.records line.session line.place) statement line.reply) → LineRuns progress line
   asked_runs progress line free small wide some None is few h = absurd h
-  asked_runs progress line free small wide some (Some statement) is few h = reply_runs progress free line.session line.place small wide some statement is few line.reply.at line.reply.answer line.reply.number h.at h.answer h.number
+  asked_runs progress line free small wide some (Some statement) is few h = reply_runs progress free line.session line.place small wide some statement is few line.reply.at
+      line.reply.answer line.reply.number h.at h.answer h.number
 
   line_runs : IsLawful script → (progress : Progress) (line : Line) → IsFree progress.last → Fits script line → LineRuns progress line
   line_runs lawful progress line free h = elim (cases_Bool (line.session == 0)) [

@@ -1,5 +1,6 @@
 -- What is taken are the first records of a text: those of the lines so far, and of what is begun.
-use Rattle.std.proofs.Common.{◌≡◌, ◌<◌, ◌≤◌, ◌+◌, ◌-◌, ◌∙◌, ℕ, zero, suc, pos, List, [], ◌∷◌, ◌++◌, length, length-append, take, drop, take-append-drop, map, Bool, true, false, ◌==◌, Option, Some, None, refl, sym, ap, subst, append_assoc, arith}
+use Rattle.std.proofs.Common.{◌≡◌, ◌<◌, ◌≤◌, ◌+◌, ◌-◌, ◌∙◌, ℕ, zero, suc, pos, List, [], ◌∷◌, ◌++◌, length, length-append, take, drop, take-append-drop, map, Bool, true, false, ◌==◌, Option}
+use Rattle.std.proofs.Common.{Some, None, refl, sym, ap, subst, append_assoc, arith}
 use Rattle.std.specs.Prelude.{codes, decimal, ⊤}
 use Rattle.std.specs.List.{flat_map}
 use Rattle.std.proofs.lemmas.List.{append-nil, map-append, length-replicate}
@@ -24,7 +25,8 @@ use Rattle.hg_base.specs.declared.line.Totals.{Totals}
 use Rattle.hg_base.specs.declared.line.Printed.{Printed}
 use Rattle.hg_base.specs.Lists.{Each}
 use Rattle.hg_base.specs.Script.{Declaration, Script}
-use Rattle.hg_base.specs.Text.{Field, Fits64, Fits, FitTotals, FitsAnswer, FitsReply, IsReport, asked, cursor_before, IsFit, answer_fields, held_fields, kinds_of, row_fields, more_fields, told_as, of_line, line_records, total_fields, totals_records, text_records}
+use Rattle.hg_base.specs.Text.{Field, Fits64, Fits, FitTotals, FitsAnswer, FitsReply, IsReport, asked, cursor_before, IsFit, answer_fields, held_fields, kinds_of, row_fields, more_fields}
+use Rattle.hg_base.specs.Text.{told_as, of_line, line_records, total_fields, totals_records, text_records}
 use Rattle.hg_transcript.specs.declared.piece.Piece.{Piece}
 use Rattle.hg_transcript.specs.declared.piece.Piece.TheVariants as piece
 use Rattle.hg_report.specs.declared.progress.Open.{Open}
@@ -48,7 +50,8 @@ open_records tables (opens.Totals index totals) = take index (totals_records tot
 
 abbrev pub FitsOpen : Script → Open → Type 0
 FitsOpen script opens.Nothing = ⊤
-FitsOpen script (opens.Scan session place at table left rows) = (more : List (ℕ × List Value)) → length more ≡ left → Each (FitsKey script.tables table) more → Fits script (scan_line session place at (rows ++ more))
+FitsOpen script (opens.Scan session place at table left rows) = (more : List (ℕ × List Value)) → length more ≡ left → Each (FitsKey script.tables table) more →
+    Fits script (scan_line session place at (rows ++ more))
 FitsOpen script (opens.Sweep session place sweep) = Fits script (sweep_line session place sweep)
 FitsOpen script (opens.Totals index totals) = FitTotals totals × (index ≤ 6)
 
@@ -84,12 +87,64 @@ pub record TellsMore (index number : ℕ) (t : Totals) : Type 0 where
   pub is : take index (totals_records t) ++ total_fields (total_word index) number ∷ [] ≡ take (index + 1) (totals_records (with_total index number t))
 
 total_step : (index number : ℕ) (t : Totals) → index < 6 → FitTotals t → Fits64 number → TellsMore index number t
-total_step zero number t h fit k = record { fit = record { made = k; undone = fit.undone; group = fit.group; table = fit.table; interval = fit.interval; left = fit.left }; most = omega arith; is = refl }
-total_step (suc zero) number t h fit k = record { fit = record { made = fit.made; undone = k; group = fit.group; table = fit.table; interval = fit.interval; left = fit.left }; most = omega arith; is = refl }
-total_step (suc (suc zero)) number t h fit k = record { fit = record { made = fit.made; undone = fit.undone; group = k; table = fit.table; interval = fit.interval; left = fit.left }; most = omega arith; is = refl }
-total_step (suc (suc (suc zero))) number t h fit k = record { fit = record { made = fit.made; undone = fit.undone; group = fit.group; table = k; interval = fit.interval; left = fit.left }; most = omega arith; is = refl }
-total_step (suc (suc (suc (suc zero)))) number t h fit k = record { fit = record { made = fit.made; undone = fit.undone; group = fit.group; table = fit.table; interval = k; left = fit.left }; most = omega arith; is = refl }
-total_step (suc (suc (suc (suc (suc zero))))) number t h fit k = record { fit = record { made = fit.made; undone = fit.undone; group = fit.group; table = fit.table; interval = fit.interval; left = k }; most = omega arith; is = refl }
+total_step zero number t h fit k = record {
+  fit = record { made = k; undone = fit.undone; group = fit.group; table = fit.table; interval = fit.interval; left = fit.left };
+  most = omega arith;
+  is = refl;
+}
+total_step (suc zero) number t h fit k = record {
+  fit = record { made = fit.made; undone = k; group = fit.group; table = fit.table; interval = fit.interval; left = fit.left };
+  most = omega arith;
+  is = refl;
+}
+total_step (suc (suc zero)) number t h fit k = record {
+  fit = record {
+    made = fit.made;
+    undone = fit.undone;
+    group = k;
+    table = fit.table;
+    interval = fit.interval;
+    left = fit.left;
+  };
+  most = omega arith;
+  is = refl;
+}
+total_step (suc (suc (suc zero))) number t h fit k = record {
+  fit = record {
+    made = fit.made;
+    undone = fit.undone;
+    group = fit.group;
+    table = k;
+    interval = fit.interval;
+    left = fit.left;
+  };
+  most = omega arith;
+  is = refl;
+}
+total_step (suc (suc (suc (suc zero)))) number t h fit k = record {
+  fit = record {
+    made = fit.made;
+    undone = fit.undone;
+    group = fit.group;
+    table = fit.table;
+    interval = k;
+    left = fit.left;
+  };
+  most = omega arith;
+  is = refl;
+}
+total_step (suc (suc (suc (suc (suc zero))))) number t h fit k = record {
+  fit = record {
+    made = fit.made;
+    undone = fit.undone;
+    group = fit.group;
+    table = fit.table;
+    interval = fit.interval;
+    left = k;
+  };
+  most = omega arith;
+  is = refl;
+}
 total_step (suc (suc (suc (suc (suc (suc index)))))) number t h fit k = absurd (omega arith)
 
 pub no_totals_fit : FitTotals no_totals
@@ -105,7 +160,8 @@ with_told sweep told = record sweep { held = sweep.held ++ told ∷ [] }
 abbrev reply_of : Sweep → Reply
 reply_of sweep = record { at = None; answer = Swept sweep; number = None }
 
-held_answer : (tables : List Declaration) (cursor : Option TableId) (statement : Statement) (sweep : Sweep) (told : Told) → FitsAnswer tables cursor statement (Swept sweep) → FitsTold told → FitsAnswer tables cursor statement (Swept (with_told sweep told))
+held_answer : (tables : List Declaration) (cursor : Option TableId) (statement : Statement) (sweep : Sweep) (told : Told) → FitsAnswer tables cursor statement (Swept sweep) →
+    FitsTold told → FitsAnswer tables cursor statement (Swept (with_told sweep told))
 held_answer tables cursor (Gc kind) sweep told h k = (h.0, h.1, h.2, each-append FitsTold sweep.held (told ∷ []) h.3 (k, tt))
 held_answer tables cursor (Fetch n) sweep told h k = absurd (fetch_no_sweep tables cursor n sweep h)
 held_answer tables cursor statement sweep told h k = absurd h
@@ -198,10 +254,12 @@ module _ (script : Script) where
 
   -- ---- a row, a held snapshot, and the other totals
 
-  rows_more : (session place : ℕ) (rows : List (ℕ × List Value)) (p : ℕ × List Value) → row_records session place (rows ++ p ∷ []) ≡ row_records session place rows ++ behind session place (row_fields p) ∷ []
+  rows_more : (session place : ℕ) (rows : List (ℕ × List Value)) (p : ℕ × List Value) →
+      row_records session place (rows ++ p ∷ []) ≡ row_records session place rows ++ behind session place (row_fields p) ∷ []
   rows_more session place rows p = ap (map (behind session place)) (map-append row_fields rows (p ∷ [])) ∙ map-append (behind session place) (map row_fields rows) (row_fields p ∷ [])
 
-  held_more : (session place : ℕ) (held : List Told) (told : Told) → map (behind session place) (map held_fields (held ++ told ∷ [])) ≡ map (behind session place) (map held_fields held) ++ behind session place (held_fields told) ∷ []
+  held_more : (session place : ℕ) (held : List Told) (told : Told) → map (behind session place) (map held_fields (held ++ told ∷ [])) ≡ map (behind session place)
+      (map held_fields held) ++ behind session place (held_fields told) ∷ []
   held_more session place held told = ap (map (behind session place)) (map-append held_fields held (told ∷ [])) ∙ map-append (behind session place) (map held_fields held) (held_fields told ∷ [])
 
   each_told : (held : List Told) (told : Told) → Each FitsTold held → FitsTold told → Each FitsTold (held ++ told ∷ [])
@@ -215,19 +273,27 @@ module _ (script : Script) where
   held_reply tables false cursor (Some statement) sweep told h k = record { at = tt; answer = held_answer tables cursor statement sweep told h.answer k; number = tt }
 
   held_fits : (session place : ℕ) (sweep : Sweep) (told : Told) → Fits script (sweep_line session place sweep) → FitsTold told → Fits script (sweep_line session place (with_told sweep told))
-  held_fits session place sweep told h k = record { session = h.session; place = h.place; reply = held_reply script.tables (session == 0) (cursor_before script.records session place) (asked script.records (sweep_line session place sweep)) sweep told h.reply k }
+  held_fits session place sweep told h k = record {
+    session = h.session;
+    place = h.place;
+    reply = held_reply script.tables (session == 0) (cursor_before script.records session place) (asked script.records (sweep_line session place sweep)) sweep told h.reply k;
+  }
 
-  stepped_from : (lines : List Line) (state : Open) (records : Records) (next : Piece) → Each (Fits script) lines → FitsOpen script state → records ≡ written lines ++ open_records script.tables state → FitsNext script state next
+  stepped_from : (lines : List Line) (state : Open) (records : Records) (next : Piece) → Each (Fits script) lines → FitsOpen script state →
+      records ≡ written lines ++ open_records script.tables state → FitsNext script state next
       → Stands script (after (record { lines = lines; last = state }) next) (records ++ piece_fields script.tables next ∷ [])
   stepped_from lines _ records _ each fits is (comes_first state next free h) = first_stands lines state records next free (closed lines state records free each fits is) h
   stepped_from lines _ records _ each fits is (comes_row session place at table left rows key values some h) =
       let count : length rows + left ≡ length (rows ++ (key, values) ∷ []) + (left - 1) = simp length-append (omega arith) in record {
         lines = each;
-        last = λ more many all. subst (λ (rows : List (ℕ × List Value)). Fits script (scan_line session place at rows)) (sym (append_assoc rows ((key, values) ∷ []) more)) (fits ((key, values) ∷ more) (omega (arith, many)) (h, all));
+        last = λ more many all. subst (λ (rows : List (ℕ × List Value)). Fits script (scan_line session place at rows)) (sym (append_assoc rows ((key, values) ∷ []) more))
+            (fits ((key, values) ∷ more) (omega (arith, many)) (h, all));
         is = ap (λ all. all ++ behind session place (row_fields (key, values)) ∷ []) is
             ∙ append_assoc (written lines) (open_records script.tables (opens.Scan session place at table left rows)) (behind session place (row_fields (key, values)) ∷ [])
-            ∙ ap (λ n. written lines ++ (behind session place (told_as (codes "at") at ++ codes "rows" ∷ decimal n ∷ []) ∷ (row_records session place rows ++ behind session place (row_fields (key, values)) ∷ []))) count
-            ∙ ap (λ more. written lines ++ (behind session place (told_as (codes "at") at ++ codes "rows" ∷ decimal (length (rows ++ (key, values) ∷ []) + (left - 1)) ∷ []) ∷ more)) (sym (rows_more session place rows (key, values)));
+            ∙ ap (λ n. written lines ++ (behind session place (told_as (codes "at") at ++ codes "rows" ∷ decimal n ∷ []) ∷
+            (row_records session place rows ++ behind session place (row_fields (key, values)) ∷ []))) count
+            ∙ ap (λ more. written lines ++ (behind session place (told_as (codes "at") at ++ codes "rows" ∷ decimal (length (rows ++ (key, values) ∷ []) + (left - 1)) ∷ []) ∷
+            more)) (sym (rows_more session place rows (key, values)));
       }
   stepped_from lines _ records _ each fits is (comes_held session place sweep told h) = record {
     lines = each;
@@ -246,7 +312,8 @@ module _ (script : Script) where
             ∙ ap (λ all. written all ++ take (index + 1) (totals_records (with_total index number totals))) (sym (append-nil lines));
       }
 
-  pub stepped : (progress : Progress) (records : Records) (next : Piece) → Stands script progress records → FitsNext script progress.last next → Stands script (after progress next) (records ++ piece_fields script.tables next ∷ [])
+  pub stepped : (progress : Progress) (records : Records) (next : Piece) → Stands script progress records → FitsNext script progress.last next →
+      Stands script (after progress next) (records ++ piece_fields script.tables next ∷ [])
   stepped progress records next h k = stepped_from progress.lines progress.last records next h.lines h.last h.is k
 
   -- ---- all that is taken
@@ -307,7 +374,8 @@ module _ (script : Script) where
         more = row_records session place (fill table left) ++ totals_records no_totals;
         are = ap (λ all. all ++ totals_records no_totals) (written_more lines line)
             ∙ ap (λ all. (written lines ++ all) ++ totals_records no_totals) (scan_records script.tables session place at (rows ++ fill table left))
-            ∙ ap (λ n. (written lines ++ (behind session place (told_as (codes "at") at ++ codes "rows" ∷ decimal n ∷ []) ∷ row_records session place (rows ++ fill table left))) ++ totals_records no_totals) (sym count)
+            ∙ ap (λ n. (written lines ++ (behind session place (told_as (codes "at") at ++ codes "rows" ∷ decimal n ∷ []) ∷ row_records session place (rows ++ fill table left))) ++
+            totals_records no_totals) (sym count)
             ∙ ap (λ all. (written lines ++ (behind session place (told_as (codes "at") at ++ codes "rows" ∷ decimal (length rows + left) ∷ []) ∷ all)) ++ totals_records no_totals) all
             ∙ regroup (written lines) (open_records script.tables (opens.Scan session place at table left rows)) (row_records session place (fill table left)) (totals_records no_totals)
             ∙ ap (λ records. records ++ (row_records session place (fill table left) ++ totals_records no_totals)) (sym h.is);

@@ -15,7 +15,8 @@ use Rattle.hg_report.proofs.Fitting.{FitsFirst, FitsNext, comes_first, comes_row
 same_piece : (a b : Piece) → Some a ≡ Some b → a ≡ b
 same_piece a b e = cc e
 
-pub takes_none : (script : Script) (old new : Progress) (stood : List Field) (bytes text : List ℕ) (guessed : Piece) → Some guessed ≡ guess_after script old.last stood → text ≡ record_bytes (piece_fields script.tables guessed)
+pub takes_none : (script : Script) (old new : Progress) (stood : List Field) (bytes text : List ℕ) (guessed : Piece) → Some guessed ≡ guess_after script old.last stood →
+    text ≡ record_bytes (piece_fields script.tables guessed)
     → ((rest : List ℕ) → bytes ≡ text ++ rest → ⊥) → Takes script old stood bytes new None
 takes_none script old new stood bytes text guessed g w without fields next is stands rest e =
     let same : Some guessed ≡ Some next = g ∙ ap (guess_after script old.last) (sym stands) ∙ is.guess in

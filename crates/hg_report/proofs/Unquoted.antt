@@ -55,7 +55,8 @@ unfolding escaped unquoted
 unquoted_escaped [] = refl
 unquoted_escaped (b ∷ x) = elim (cases_Bool (b == 34)) [
   | inl same ↦ rw (eqb-true b 34 same) (ap (λ t. 34 ∷ t) (unquoted_escaped x))
-  | inr other ↦ ap (λ t. unquoted false (t ++ 34 ∷ [])) (escaped_other b x other) ∙ unquoted_kept false b (escaped flexible_writer x ++ 34 ∷ []) (ap (λ t. t && true) other) ∙ ap (λ t. b ∷ t) (unquoted_escaped x)
+  | inr other ↦ ap (λ t. unquoted false (t ++ 34 ∷ [])) (escaped_other b x other) ∙ unquoted_kept false b (escaped flexible_writer x ++ 34 ∷ []) (ap (λ t. t && true) other) ∙
+      ap (λ t. b ∷ t) (unquoted_escaped x)
 ]
 
 no_quote : (x : Field) → IsPlain x → (get_or x 0 0 == 34) ≡ false

@@ -27,10 +27,12 @@ module _ (fields : List Field) where
       (values_suc (i + 1) kinds k d (omega (arith, h)) ∙ ap (λ n. values_in fields (i + 1) (take k kinds) ++ value_in (get_or kinds k d) (nth fields n) ∷ []) there)
 
   -- one more value
-  pub values_more : (i : ℕ) (kinds : List Column) (k : ℕ) (d : Column) (before now : List Value) (value : Value) → k < length kinds → before ≡ values_in fields i (take k kinds) → value ≡ value_in (get_or kinds k d) (nth fields (i + k))
+  pub values_more : (i : ℕ) (kinds : List Column) (k : ℕ) (d : Column) (before now : List Value) (value : Value) → k < length kinds → before ≡ values_in fields i (take k kinds) →
+      value ≡ value_in (get_or kinds k d) (nth fields (i + k))
       → now ≡ before ++ value ∷ [] → now ≡ values_in fields i (take (k + 1) kinds)
   values_more i kinds k d before now value h e f g =
-      g ∙ ap (λ (vs : List Value). vs ++ value ∷ []) e ∙ ap (λ v. values_in fields i (take k kinds) ++ v ∷ []) f ∙ sym (ap (λ n. values_in fields i (take n kinds)) (add-one k) ∙ values_suc i kinds k d h)
+      g ∙ ap (λ (vs : List Value). vs ++ value ∷ []) e ∙ ap (λ v. values_in fields i (take k kinds) ++ v ∷ []) f ∙
+      sym (ap (λ n. values_in fields i (take n kinds)) (add-one k) ∙ values_suc i kinds k d h)
 
   number_at : (kinds : List Column) (k : ℕ) → list_any holds_text kinds ≡ false → k < length kinds → get_or kinds k columns.Number ≡ columns.Number
   number_at [] k h less = refl
@@ -39,7 +41,8 @@ module _ (fields : List Field) where
   number_at (columns.Text ∷ kinds) k h less = absurd (let bad : ⊥ = cc h in bad)
 
   -- one more number
-  pub numbers_more : (i : ℕ) (kinds : List Column) (k : ℕ) (numbers : List ℤ) (n : ℤ) → list_any holds_text kinds ≡ false → k < length kinds → k < length numbers → map Number (take k numbers) ≡ values_in fields i (take k kinds)
+  pub numbers_more : (i : ℕ) (kinds : List Column) (k : ℕ) (numbers : List ℤ) (n : ℤ) → list_any holds_text kinds ≡ false → k < length kinds → k < length numbers →
+      map Number (take k numbers) ≡ values_in fields i (take k kinds)
       → n ≡ integer_value (integer_of (nth fields (i + k))) → map Number (take (k + 1) (set numbers k n)) ≡ values_in fields i (take (k + 1) kinds)
   numbers_more i kinds k numbers n alone h less e f =
       values_more i kinds k columns.Number (map Number (take k numbers)) (map Number (take (k + 1) (set numbers k n))) (Number n) h e

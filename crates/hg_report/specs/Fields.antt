@@ -1,5 +1,6 @@
 -- The fields of a record as they stand, with their quotes, and what they say, each read whether it is written well or not.
-use Rattle.std.specs.Prelude.{ℕ, ℤ, pos, ◌+◌, ◌^◌, ◌&&◌, ◌==◌, List, [], ◌∷◌, ◌++◌, length, take, drop, map, get_or, slice_index, bytes_eq, nat_lt, nat_le, Bool, true, false, not, Option, Some, None, if◌then◌else◌}
+use Rattle.std.specs.Prelude.{ℕ, ℤ, pos, ◌+◌, ◌^◌, ◌&&◌, ◌==◌, List, [], ◌∷◌, ◌++◌, length, take, drop, map, get_or, slice_index, bytes_eq, nat_lt, nat_le, Bool, true, false, not, Option}
+use Rattle.std.specs.Prelude.{Some, None, if◌then◌else◌}
 use Rattle.std.specs.Borrow.{Bor}
 use Rattle.hg_base.specs.declared.limits.TheConstants.{MOST_COLUMNS, MOST_TEXT_BYTES}
 use Rattle.hg_base.specs.declared.value.Column.{Column}

@@ -1,5 +1,6 @@
 -- A record that breaks no rule keeps the script lawful.
-use Rattle.std.proofs.Common.{◌≡◌, ◌<◌, ◌≤◌, ◌+◌, ℕ, zero, suc, Bool, true, false, not, ◌||◌, ◌==◌, ◌∙◌, ap, inl, inr, replicate, unwrap_or, ◌&&◌, nat_lt, nat_le, List, [], ◌∷◌, ◌++◌, length, map, drop, Option, Some, None, if◌then◌else◌, refl, sym, subst, arith, length-append, append_assoc, option_map, bytes_eq, codes}
+use Rattle.std.proofs.Common.{◌≡◌, ◌<◌, ◌≤◌, ◌+◌, ℕ, zero, suc, Bool, true, false, not, ◌||◌, ◌==◌, ◌∙◌, ap, inl, inr, replicate, unwrap_or, ◌&&◌, nat_lt, nat_le, List, [], ◌∷◌, ◌++◌}
+use Rattle.std.proofs.Common.{length, map, drop, Option, Some, None, if◌then◌else◌, refl, sym, subst, arith, length-append, append_assoc, option_map, bytes_eq, codes}
 use Rattle.std.proofs.lemmas.Bool.{and_parts as and-parts, or_parts}
 use Rattle.std.proofs.lemmas.List.{length-map, length-replicate}
 use Rattle.std.specs.List.{list_all}
@@ -39,9 +40,12 @@ use Rattle.hg_script.specs.Numbered.{records_before}
 use Rattle.hg_script.proofs.Numbered.{few_before}
 use Rattle.hg_script.specs.Fields.{Field, Fields, is_version, nth, statement_word, word_of}
 use Rattle.hg_script.specs.declared.rules.TheConstants.{MOST_FETCHED}
-use Rattle.hg_script.specs.Draft.{before, columns_by, counted, draft_of, first_table, is_fresh, is_letter, kind_by, kind_named, kinds_at, lettered, numbers_in, row_in, scope_named, table_named, values_by}
-use Rattle.hg_script.specs.Rules.{count_of, count_breaks, number_breaks, range_breaks, name_breaks, columns_breaks, is_bad_values, is_no_columns, is_over_columns, value_breaks, ask_order_breaks, is_open, is_reading, order_breaks}
-use Rattle.hg_script.specs.Meaning.{draft_code, first_code, kinds_in, nothing, or_next, refusal_from, refusal_of, row_of, script_from, script_of, statement_of, with_draft, with_row, code_table, first_broken}
+use Rattle.hg_script.specs.Draft.{before, columns_by, counted, draft_of, first_table, is_fresh, is_letter, kind_by, kind_named, kinds_at, lettered, numbers_in, row_in, scope_named}
+use Rattle.hg_script.specs.Draft.{table_named, values_by}
+use Rattle.hg_script.specs.Rules.{count_of, count_breaks, number_breaks, range_breaks, name_breaks, columns_breaks, is_bad_values, is_no_columns, is_over_columns, value_breaks}
+use Rattle.hg_script.specs.Rules.{ask_order_breaks, is_open, is_reading, order_breaks}
+use Rattle.hg_script.specs.Meaning.{draft_code, first_code, kinds_in, nothing, or_next, refusal_from, refusal_of, row_of, script_from, script_of, statement_of, with_draft, with_row}
+use Rattle.hg_script.specs.Meaning.{code_table, first_broken}
 use Rattle.hg_script.specs.Lawful.{AreInOrder, FitsTables, HasNumbers, HasWidths, IsLawful, IsStatement, IsTable, MayStand}
 
 -- ---- lists
@@ -60,9 +64,14 @@ ascends-one (a ∷ []) r h k = (k.0, tt)
 ascends-one (a ∷ b ∷ rs) r h k = (h.0, ascends-one (b ∷ rs) r h.1 k.1)
 
 -- one more record that may stand after those before it
-in-order-one : (before rs : List Record) (r : Record) → AreInOrder before rs → MayStand (is_open r.session (before ++ rs)) (is_reading r.session (before ++ rs)) r.statement → AreInOrder before (rs ++ r ∷ [])
+in-order-one : (before rs : List Record) (r : Record) → AreInOrder before rs → MayStand (is_open r.session (before ++ rs)) (is_reading r.session (before ++ rs)) r.statement →
+    AreInOrder before (rs ++ r ∷ [])
 in-order-one before [] r h may = (subst (λ ls. MayStand (is_open r.session ls) (is_reading r.session ls) r.statement) (append_nil before) may, tt)
-in-order-one before (q ∷ qs) r h may = (h.0, in-order-one (before ++ q ∷ []) qs r h.1 (subst (λ ls. MayStand (is_open r.session ls) (is_reading r.session ls) r.statement) (sym (append_assoc before (q ∷ []) qs)) may))
+in-order-one before (q ∷ qs) r h may = (
+  h.0,
+  in-order-one (before ++ q ∷ []) qs r h.1 (subst (λ ls. MayStand (is_open r.session ls) (is_reading r.session ls) r.statement)
+      (sym (append_assoc before (q ∷ []) qs)) may),
+)
 
 -- what no rule of order refuses may stand
 may-stand : (within reads : Bool) (ask : Ask) → ask_order_breaks within reads ask ≡ false → MayStand within reads (statement_of ask)
@@ -143,7 +152,11 @@ counted-fits : (version : ℕ) (n : Natural) → is_no_columns (counted n) ≡ f
 counted-fits version n.No none over = absurd (let bad : ⊥ = cc none in bad)
 counted-fits version n.Over none over = absurd (let bad : ⊥ = cc over in bad)
 counted-fits version (n.Is k) none over = cases (nat_le 1 k && nat_le k 8)
-    (λ e. rw e (record { some = grind (arith, nat_tests, e, length-replicate k column.Number); most = grind (arith, nat_tests, e, length-replicate k column.Number); numbers = λ one. numbers-alone k }))
+    (λ e. rw e (record {
+      some = grind (arith, nat_tests, e, length-replicate k column.Number);
+      most = grind (arith, nat_tests, e, length-replicate k column.Number);
+      numbers = λ one. numbers-alone k;
+    }))
     (λ e. absurd (let f = rw e at over in let bad : ⊥ = cc f in bad))
 
 lettered-fits : (version : ℕ) (text : Field) → (version == 1) ≡ false → is_over_columns (lettered text) ≡ false → AreColumns version (kinds_in (lettered text))
@@ -158,7 +171,8 @@ lettered-fits version text other over = cases (nat_le 1 (length text) && (nat_le
     }))
     (λ e. absurd (let f = rw e at over in let bad : ⊥ = cc f in bad))
 
-columns-fit : (version : ℕ) (text : Field) → is_no_columns (columns_by version text) ≡ false → is_over_columns (columns_by version text) ≡ false → AreColumns version (kinds_in (columns_by version text))
+columns-fit : (version : ℕ) (text : Field) → is_no_columns (columns_by version text) ≡ false → is_over_columns (columns_by version text) ≡ false →
+    AreColumns version (kinds_in (columns_by version text))
 columns-fit version text none over = cases (version == 1)
     (λ e. rw e (counted-fits version (natural_of text) (rw e at none) (rw e at over)))
     (λ e. rw e (lettered-fits version text e (rw e at over)))
@@ -245,7 +259,8 @@ none-left : (rs : List Record) → nat_lt 0 (length rs) ≡ false → rs ≡ []
 none-left [] h = refl
 none-left (r ∷ rs) h = absurd (let bad : 0 < 0 = grind (arith, nat_tests, h) in omega (arith, bad))
 
-table-more : (place : ℕ) (s : Script) (d : Declaration) → Grown place s → place ≤ MOST_RECORDS → length s.tables < 64 → IsTable d → (s.version ≡ 1 → HasNumbers d) → is_fresh s.tables d.name ≡ true → s.records ≡ []
+table-more : (place : ℕ) (s : Script) (d : Declaration) → Grown place s → place ≤ MOST_RECORDS → length s.tables < 64 → IsTable d → (s.version ≡ 1 → HasNumbers d) →
+    is_fresh s.tables d.name ≡ true → s.records ≡ []
     → Grown (place + 1) (record s { tables = s.tables ++ d ∷ [] })
 table-more place s d g free room is numbers fresh none = record {
   lawful = record {
@@ -273,10 +288,12 @@ has-room n h = grind (arith, nat_tests, h)
 within-most : (place : ℕ) → nat_lt MOST_RECORDS place ≡ false → place ≤ MOST_RECORDS
 within-most place h = grind (arith, nat_tests, h)
 
-asked-more : (place : ℕ) (s : Script) (session : Natural) (ask : Ask) → Grown place s → place ≤ MOST_RECORDS → range_breaks (Session session ask) ≡ false → ask_order_breaks (is_open (value_of session) s.records) (is_reading (value_of session) s.records) ask ≡ false
+asked-more : (place : ℕ) (s : Script) (session : Natural) (ask : Ask) → Grown place s → place ≤ MOST_RECORDS → range_breaks (Session session ask) ≡ false →
+    ask_order_breaks (is_open (value_of session) s.records) (is_reading (value_of session) s.records) ask ≡ false
     → FitsTables s.tables (statement_of ask) → HasWidths (statement_of ask) → Grown (place + 1) (with-statement place s (value_of session) (statement_of ask))
 asked-more place s session ask g room range order fits widths =
-    statement-more place s (value_of session) (statement_of ask) g room (lies 1 MOST_SESSIONS session (or_parts _ _ range).0) fits widths (may-stand (is_open (value_of session) s.records) (is_reading (value_of session) s.records) ask order)
+    statement-more place s (value_of session) (statement_of ask) g room (lies 1 MOST_SESSIONS session (or_parts _ _ range).0) fits widths
+    (may-stand (is_open (value_of session) s.records) (is_reading (value_of session) s.records) ask order)
 
 declared-more : (place : ℕ) (s : Script) (name text : Field) → Grown place s → place ≤ MOST_RECORDS → nat_le 64 (length s.tables) ≡ false
     → Keeps s (Table (is_fresh s.tables name) (columns_by s.version text))
@@ -359,7 +376,8 @@ pub record IsFirst (place : ℕ) (s : Script) : Type 0 where
   pub records : s.records ≡ []
   pub tables : s.tables ≡ []
 
-pub version-first : (place : ℕ) (s : Script) (w : Word) (r : Fields) (d : Natural) → word_of place r ≡ Some w → draft_of s.version s.tables w r ≡ Version d → place ≡ records_before s + length s.records + 1 → IsFirst place s
+pub version-first : (place : ℕ) (s : Script) (w : Word) (r : Fields) (d : Natural) → word_of place r ≡ Some w → draft_of s.version s.tables w r ≡ Version d →
+    place ≡ records_before s + length s.records + 1 → IsFirst place s
 version-first place s w r d is e next =
     let at : place ≡ 1 = first-place place r (is ∙ ap Some (version-alone s.version s.tables w r d e)) in record {
       first = at;
@@ -383,8 +401,12 @@ by-word place s r word.Get g count first k =
     asked-more place s (natural_of (nth r 0)) (Get (table_named s.tables (nth r 2)) (natural_of (nth r 3))) g (room place _ count) k.range k.order (among s.tables (nth r 2) k.name)
     (natural-fits (nth r 3))
 by-word place s r word.Put g count first k =
-    asked-more place s (natural_of (nth r 0)) (Put (table_named s.tables (nth r 2)) (natural_of (nth r 3)) (values_by s.version (kinds_at s.tables (table_named s.tables (nth r 2))) (drop 4 r))) g (room place _ count) k.range k.order
-    (among s.tables (nth r 2) k.name, row-fits s.version (kinds_at s.tables (table_named s.tables (nth r 2))) (drop 4 r) (λ one. numbers-at s.tables (unwrap_or (table_named s.tables (nth r 2)) first_table).0 (g.lawful.numbers one)) k.columns k.value)
+    asked-more place s (natural_of (nth r 0)) (Put (table_named s.tables (nth r 2)) (natural_of (nth r 3))
+    (values_by s.version (kinds_at s.tables (table_named s.tables (nth r 2))) (drop 4 r))) g (room place _ count) k.range k.order (
+      among s.tables (nth r 2) k.name,
+      row-fits s.version (kinds_at s.tables (table_named s.tables (nth r 2))) (drop 4 r)
+          (λ one. numbers-at s.tables (unwrap_or (table_named s.tables (nth r 2)) first_table).0 (g.lawful.numbers one)) k.columns k.value,
+    )
     (natural-fits (nth r 3), values-fit s.version (kinds_at s.tables (table_named s.tables (nth r 2))) (drop 4 r))
 by-word place s r word.Del g count first k =
     asked-more place s (natural_of (nth r 0)) (Del (table_named s.tables (nth r 2)) (natural_of (nth r 3))) g (room place _ count) k.range k.order (among s.tables (nth r 2) k.name)
@@ -426,4 +448,18 @@ lawful-from place s (r ∷ rs) g e =
 
 -- the script of records that break no rule
 pub lawful : (rows : List Fields) → refusal_of rows ≡ None → IsLawful (script_of rows)
-lawful rows e = lawful-from 1 nothing rows (record { lawful = record { version = inl refl; numbers = λ one. tt; most = omega arith; records = omega arith; tables = tt; names = none-twice; statements = tt; order = tt; places = tt }; many = omega arith; before = tt }) e
+lawful rows e = lawful-from 1 nothing rows (record {
+  lawful = record {
+    version = inl refl;
+    numbers = λ one. tt;
+    most = omega arith;
+    records = omega arith;
+    tables = tt;
+    names = none-twice;
+    statements = tt;
+    order = tt;
+    places = tt;
+  };
+  many = omega arith;
+  before = tt;
+}) e

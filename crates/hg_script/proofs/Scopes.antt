@@ -1,5 +1,6 @@
 -- The tables that a `begin` names, one by one, and what set they are.
-use Rattle.std.proofs.Common.{◌≡◌, ◌<◌, ◌≤◌, ◌+◌, ◌^◌, ◌∙◌, ℕ, List, [], ◌∷◌, length, drop, fold, position, Option, Some, None, IfSome, is_some, not, false, option_map, unwrap_or, refl, arith, sym, subst, length-drop}
+use Rattle.std.proofs.Common.{◌≡◌, ◌<◌, ◌≤◌, ◌+◌, ◌^◌, ◌∙◌, ℕ, List, [], ◌∷◌, length, drop, fold, position, Option, Some, None, IfSome, is_some, not, false, option_map, unwrap_or, refl}
+use Rattle.std.proofs.Common.{arith, sym, subst, length-drop}
 use Rattle.std.proofs.Math.Pow.{pow-lt}
 use Rattle.std.proofs.lemmas.List.{drop_all}
 use Rattle.std.proofs.lemmas.List.Quantifiers.{position-Some}

@@ -35,7 +35,8 @@ take-is true vs i v (Bad n) h = refl
 take-is false vs i v (Bad n) h = refl
 take-is true vs i v (Are more) h = refl
 take-is false vs i v (Are more) h =
-    ap Are (sym (ap (λ xs. map Number xs ++ more) (take_more_set vs i v h) ∙ ap (λ xs. xs ++ more) (map-append Number (take i vs) (v ∷ [])) ∙ append_assoc (map Number (take i vs)) (Number v ∷ []) more))
+    ap Are (sym (ap (λ xs. map Number xs ++ more) (take_more_set vs i v h) ∙ ap (λ xs. xs ++ more) (map-append Number (take i vs) (v ∷ [])) ∙
+    append_assoc (map Number (take i vs)) (Number v ∷ []) more))
 
 values-more : (r : Fields) (k : ℕ) → 4 + k < length r
     → numbers_in (drop (4 + k) r) ≡ before (integer_of (nth r (4 + k))) (numbers_in (drop (4 + (k + 1)) r))

@@ -1,5 +1,6 @@
 -- The values of a put in version 2, column by column.
-use Rattle.std.proofs.Common.{◌≡◌, ◌≢◌, ◌<◌, ◌≤◌, ◌+◌, ◌∙◌, ℕ, Bool, true, false, List, [], ◌∷◌, ◌++◌, length, map, drop, get_or, Option, Some, None, option_map, unwrap_or, if◌then◌else◌, refl, arith, sym, ap, add-one, append_assoc, drop-cons}
+use Rattle.std.proofs.Common.{◌≡◌, ◌≢◌, ◌<◌, ◌≤◌, ◌+◌, ◌∙◌, ℕ, Bool, true, false, List, [], ◌∷◌, ◌++◌, length, map, drop, get_or, Option, Some, None, option_map, unwrap_or, if◌then◌else◌}
+use Rattle.std.proofs.Common.{refl, arith, sym, ap, add-one, append_assoc, drop-cons}
 use Rattle.std.specs.List.{list_all}
 use Rattle.std.proofs.lemmas.Bool.{false≢true}
 use Rattle.std.proofs.lemmas.List.{append-nil, drop_all}
@@ -70,7 +71,8 @@ given-or-bad (Bad m) n = refl
 given-or-bad (Are row) n = refl
 
 -- columns of numbers are read as numbers
-pub typed-numbers : (kinds : List Column) (fields : List Field) → list_all holds_numbers kinds ≡ true → length fields ≡ length kinds → typed_in kinds fields ≡ or_bad (length fields) (numbers_in fields)
+pub typed-numbers : (kinds : List Column) (fields : List Field) → list_all holds_numbers kinds ≡ true → length fields ≡ length kinds →
+    typed_in kinds fields ≡ or_bad (length fields) (numbers_in fields)
 typed-numbers kinds fields all many =
     ap (λ o. unwrap_or (option_map Are o) (Bad (length fields))) (row-of-numbers kinds fields all many) ∙ given-or-bad (numbers_in fields) (length fields)
 

@@ -102,4 +102,5 @@ given-fits (Some row) n h = h
 -- each value of a put fits
 pub values-fit : (version : ℕ) (kinds : List Column) (fields : List Field) → AreFit (row_of (values_by version kinds fields))
 values-fit version kinds fields =
-    cond_both (version == 1) (numbers_in fields) (typed_in kinds fields) (λ (values : Values). AreFit (row_of values)) (λ e. numbers-fit fields) (λ e. given-fits (row_in kinds fields) (length fields) (row-fits kinds fields))
+    cond_both (version == 1) (numbers_in fields) (typed_in kinds fields) (λ (values : Values). AreFit (row_of values)) (λ e. numbers-fit fields)
+    (λ e. given-fits (row_in kinds fields) (length fields) (row-fits kinds fields))

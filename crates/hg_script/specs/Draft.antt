@@ -1,5 +1,6 @@
 -- A record with its fields read and its table looked up, before its rules are tested.
-use Rattle.std.specs.Prelude.{ℕ, List, [], ◌∷◌, ◌^◌, length, drop, map, fold, replicate, position, bytes_eq, codes, if◌then◌else◌, Bool, false, not, ◌&&◌, ◌||◌, ◌==◌, nat_le, Option, Some, None, is_some, option_map, unwrap_or}
+use Rattle.std.specs.Prelude.{ℕ, List, [], ◌∷◌, ◌^◌, length, drop, map, fold, replicate, position, bytes_eq, codes, if◌then◌else◌, Bool, false, not, ◌&&◌, ◌||◌, ◌==◌, nat_le, Option, Some}
+use Rattle.std.specs.Prelude.{None, is_some, option_map, unwrap_or}
 use Rattle.std.specs.List.{list_all, list_any}
 use Rattle.std.specs.Option.{option_map_or}
 use Rattle.std.specs.Int.Bits.{bit_or}
@@ -167,7 +168,8 @@ draft_of version tables word.Version r = Version (natural_of (nth r 1))
 draft_of version tables word.Table r = Table (is_fresh tables (nth r 1)) (columns_by version (nth r 2))
 draft_of version tables word.Begin r = Session (natural_of (nth r 0)) (Begin (scope_named tables (drop 2 r)))
 draft_of version tables word.Get r = Session (natural_of (nth r 0)) (Get (table_named tables (nth r 2)) (natural_of (nth r 3)))
-draft_of version tables word.Put r = Session (natural_of (nth r 0)) (Put (table_named tables (nth r 2)) (natural_of (nth r 3)) (values_by version (kinds_at tables (table_named tables (nth r 2))) (drop 4 r)))
+draft_of version tables word.Put r = Session (natural_of (nth r 0))
+    (Put (table_named tables (nth r 2)) (natural_of (nth r 3)) (values_by version (kinds_at tables (table_named tables (nth r 2))) (drop 4 r)))
 draft_of version tables word.Del r = Session (natural_of (nth r 0)) (Del (table_named tables (nth r 2)) (natural_of (nth r 3)))
 draft_of version tables word.Scan r = Session (natural_of (nth r 0)) (Scan (table_named tables (nth r 2)) (natural_of (nth r 3)) (natural_of (nth r 4)))
 draft_of version tables word.Commit r = Session (natural_of (nth r 0)) Commit

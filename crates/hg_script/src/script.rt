@@ -173,8 +173,9 @@ impl Script {
         requires session { session ≤ MOST_SESSIONS }
         requires room { length self.old.records < MOST_RECORDS }
         ensures { OnOk result (self.new ≡
-            record self.old
-            { records = self.old.records ++ (record { place = records_before self.old + length self.old.records + 1; session = session; statement = statement }) ∷ [] }) }
+            let place = records_before self.old + length self.old.records + 1 in
+            let added : Record = record { place = place; session = session; statement = statement } in
+            record self.old { records = self.old.records ++ added ∷ [] }) }
     {
         self.statements.push(session, statement)?;
         Ok(())

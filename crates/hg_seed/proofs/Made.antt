@@ -1,5 +1,6 @@
 -- A script that is made keeps the rules, statement by statement.
-use Rattle.std.proofs.Common.{◌≡◌, ◌∙◌, ◌+◌, ◌*◌, ◌/◌, ◌%◌, ◌<◌, ◌^◌, ◌==◌, ℕ, zero, suc, pos, Bool, true, false, List, [], ◌∷◌, ◌++◌, length, map, fold, if◌then◌else◌, inl, refl, sym, ap, subst, arith, length-append, append_assoc, nat_le}
+use Rattle.std.proofs.Common.{◌≡◌, ◌∙◌, ◌+◌, ◌*◌, ◌/◌, ◌%◌, ◌<◌, ◌^◌, ◌==◌, ℕ, zero, suc, pos, Bool, true, false, List, [], ◌∷◌, ◌++◌, length, map, fold, if◌then◌else◌, inl, refl, sym, ap}
+use Rattle.std.proofs.Common.{subst, arith, length-append, append_assoc, nat_le}
 use Rattle.std.proofs.lemmas.Nat.{mod_below}
 use Rattle.std.proofs.Math.Nat.{mod-add-mod}
 use Rattle.std.specs.List.{IsDistinct}
@@ -15,7 +16,8 @@ use Rattle.hg_base.proofs.ListFacts.{append_nil}
 use Rattle.hg_script.proofs.Lawful.{AreNumbers, Grown, Lies, numbers-at, statement-more, with-statement}
 use Rattle.hg_seed.specs.declared.choice.Choice.{Choice}
 use Rattle.hg_seed.specs.declared.choice.Choice.TheVariants.{Begin, BeginC, Get, Put, Del, Scan, Commit, Rollback, Gc}
-use Rattle.hg_seed.specs.Generator.{AreMade, IsMade, below, chosen, chosen_in, draws_of, drawn, inside, made_tables, next_state, outside, record_after, state_after, state_behind, statement_at, statement_by, table_drawn}
+use Rattle.hg_seed.specs.Generator.{AreMade, IsMade, below, chosen, chosen_in, draws_of, drawn, inside, made_tables, next_state, outside, record_after, state_after, state_behind}
+use Rattle.hg_seed.specs.Generator.{statement_at, statement_by, table_drawn}
 use Rattle.hg_script.specs.Numbered.{many_before, records_before}
 use Rattle.hg_script.specs.Lawful.{FitsTables, HasNumbers, HasWidths, MayStand}
 use Rattle.hg_script.specs.Rules.{is_open, is_reading, reading, reading_by}
@@ -147,7 +149,8 @@ pub record Making (seed i x : ℕ) (s : Script) : Type 0 where
   pub calm : (j : ℕ) → is_reading j s.records ≡ false
 
 pub making-more : (seed i x : ℕ) (s : Script) → Making seed i x s → i < 16000
-    → Making seed (i + 1) (state_after (draws_of (statement_at x (is_open (i % 8 + 1) s.records))) x) (with-statement (records_before s + length s.records + 1) s (i % 8 + 1) (statement_at x (is_open (i % 8 + 1) s.records)))
+    → Making seed (i + 1) (state_after (draws_of (statement_at x (is_open (i % 8 + 1) s.records))) x)
+    (with-statement (records_before s + length s.records + 1) s (i % 8 + 1) (statement_at x (is_open (i % 8 + 1) s.records)))
 making-more seed i x s m more =
     let session = i % 8 + 1 in
     let st = statement_at x (is_open session s.records) in
@@ -157,7 +160,8 @@ making-more seed i x s m more =
     let lies : Lies 1 MOST_SESSIONS session = record { some = omega arith; most = omega (arith, mod_below i 8 (omega arith)) } in
     let c = chosen (is_open session s.records) (drawn 1 16 x) in
     let fitting : FitsTables s.tables st = subst (λ ts. FitsTables ts st) (sym m.tables) (fits x c) in
-    let grown = statement-more (i + 4) s session st m.grown (omega (arith, more)) lies fitting (widths x c) (subst (λ b. MayStand (is_open session s.records) b st) (sym (m.calm session)) (may x (is_open session s.records))) in
+    let grown = statement-more (i + 4) s session st m.grown (omega (arith, more)) lies fitting (widths x c)
+    (subst (λ b. MayStand (is_open session s.records) b st) (sym (m.calm session)) (may x (is_open session s.records))) in
     let order : i + 4 + 1 ≡ i + 1 + 4 = omega arith in record {
       version = m.version;
       tables = m.tables;
@@ -183,7 +187,10 @@ making-none seed = record {
       numbers = λ one. made-numbers;
       most = omega arith;
       records = omega arith;
-      tables = (record { name = refl; some = omega arith; most = omega arith }, (record { name = refl; some = omega arith; most = omega arith }, (record { name = refl; some = omega arith; most = omega arith }, tt)));
+      tables = (
+        record { name = refl; some = omega arith; most = omega arith },
+        (record { name = refl; some = omega arith; most = omega arith }, (record { name = refl; some = omega arith; most = omega arith }, tt)),
+      );
       names = ((refl, (refl, tt)), ((refl, tt), (tt, tt)));
       statements = tt;
       order = tt;
@@ -211,4 +218,5 @@ made-once seed s t h k =
     let tables : s.tables ≡ t.tables = h.tables ∙ sym k.tables in
     let records : s.records ≡ t.records = one seed [] s.records t.records (h.many ∙ sym k.many) h.each k.each in
     let version : s.version ≡ t.version = h.version ∙ sym k.version in
-    ap (λ v. record { version = v; tables = s.tables; records = s.records }) version ∙ ap (λ ts. record { version = t.version; tables = ts; records = s.records }) tables ∙ ap (λ rs. record { version = t.version; tables = t.tables; records = rs }) records
+    ap (λ v. record { version = v; tables = s.tables; records = s.records }) version ∙ ap (λ ts. record { version = t.version; tables = ts; records = s.records }) tables ∙
+    ap (λ rs. record { version = t.version; tables = t.tables; records = rs }) records

@@ -77,7 +77,8 @@ chosen within r = chosen_in (if within then inside else outside) r
 
 -- tables a, b and c, of one, two and one columns of numbers
 abbrev pub made_tables : List Declaration
-made_tables = (record { name = codes "a"; kinds = columns.Number ∷ [] }) ∷ (record { name = codes "b"; kinds = columns.Number ∷ columns.Number ∷ [] }) ∷ (record { name = codes "c"; kinds = columns.Number ∷ [] }) ∷ []
+made_tables = (record { name = codes "a"; kinds = columns.Number ∷ [] }) ∷ (record { name = codes "b"; kinds = columns.Number ∷ columns.Number ∷ [] }) ∷
+    (record { name = codes "c"; kinds = columns.Number ∷ [] }) ∷ []
 
 -- The first draw makes the choice, the second gives the table, and the third the key.
 abbrev pub table_drawn : ℕ → TableId
@@ -127,7 +128,13 @@ draws_of (say.Gc kind) = 2
 
 -- what a session adds to a script where the state is x, and the state after it
 abbrev pub with_drawn : ℕ → ℕ → Script → Script
-with_drawn session x s = record s { records = s.records ++ (record { place = records_before s + length s.records + 1; session = session; statement = statement_at x (is_open session s.records) }) ∷ [] }
+with_drawn session x s = record s {
+  records = s.records ++ (record {
+    place = records_before s + length s.records + 1;
+    session = session;
+    statement = statement_at x (is_open session s.records);
+  }) ∷ [];
+}
 
 abbrev pub state_drawn : ℕ → ℕ → Script → ℕ
 state_drawn session x s = state_after (draws_of (statement_at x (is_open session s.records))) x

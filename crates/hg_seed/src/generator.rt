@@ -36,8 +36,10 @@ fn declare(alloc: Global, script: &mut Script, name: &[u8], columns: u8) -> Resu
     requires fresh { table_named script.old.tables name.now ≡ None }
     requires first { script.old.records ≡ [] }
     ensures { OnOk result (script.new ≡
-        record script.old
-        { tables = script.old.tables ++ (record { name = name.now; kinds = replicate columns column.Number }) ∷ [] }) }
+        record script.old {
+          tables = script.old.tables ++
+              (record { name = name.now; kinds = replicate columns column.Number }) ∷ [];
+        }) }
 {
     let table = Table::of_numbers(alloc, name, columns)?;
     script.declare(table)

@@ -173,7 +173,8 @@ out_closed r q g (s ∷ bin) apart = go (out_closed r q (g || is_empty (without 
     go later false e = past g q (without false r s) rest (without_still false r q s e) ∙ later ∙ ap (λ b. look_from (g || b) q bin) empty_alike ∙ sym (past g q s bin e)
 
 -- where one is, it may say less of them
-out_open : (r q : Rid) (g g2 : Bool) (bin : List Slot) (w : Option ℕ) → same_rid r q ≡ false → (g || list_any is_empty bin) ≡ true → Fits (look_from g q bin) w → Fits (look_from g2 q (map (without true r) bin)) w
+out_open : (r q : Rid) (g g2 : Bool) (bin : List Slot) (w : Option ℕ) → same_rid r q ≡ false → (g || list_any is_empty bin) ≡ true → Fits (look_from g q bin) w →
+    Fits (look_from g2 q (map (without true r) bin)) w
 out_open r q true true [] w apart gap h = h
 out_open r q true false [] w apart gap h = tt
 out_open r q false g2 [] w apart gap h = absurd (let z : false ≡ true = gap in cc)

@@ -40,7 +40,8 @@ one_in (Err e) vs ws t x h = tt
 one_in (Ok y) vs ws t x h = (x, ((length (list_of vs t), ap (λ xs. slice_get xs (length (list_of vs t))) h.last ∙ get_last (list_of vs t) x), refl))
 
 -- and no others
-pub none_else : {E : Type 0} (r : Result (Unit {0}) E) (vs ws : List (List Listed)) (t : ℕ) (x : Listed) → Enters r vs ws t x → OnOk r ((u p : ℕ) → StandsIn (list_of ws u) p → StandsIn (list_of vs u) p ⊎ (p ≡ x.place))
+pub none_else : {E : Type 0} (r : Result (Unit {0}) E) (vs ws : List (List Listed)) (t : ℕ) (x : Listed) → Enters r vs ws t x →
+    OnOk r ((u p : ℕ) → StandsIn (list_of ws u) p → StandsIn (list_of vs u) p ⊎ (p ≡ x.place))
 none_else (Err e) vs ws t x h = tt
 none_else (Ok y) vs ws t x h = λ u p k. go u p k (u == t) refl
   where
@@ -58,7 +59,8 @@ none_else (Ok y) vs ws t x h = λ u p k. go u p k (u == t) refl
         by (inl there) = inl (k.0, ((k.1.0.0, ap (λ v. slice_get (list_of vs v) k.1.0.0) is ∙ there), k.1.1))
         by (inr last) = inr (sym k.1.1 ∙ ap (λ (z : Listed). z.place) last.1)
 
-pub all_below : {E : Type 0} (r : Result (Unit {0}) E) (vs ws : List (List Listed)) (t : ℕ) (x : Listed) → Enters r vs ws t x → ((u p : ℕ) → StandsIn (list_of vs u) p → p < x.place) → OnOk r ((u p : ℕ) → StandsIn (list_of ws u) p → p < x.place + 1)
+pub all_below : {E : Type 0} (r : Result (Unit {0}) E) (vs ws : List (List Listed)) (t : ℕ) (x : Listed) → Enters r vs ws t x →
+    ((u p : ℕ) → StandsIn (list_of vs u) p → p < x.place) → OnOk r ((u p : ℕ) → StandsIn (list_of ws u) p → p < x.place + 1)
 all_below (Err e) vs ws t x h below = tt
 all_below (Ok y) vs ws t x h below = λ u p k. go u p (none_else (Ok y) vs ws t x h u p k)
   where

@@ -104,7 +104,8 @@ taken_out es r = ap (λ (test : Rid → Bool). remove_entry test es) (λ i k. at
 pub same_place : (es : List (Rid × ℕ)) (r q : Rid) → same_rid r q ≡ true → place_of es q ≡ place_of es r
 same_place es r q h = ap (λ (test : Rid → Bool). lookup test es) (λ i k. sym (rids_equiv.congr r q k h) i)
 
-pub inserted_below : (es fs : List (Rid × ℕ)) (r : Rid) (n : ℕ) → ((q : Rid) (p : ℕ) → HasPlace es q p → p < n) → HasPlace fs r n → ((q : Rid) → same_rid r q ≡ false → place_of fs q ≡ place_of es q) → (q : Rid) (p : ℕ) → HasPlace fs q p → p ≤ n
+pub inserted_below : (es fs : List (Rid × ℕ)) (r : Rid) (n : ℕ) → ((q : Rid) (p : ℕ) → HasPlace es q p → p < n) → HasPlace fs r n →
+    ((q : Rid) → same_rid r q ≡ false → place_of fs q ≡ place_of es q) → (q : Rid) (p : ℕ) → HasPlace fs q p → p ≤ n
 inserted_below es fs r n below here others q p h = go (same_rid r q) refl
   where
     go : (b : Bool) → same_rid r q ≡ b → p ≤ n

@@ -123,7 +123,8 @@ first_taken s p h =
     let all : AreLinked s (suc first.many) (Some p) = subst (λ n. AreLinked s n (Some p)) first.count h in
     let count : first.many ≡ count_by is_free (set s p (Taken None)) = let e = taken_count s p h in let k = first.count in omega (arith, e, k) in
     let next : first.next ≡ option_and_then link_of (slice_get s p) = ap (option_and_then link_of) (sym first.there) in
-    subst (λ f. AllLinked (set s p (Taken None)) f) next (subst (λ n. AreLinked (set s p (Taken None)) n first.next) count (behind s p (Taken None) first.many all first.many first.next (omega arith) first.others))
+    subst (λ f. AllLinked (set s p (Taken None)) f) next (subst (λ n. AreLinked (set s p (Taken None)) n first.next) count
+    (behind s p (Taken None) first.many all first.many first.next (omega arith) first.others))
 
 -- none is free
 pub no_first : (s : List Place) (n : ℕ) (f : Option ℕ) → f ≡ None → AreLinked s n f → n ≡ 0
@@ -157,7 +158,8 @@ taken_added s p none =
     map-append seen s (Taken None ∷ [])
     ∙ sym (ap (λ b. cond b (set (map seen s) p (taken None)) (map seen s ++ taken None ∷ [])) (none_free s none))
 
-pub taken_free : (s : List Place) (p : ℕ) (next : Option ℕ) → slice_get s p ≡ Some (Free next) → map seen (set s p (Taken None)) ≡ cond (has_free (map seen s)) (set (map seen s) p (taken None)) (map seen s ++ taken None ∷ [])
+pub taken_free : (s : List Place) (p : ℕ) (next : Option ℕ) → slice_get s p ≡ Some (Free next) →
+    map seen (set s p (Taken None)) ≡ cond (has_free (map seen s)) (set (map seen s) p (taken None)) (map seen s ++ taken None ∷ [])
 taken_free s p next there =
     map-set seen s p (Taken None)
     ∙ sym (ap (λ b. cond b (set (map seen s) p (taken None)) (map seen s ++ taken None ∷ [])) (one_free s p next there))

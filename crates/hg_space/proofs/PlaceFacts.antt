@@ -54,7 +54,8 @@ pub last_is_added : (places : List Seat) (x : Oldest) → IsTaken (places ++ tak
 last_is_added [] x = refl
 last_is_added (y ∷ places) x = last_is_added places x
 
-pub given_is_taken : (places new : List Seat) (p : ℕ) → OnTrue (has_free places) (slice_get places p ≡ Some free) → OnFalse (has_free places) (p ≡ length places) → new ≡ cond (has_free places) (set places p (taken None)) (places ++ taken None ∷ []) → IsTaken new p
+pub given_is_taken : (places new : List Seat) (p : ℕ) → OnTrue (has_free places) (slice_get places p ≡ Some free) → OnFalse (has_free places) (p ≡ length places) →
+    new ≡ cond (has_free places) (set places p (taken None)) (places ++ taken None ∷ []) → IsTaken new p
 given_is_taken places new p a b e = subst (λ ps. IsTaken ps p) (sym e) (go (has_free places) a b)
   where
     go : (any : Bool) → OnTrue any (slice_get places p ≡ Some free) → OnFalse any (p ≡ length places) → IsTaken (cond any (set places p (taken None)) (places ++ taken None ∷ [])) p

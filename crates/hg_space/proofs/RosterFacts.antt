@@ -1,5 +1,6 @@
 -- Lists by table, and where each record stands.
-use Rattle.std.proofs.Common.{◌≡◌, ℕ, zero, suc, ◌-◌, ◌<◌, ◌≤◌, List, [], ◌∷◌, ◌++◌, length, take, set, Result, Ok, Err, Bool, true, false, Option, Some, None, refl, sym, ap, ◌∙◌, subst, arith, slice_get, inl, inr, ◌⊎◌}
+use Rattle.std.proofs.Common.{◌≡◌, ℕ, zero, suc, ◌-◌, ◌<◌, ◌≤◌, List, [], ◌∷◌, ◌++◌, length, take, set, Result, Ok, Err, Bool, true, false, Option, Some, None, refl, sym, ap, ◌∙◌, subst}
+use Rattle.std.proofs.Common.{arith, slice_get, inl, inr, ◌⊎◌}
 use Rattle.std.specs.Prelude.{Vec, slice_index_or, nat_lt, ◌==◌, ◌↔◌, option_map, OnErr}
 use Rattle.std.specs.declared.alloc.Global.{Global}
 use Rattle.std.specs.List.{swap_remove}
@@ -69,11 +70,13 @@ list_set_apart (l ∷ ls) (suc t) v zero h = refl
 list_set_apart (l ∷ ls) (suc t) v (suc u) h = list_set_apart ls t v u (λ e. h (ap suc e))
 
 -- one element more
-pub list_more : (ls old : List (Vec Listed Global)) (t : ℕ) (l v : Vec Listed Global) (x : Listed) → t < length ls → l ≡ slice_index_or ls t l → v.items ≡ l.items ++ x ∷ [] → list_of (lists_in ls) t ≡ list_of (lists_in old) t → list_of (lists_in (set ls t v)) t ≡ list_of (lists_in old) t ++ x ∷ []
+pub list_more : (ls old : List (Vec Listed Global)) (t : ℕ) (l v : Vec Listed Global) (x : Listed) → t < length ls → l ≡ slice_index_or ls t l → v.items ≡ l.items ++ x ∷ [] →
+    list_of (lists_in ls) t ≡ list_of (lists_in old) t → list_of (lists_in (set ls t v)) t ≡ list_of (lists_in old) t ++ x ∷ []
 list_more ls old t l v x within read more same = list_set ls t v within ∙ more ∙ ap (λ xs. xs ++ x ∷ []) (sym (list_read ls t l within read) ∙ same)
 
 -- a write of the same elements
-pub set_same : (ls : List (Vec Listed Global)) (t : ℕ) (l v : Vec Listed Global) → t < length ls → l ≡ slice_index_or ls t l → v.items ≡ l.items → (u : ℕ) → list_of (lists_in (set ls t v)) u ≡ list_of (lists_in ls) u
+pub set_same : (ls : List (Vec Listed Global)) (t : ℕ) (l v : Vec Listed Global) → t < length ls → l ≡ slice_index_or ls t l → v.items ≡ l.items → (u : ℕ) →
+    list_of (lists_in (set ls t v)) u ≡ list_of (lists_in ls) u
 set_same ls t l v within read same u = go (u == t) refl
   where
     go : (b : Bool) → (u == t) ≡ b → list_of (lists_in (set ls t v)) u ≡ list_of (lists_in ls) u
@@ -108,14 +111,16 @@ entered ls ms old new t x h stay nowhere within last others = λ u at e there. g
         let was = h u at e there in
         get_apart new x.place e.place _ (λ same. nowhere u (e, ((at, there), same))) ∙ stay e.place (slice_get_within old e.place (standing_at u at) was) ∙ was
 
-    here : (at : ℕ) (e : Listed) → (slice_get (list_of ls t) at ≡ Some e) ⊎ ((at ≡ length (list_of ls t)) × (e ≡ x)) → slice_get (set new x.place (standing_at t (length (list_of ls t)))) e.place ≡ Some (standing_at t at)
+    here : (at : ℕ) (e : Listed) → (slice_get (list_of ls t) at ≡ Some e) ⊎ ((at ≡ length (list_of ls t)) × (e ≡ x)) →
+        slice_get (set new x.place (standing_at t (length (list_of ls t)))) e.place ≡ Some (standing_at t at)
     here at e (inl there) = as_before t at e there
     here at e (inr is) =
         ap (λ (y : Listed). slice_get (set new x.place (standing_at t (length (list_of ls t)))) y.place) is.1
         ∙ get_same new x.place _ (standing_at t (length (list_of ls t))) (slice_get-get_or new x.place (standing_at 0 0) within)
         ∙ ap (λ n. Some (standing_at t n)) (sym is.0)
 
-    go : (u at : ℕ) (e : Listed) → slice_get (list_of ms u) at ≡ Some e → (b : Bool) → (u == t) ≡ b → slice_get (set new x.place (standing_at t (length (list_of ls t)))) e.place ≡ Some (standing_at u at)
+    go : (u at : ℕ) (e : Listed) → slice_get (list_of ms u) at ≡ Some e → (b : Bool) → (u == t) ≡ b →
+        slice_get (set new x.place (standing_at t (length (list_of ls t)))) e.place ≡ Some (standing_at u at)
     go u at e there true k =
         let same : u ≡ t = grind (arith, nat_tests, k) in
         let now : slice_get (list_of ls t ++ x ∷ []) at ≡ Some e = ap (λ xs. slice_get xs at) (sym last) ∙ ap (λ v. slice_get (list_of ms v) at) (sym same) ∙ there in
@@ -178,13 +183,15 @@ stood xs i d j e h = go (nat_lt j (end_of xs)) refl (j == i) refl
         inr (apart, less, sym (swapped_apart xs i d j apart less) ∙ h)
 
 -- a place stands once
-pub stands_once : (ls : List (List Listed)) (ss : List Standing) (t u i j : ℕ) (e f : Listed) → AreStanding ls ss → slice_get (list_of ls t) i ≡ Some e → slice_get (list_of ls u) j ≡ Some f → e.place ≡ f.place → (t ≡ u) × (i ≡ j)
+pub stands_once : (ls : List (List Listed)) (ss : List Standing) (t u i j : ℕ) (e f : Listed) → AreStanding ls ss → slice_get (list_of ls t) i ≡ Some e →
+    slice_get (list_of ls u) j ≡ Some f → e.place ≡ f.place → (t ≡ u) × (i ≡ j)
 stands_once ls ss t u i j e f h there too same =
     let both : standing_at t i ≡ standing_at u j = same_Some (standing_at t i) (standing_at u j) (sym (h t i e there) ∙ ap (slice_get ss) same ∙ h u j f too) in
     (ap (λ (s : Standing). s.table.0) both, ap (λ (s : Standing). s.at) both)
 
 pub seen_once : (ls vs : List (List Listed)) (ss : List Standing) → trimmed ls ≡ vs → AreStanding ls ss → StandOnce vs
-seen_once ls vs ss view h = λ t u i j e f there too same. stands_once ls ss t u i j e f h (ap (λ xs. slice_get xs i) (seen_list ls vs t view) ∙ there) (ap (λ xs. slice_get xs j) (seen_list ls vs u view) ∙ too) same
+seen_once ls vs ss view h = λ t u i j e f there too same. stands_once ls ss t u i j e f h (ap (λ xs. slice_get xs i) (seen_list ls vs t view) ∙ there)
+    (ap (λ xs. slice_get xs j) (seen_list ls vs u view) ∙ too) same
 
 -- x, which stood at i, was taken out
 pub record Leaves (ls ms : List (List Listed)) (t i : ℕ) (x : Listed) : Type 0 where
@@ -218,7 +225,8 @@ restands ls ms ss ts t i x h l apart here = λ u j e there. go u j e there (u ==
         apart u j e was (λ n. other n.0) ∙ h u j e was
 
 -- none came to the index
-pub left_last : (ls ms : List (List Listed)) (ss : List Standing) (t i : ℕ) (x : Listed) → AreStanding ls ss → Leaves ls ms t i x → option_map (λ (e : Listed). e.place) (slice_get (list_of ms t) i) ≡ None → AreStanding ms ss
+pub left_last : (ls ms : List (List Listed)) (ss : List Standing) (t i : ℕ) (x : Listed) → AreStanding ls ss → Leaves ls ms t i x →
+    option_map (λ (e : Listed). e.place) (slice_get (list_of ms t) i) ≡ None → AreStanding ms ss
 left_last ls ms ss t i x h l none = restands ls ms ss ss t i x h l (λ u j e was k. refl) (λ e there. absurd (none-some e.place (sym none ∙ ap (option_map (λ (f : Listed). f.place)) there)))
 
 one_of : (o : Option Listed) (m : ℕ) → option_map (λ (e : Listed). e.place) o ≡ Some m → (f : Listed) × ((o ≡ Some f) × (f.place ≡ m))
@@ -232,7 +240,8 @@ pub record Comes (ls : List (List Listed)) (ss : List Standing) (t i m : ℕ) (f
   pub was : slice_get (list_of ls t) (end_of (list_of ls t)) ≡ Some f
   pub stands : slice_get ss m ≡ Some (standing_at t (end_of (list_of ls t)))
 
-comes : (ls ms : List (List Listed)) (ss : List Standing) (t i m : ℕ) (x : Listed) → AreStanding ls ss → Leaves ls ms t i x → option_map (λ (e : Listed). e.place) (slice_get (list_of ms t) i) ≡ Some m → (f : Listed) × ((slice_get (list_of ms t) i ≡ Some f) × Comes ls ss t i m f)
+comes : (ls ms : List (List Listed)) (ss : List Standing) (t i m : ℕ) (x : Listed) → AreStanding ls ss → Leaves ls ms t i x →
+    option_map (λ (e : Listed). e.place) (slice_get (list_of ms t) i) ≡ Some m → (f : Listed) × ((slice_get (list_of ms t) i ≡ Some f) × Comes ls ss t i m f)
 comes ls ms ss t i m x h l moved = go (one_of (slice_get (list_of ms t) i) m moved)
   where
     go : (f : Listed) × ((slice_get (list_of ms t) i ≡ Some f) × (f.place ≡ m)) → (f : Listed) × ((slice_get (list_of ms t) i ≡ Some f) × Comes ls ss t i m f)
@@ -242,10 +251,12 @@ comes ls ms ss t i m x h l moved = go (one_of (slice_get (list_of ms t) i) m mov
         by (inr s) = absurd (s.0 refl)
         by (inl s) = (f.0, (f.1.0, record { place = f.1.1; short = s.1; was = s.2; stands = ap (slice_get ss) (sym f.1.1) ∙ h t (end_of (list_of ls t)) f.0 s.2 }))
 
-pub moved_within : (ls ms : List (List Listed)) (ss : List Standing) (t i m : ℕ) (x : Listed) → AreStanding ls ss → Leaves ls ms t i x → option_map (λ (e : Listed). e.place) (slice_get (list_of ms t) i) ≡ Some m → m < length ss
+pub moved_within : (ls ms : List (List Listed)) (ss : List Standing) (t i m : ℕ) (x : Listed) → AreStanding ls ss → Leaves ls ms t i x →
+    option_map (λ (e : Listed). e.place) (slice_get (list_of ms t) i) ≡ Some m → m < length ss
 moved_within ls ms ss t i m x h l moved = let f = comes ls ms ss t i m x h l moved in slice_get_within ss m (standing_at t (end_of (list_of ls t))) f.1.1.stands
 
-pub left_moved : (ls ms : List (List Listed)) (ss : List Standing) (t i m : ℕ) (x : Listed) (y : Standing) → AreStanding ls ss → Leaves ls ms t i x → option_map (λ (e : Listed). e.place) (slice_get (list_of ms t) i) ≡ Some m → y ≡ slice_index_or ss m y
+pub left_moved : (ls ms : List (List Listed)) (ss : List Standing) (t i m : ℕ) (x : Listed) (y : Standing) → AreStanding ls ss → Leaves ls ms t i x →
+    option_map (λ (e : Listed). e.place) (slice_get (list_of ms t) i) ≡ Some m → y ≡ slice_index_or ss m y
     → AreStanding ms (set ss m (record { table = y.table; at = i }))
 left_moved ls ms ss t i m x y h l moved read =
     restands ls ms ss (set ss m (record { table = y.table; at = i })) t i x h l
@@ -261,7 +272,8 @@ left_moved ls ms ss t i m x y h l moved read =
     f = comes ls ms ss t i m x h l moved
 
 -- which records the list has afterwards
-pub left_out : (ls ms : List (List Listed)) (ss : List Standing) (t i : ℕ) (x e : Listed) → AreStanding ls ss → Leaves ls ms t i x → Has (list_of ms t) e ↔ (Has (list_of ls t) e × (e.place ≡ x.place → ⊥))
+pub left_out : (ls ms : List (List Listed)) (ss : List Standing) (t i : ℕ) (x e : Listed) → AreStanding ls ss → Leaves ls ms t i x →
+    Has (list_of ms t) e ↔ (Has (list_of ls t) e × (e.place ≡ x.place → ⊥))
 left_out ls ms ss t i x e h l = (λ has. out has.0 (stood_in ls ms t i x l has.0 e has.1), λ k. into k.0.0 k.0.1 k.1 (k.0.0 == i) refl (nat_lt k.0.0 (end_of (list_of ls t))) refl)
   where
     xs : List Listed
@@ -297,7 +309,8 @@ pub nowhere_inside : (ls vs : List (List Listed)) (place : ℕ) → trimmed ls �
 nowhere_inside ls vs place view h = λ t k. h t (subst (λ xs. StandsIn xs place) (seen_list ls vs t view) k)
 
 -- a list from which one was taken
-pub taken_out : (ls : List (Vec Listed Global)) (t at : ℕ) (l v : Vec Listed Global) (x e : Listed) → t < length ls → l ≡ slice_index_or ls t l → v.items ≡ swap_remove l.items at x → x ≡ slice_index_or l.items at x → slice_get (list_of (lists_in ls) t) at ≡ Some e
+pub taken_out : (ls : List (Vec Listed Global)) (t at : ℕ) (l v : Vec Listed Global) (x e : Listed) → t < length ls → l ≡ slice_index_or ls t l →
+    v.items ≡ swap_remove l.items at x → x ≡ slice_index_or l.items at x → slice_get (list_of (lists_in ls) t) at ≡ Some e
     → list_of (lists_in (set ls t v)) t ≡ swap_remove (list_of (lists_in ls) t) at e
 taken_out ls t at l v x e within read out is there =
     let was = list_read ls t l within read in
@@ -308,7 +321,8 @@ taken_out ls t at l v x e within read out is there =
 pub standing_within : (ls : List (List Listed)) (ss : List Standing) (t place : ℕ) → AreStanding ls ss → StandsIn (list_of ls t) place → place < length ss
 standing_within ls ss t place h k = slice_get_within ss place (standing_at t k.1.0.0) (ap (slice_get ss) (sym k.1.1) ∙ h t k.1.0.0 k.0 k.1.0.1)
 
-pub found : (ls : List (List Listed)) (ss : List Standing) (t place : ℕ) (y : Standing) → AreStanding ls ss → StandsIn (list_of ls t) place → y ≡ slice_index_or ss place y → (x : Listed) × ((slice_get (list_of ls t) y.at ≡ Some x) × (x.place ≡ place))
+pub found : (ls : List (List Listed)) (ss : List Standing) (t place : ℕ) (y : Standing) → AreStanding ls ss → StandsIn (list_of ls t) place → y ≡ slice_index_or ss place y →
+    (x : Listed) × ((slice_get (list_of ls t) y.at ≡ Some x) × (x.place ≡ place))
 found ls ss t place y h k read =
     let stands : slice_get ss place ≡ Some (standing_at t k.1.0.0) = ap (slice_get ss) (sym k.1.1) ∙ h t k.1.0.0 k.0 k.1.0.1 in
     let is : y ≡ standing_at t k.1.0.0 = read ∙ get_or_from_slice_get ss place (standing_at t k.1.0.0) y stands in
@@ -321,7 +335,8 @@ pub record LeavesSeen (vs ws : List (List Listed)) (t place : ℕ) : Type 0 wher
   pub stay : (e : Listed) → Has (list_of ws t) e ↔ (Has (list_of vs t) e × (e.place ≡ place → ⊥))
   pub others : (u : ℕ) → (u ≡ t → ⊥) → list_of ws u ≡ list_of vs u
 
-pub left_seen : (ls ms vs : List (List Listed)) (ss : List Standing) (t place i : ℕ) (x : Listed) → trimmed ls ≡ vs → AreStanding ls ss → Leaves ls ms t i x → x.place ≡ place → LeavesSeen vs (trimmed ms) t place
+pub left_seen : (ls ms vs : List (List Listed)) (ss : List Standing) (t place i : ℕ) (x : Listed) → trimmed ls ≡ vs → AreStanding ls ss → Leaves ls ms t i x → x.place ≡ place →
+    LeavesSeen vs (trimmed ms) t place
 left_seen ls ms vs ss t place i x view h l is = record {
   moved = moved;
   front = λ at e there same. ap (take at) (moved at e there same) ∙ front_stays (list_of vs t) at e (slice_get_within (list_of vs t) at e there);

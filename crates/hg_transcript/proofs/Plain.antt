@@ -36,7 +36,8 @@ plain_onto : (k n : ℕ) (acc : List ℕ) → IsPlain acc → IsPlain (digits_on
 plain_onto zero n acc h = h
 plain_onto (suc k) n acc h =
     let more : IsPlain (digit_glyph false (n % 10) ∷ acc) = rw (plain_glyph (n % 10) (omega arith), h) refl in
-    cond_both (n / 10 == 0) (digit_glyph false (n % 10) ∷ acc) (digits_onto k 10 false (n / 10) (digit_glyph false (n % 10) ∷ acc)) IsPlain (λ e. more) (λ e. plain_onto k (n / 10) (digit_glyph false (n % 10) ∷ acc) more)
+    cond_both (n / 10 == 0) (digit_glyph false (n % 10) ∷ acc) (digits_onto k 10 false (n / 10) (digit_glyph false (n % 10) ∷ acc)) IsPlain (λ e. more)
+    (λ e. plain_onto k (n / 10) (digit_glyph false (n % 10) ∷ acc) more)
 
 plain_number : (n : ℕ) → IsPlain (decimal n)
 unfolding digits

@@ -20,6 +20,7 @@ numbers_are [] = refl
 numbers_are (n ∷ ns) = ap (λ fs. signed_decimal n ∷ fs) (numbers_are ns)
 
 -- one more field, of a number or of a value
-pub fields_more : {X : Type 0} (field : X → Field) (old front now : List ℕ) (row : List X) (i : ℕ) (d : X) → i < length row → front ≡ old ++ flat_map further_bytes (map field (take i row)) → now ≡ front ++ further_bytes (field (get_or row i d))
+pub fields_more : {X : Type 0} (field : X → Field) (old front now : List ℕ) (row : List X) (i : ℕ) (d : X) → i < length row →
+    front ≡ old ++ flat_map further_bytes (map field (take i row)) → now ≡ front ++ further_bytes (field (get_or row i d))
     → now ≡ old ++ flat_map further_bytes (map field (take (i + 1) row))
 fields_more field old front now row i d h e f = rw (f, e, take_more row i d h, map-append, flat_map-append) (simp (append_assoc, append-nil))

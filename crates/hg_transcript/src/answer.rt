@@ -97,7 +97,8 @@ fn add_writer(text: &mut Vec<u8>, writer: Writer) -> Result<(), NoMemory>
     ensures { OnOk result (text.new.items ≡
         text.old.items ++
         flat_map further_bytes
-        (codes "refused" ∷ codes "open" ∷ decimal writer.session ∷ decimal writer.transaction ∷ [])) }
+        (codes "refused" ∷ codes "open" ∷ decimal writer.session ∷ decimal writer.transaction ∷
+        [])) }
 {
     add_plain(text, b"refused")?;
     add_numbered(text, b"open", u64::from(writer.session))?;

@@ -83,7 +83,9 @@ impl<'a> Transcript<'a> {
     /// The text of the lines, and then the totals.
     pub fn with_totals(self, totals: &Totals) -> Result<Vec<u8>, NoMemory>
         ensures { (script : Script) → script.tables ≡ self.entry.tables
-            → IfOk result (λ text. text.items ≡ text_of record_bytes script (record { lines = self.entry.lines; totals = totals.now })) }
+            → IfOk result (λ text. text.items ≡
+            text_of record_bytes script
+            (record { lines = self.entry.lines; totals = totals.now })) }
     {
         let mut text = self.text;
         write_totals(&mut text, totals)?;

@@ -8,4 +8,5 @@ pub returns-in-Some : goal.returns-in-Some
 returns-in-Some c =
     λ mode h all earlier command knows asked part own opened over.
     let now = said_of c.args.now.now in
-    subst (λ o. Decides c.shows_cause.result (IfSome o (λ r. ShowsCause mode h all earlier now r now.reply.answer))) (sym (sym c.target.ensures ∙ c.in-Some.is)) (c.shows_cause.ensures mode h all earlier command knows asked part own opened over)
+    subst (λ o. Decides c.shows_cause.result (IfSome o (λ r. ShowsCause mode h all earlier now r now.reply.answer))) (sym (sym c.target.ensures ∙ c.in-Some.is))
+    (c.shows_cause.ensures mode h all earlier command knows asked part own opened over)

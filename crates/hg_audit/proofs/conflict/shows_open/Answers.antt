@@ -14,4 +14,5 @@ pub returns : goal.returns
 returns c =
     λ all is numbers.
     let other : (c.args.writer.session == c.args.now.now.session) ≡ false = let h = c.if-writer-now.false in grind (arith, nat_tests, h) in
-    open_shown c.args.own.now all c.args.now.now.session c.args.now.now.at c.args.rid c.args.writer c.has.result c.are_after.result is other c.has.ensures c.if-not-has.false (c.are_after.ensures (onto all []) numbers)
+    open_shown c.args.own.now all c.args.now.now.session c.args.now.now.at c.args.rid c.args.writer c.has.result c.are_after.result is other c.has.ensures c.if-not-has.false
+    (c.are_after.ensures (onto all []) numbers)

@@ -14,4 +14,5 @@ pub returns : goal.returns
 returns c =
     λ all earlier part own over numbers.
     let other : (c.args.writer.session == c.args.now.now.session) ≡ false = let h = c.if-writer-now.false in grind (arith, nat_tests, h) in
-    still_shown all earlier c.args.now.now.session c.args.now.now.at c.args.rid c.args.writer c.are_after.result part other ((c.is_still_open.ensures earlier own over).0 c.if-not-is_still_open.false) (c.are_after.ensures (onto all []) numbers)
+    still_shown all earlier c.args.now.now.session c.args.now.now.at c.args.rid c.args.writer c.are_after.result part other
+    ((c.is_still_open.ensures earlier own over).0 c.if-not-is_still_open.false) (c.are_after.ensures (onto all []) numbers)

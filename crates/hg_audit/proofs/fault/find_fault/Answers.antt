@@ -22,7 +22,8 @@ pub judge-requires-clause-knows : goal.judge-requires-clause-knows
 judge-requires-clause-knows c =
     let xs = c.new-all.result in
     let h = history_of xs in
-    let gives = when_some (¬ IsWhole xs) (λ (past : Past). IsWhole xs × IsOfHistory h past.writes × (length h ≡ past.groups) × IsTally past.tally xs × IsContext (wants_of c.is_run-run.result xs) past.context (onto xs [])) c.in_ok-past.field-0 c.in-Some-2.past c.in-Some-2.is c.in_ok-past.ensures in
+    let gives = when_some (¬ IsWhole xs) (λ (past : Past). IsWhole xs × IsOfHistory h past.writes × (length h ≡ past.groups) × IsTally past.tally xs ×
+    IsContext (wants_of c.is_run-run.result xs) past.context (onto xs [])) c.in_ok-past.field-0 c.in-Some-2.past c.in-Some-2.is c.in_ok-past.ensures in
     record {
       writes = gives.1;
       groups = gives.2;

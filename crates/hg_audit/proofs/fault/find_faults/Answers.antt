@@ -26,14 +26,21 @@ loop-k-preserved c =
     let own = its_own c.loop-k.own c.add.new.self (earlier_at xs k) now c.loop-k.invariant.own opened (c.in_ok-add.ensures.added (earlier_at xs k)) in
     record {
       reader = reader_next c.loop-k.reader c.read.new.self xs k c.loop-k.invariant.reader c.in_ok-said.ensures.next;
-      own = subst (AreOpenOwn c.close.new.self) (sym (earlier_next xs k now at)) (c.close.ensures.kept (earlier_at xs k) (others_own c.loop-k.own c.add.new.self (earlier_at xs k) now c.loop-k.invariant.own (c.in_ok-add.ensures.added (earlier_at xs k))));
-      over = subst (ForgetsOver c.close.new.self) (sym (earlier_next xs k now at)) (c.close.ensures.over (earlier_at xs k) (forgets_more c.loop-k.own c.add.new.self (earlier_at xs k) now opened c.in_ok-add.ensures.others c.loop-k.invariant.over));
+      own = subst (AreOpenOwn c.close.new.self) (sym (earlier_next xs k now at))
+          (c.close.ensures.kept (earlier_at xs k) (others_own c.loop-k.own c.add.new.self (earlier_at xs k) now c.loop-k.invariant.own (c.in_ok-add.ensures.added (earlier_at xs k))));
+      over = subst (ForgetsOver c.close.new.self) (sym (earlier_next xs k now at))
+          (c.close.ensures.over (earlier_at xs k) (forgets_more c.loop-k.own c.add.new.self (earlier_at xs k) now opened c.in_ok-add.ensures.others c.loop-k.invariant.over));
       before = subst (AreBefore c.add-in-loop-k.new.self) (sym (earlier_next xs k now at)) (c.in_ok-add-2.ensures (earlier_at xs k) c.loop-k.invariant.before);
-      kept = λ whole shows. line_keeps xs c.args.facts.now.past.now.writes whole shows k now c.add.new.self at own (c.keeps_update.ensures.0 c.if-not-keeps_update.false) (c.loop-k.invariant.kept whole shows);
-      answered = λ mode command knows. so_far (IsRightReply mode xs) xs k now c.loop-k.unanswered c.first-unanswered.result c.is_answered-answered.result less is at (c.loop-k.invariant.answered mode command knows)
-          (c.is_answered-answered.ensures mode xs (earlier_at xs k) command knows (any_here names_writer xs k now at) (part_at xs k) (c.loop-k.invariant.own now.session now.transaction opened) (rest_at c.loop-k.reader xs k c.in_ok-said.said c.loop-k.invariant.reader c.in_ok-said.ensures.rest) c.loop-k.invariant.own c.loop-k.invariant.over) c.first-unanswered.ensures;
+      kept = λ whole shows. line_keeps xs c.args.facts.now.past.now.writes whole shows k now c.add.new.self at own (c.keeps_update.ensures.0 c.if-not-keeps_update.false)
+          (c.loop-k.invariant.kept whole shows);
+      answered = λ mode command knows. so_far (IsRightReply mode xs) xs k now c.loop-k.unanswered c.first-unanswered.result c.is_answered-answered.result less is at
+          (c.loop-k.invariant.answered mode command knows)
+          (c.is_answered-answered.ensures mode xs (earlier_at xs k) command knows (any_here names_writer xs k now at) (part_at xs k)
+          (c.loop-k.invariant.own now.session now.transaction opened) (rest_at c.loop-k.reader xs k c.in_ok-said.said c.loop-k.invariant.reader c.in_ok-said.ensures.rest)
+          c.loop-k.invariant.own c.loop-k.invariant.over) c.first-unanswered.ensures;
       ordered = λ mode command knows. so_far (IsKnown mode xs) xs k now c.loop-k.unordered c.first-unordered.result c.is_fresh-ordered.result less is at (c.loop-k.invariant.ordered mode command knows)
-          (c.is_fresh-ordered.ensures mode (history_of xs) xs (earlier_at xs k) command knows.groups (λ asked. knows.points (any_here tells_held xs k now at asked)) c.loop-k.invariant.before) c.first-unordered.ensures;
+          (c.is_fresh-ordered.ensures mode (history_of xs) xs (earlier_at xs k) command knows.groups
+          (λ asked. knows.points (any_here tells_held xs k now at asked)) c.loop-k.invariant.before) c.first-unordered.ensures;
     }
 
 pub returns-then-not-keeps_update : goal.returns-then-not-keeps_update

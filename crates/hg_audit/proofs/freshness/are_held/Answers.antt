@@ -34,6 +34,8 @@ loop-k-preserved c =
     let same : t.session + 1 ≡ c.from-session.result + 1 = omega (arith, c.from-session.ensures) in
     record {
       least = subst (λ n. IsLeast n (take (k + 1) held)) same (subst (IsLeast (t.session + 1)) (sym at.up_to) (least_push (take k held) t c.loop-k.least c.loop-k.invariant.least over));
-      ascend = subst (λ h. Ascends (sessions h)) (sym at.up_to) (ascends_push (take k held) t c.loop-k.invariant.ascend (all_below (take k held) c.loop-k.least t.session over c.loop-k.invariant.least.0));
-      each = λ all points. subst (Each (IsHeld all)) (sym at.up_to) (each_snoc (IsHeld all) (take k held) t (c.loop-k.invariant.each all points) ((c.is_held.ensures all (points (omega (arith, less)))).0 c.if-not-is_held.false));
+      ascend = subst (λ h. Ascends (sessions h)) (sym at.up_to)
+          (ascends_push (take k held) t c.loop-k.invariant.ascend (all_below (take k held) c.loop-k.least t.session over c.loop-k.invariant.least.0));
+      each = λ all points. subst (Each (IsHeld all)) (sym at.up_to)
+          (each_snoc (IsHeld all) (take k held) t (c.loop-k.invariant.each all points) ((c.is_held.ensures all (points (omega (arith, less)))).0 c.if-not-is_held.false));
     }

@@ -12,7 +12,8 @@ use Rattle.hg_audit.proofs.freshness.are_open.Goals as goal
 pub loop-j-preserved-in_default : goal.loop-j-preserved-in_default
 loop-j-preserved-in_default c = record {
   within = c.loop-j.invariant.within;
-  same = λ earlier before. same_none earlier c.args.held.now c.loop-j.told c.loop-j.j (sym (c.open_at.ensures earlier before) ∙ ap (option_map (λ at. (c.loop-j.j + 1, at))) c.in_default.is) (c.loop-j.invariant.same earlier before);
+  same = λ earlier before. same_none earlier c.args.held.now c.loop-j.told c.loop-j.j (sym (c.open_at.ensures earlier before) ∙
+      ap (option_map (λ at. (c.loop-j.j + 1, at))) c.in_default.is) (c.loop-j.invariant.same earlier before);
 }
 
 pub returns-then-told-held : goal.returns-then-told-held
@@ -20,7 +21,8 @@ returns-then-told-held c =
     λ earlier before.
     let e = sym (c.open_at.ensures earlier before) ∙ ap (option_map (λ at. (c.loop-j.j + 1, at))) c.in-Some.is in (
       λ t. absurd (false_true t),
-      λ all. absurd (too_short earlier c.args.held.now c.sessions-j-end.result (c.sessions-j-end.ensures earlier before) c.loop-j.told c.loop-j.j c.in-Some.at c.if-told-held.true (c.loop-j.invariant.same earlier before) (omega arith) e all),
+      λ all. absurd (too_short earlier c.args.held.now c.sessions-j-end.result (c.sessions-j-end.ensures earlier before) c.loop-j.told c.loop-j.j c.in-Some.at c.if-told-held.true
+          (c.loop-j.invariant.same earlier before) (omega arith) e all),
     )
 
 pub returns-then-not-is_point : goal.returns-then-not-is_point
@@ -33,7 +35,8 @@ returns-then-not-is_point c =
     let here = at_line held told t less (get_or_default held told (record { session = 0; number = 0; moved = false }) t less) in
     let e = sym (c.open_at.ensures earlier before) ∙ ap (option_map (λ at. (c.loop-j.j + 1, at))) c.in-Some.is in (
       λ t. absurd (false_true t),
-      λ all. absurd (false_true (sym c.if-not-is_point.true ∙ c.is_point.ensures.1 (another earlier held c.sessions-j-end.result (c.sessions-j-end.ensures earlier before) told c.loop-j.j c.in-Some.at t here (c.loop-j.invariant.same earlier before) (omega arith) e all))),
+      λ all. absurd (false_true (sym c.if-not-is_point.true ∙ c.is_point.ensures.1
+          (another earlier held c.sessions-j-end.result (c.sessions-j-end.ensures earlier before) told c.loop-j.j c.in-Some.at t here (c.loop-j.invariant.same earlier before) (omega arith) e all))),
     )
 
 pub loop-j-preserved : goal.loop-j-preserved
@@ -46,7 +49,8 @@ loop-j-preserved c =
     let p = c.is_point.ensures.0 c.if-not-is_point.false in
     record {
       within = omega (arith, less);
-      same = λ earlier before. same_some earlier held told c.loop-j.j t here (sym (c.open_at.ensures earlier before) ∙ ap (option_map (λ at. (c.loop-j.j + 1, at))) c.in-Some.is ∙ (λ i. Some (sym p.0 i, sym p.1 i))) (c.loop-j.invariant.same earlier before);
+      same = λ earlier before. same_some earlier held told c.loop-j.j t here (sym (c.open_at.ensures earlier before) ∙ ap (option_map (λ at. (c.loop-j.j + 1, at))) c.in-Some.is ∙
+          (λ i. Some (sym p.0 i, sym p.1 i))) (c.loop-j.invariant.same earlier before);
     }
 
 pub returns : goal.returns

@@ -19,7 +19,8 @@ returns c =
     λ h all earlier many points before.
     let sweep = c.args.sweep.now in
     let most = c.mark.ensures earlier before in
-    let d = subst (λ held. Decides c.are_held.result (Ascends (sessions held) × Each (IsHeld all) held)) c.as_slice.ensures (c.are_held.ensures all (λ some. points (subst (λ held. 0 < length held) c.as_slice.ensures some))) in (
+    let d = subst (λ held. Decides c.are_held.result (Ascends (sessions held) × Each (IsHeld all) held)) c.as_slice.ensures
+    (c.are_held.ensures all (λ some. points (subst (λ held. 0 < length held) c.as_slice.ensures some))) in (
       λ e. record {
         rising = each_within sweep.mark (filter_map (mark_of sweep.kind) earlier) (omega (arith, most, c.if-mark-sweep.false));
         horizon = c.if-sweep.false;

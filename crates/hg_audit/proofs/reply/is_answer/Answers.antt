@@ -15,7 +15,8 @@ returns-else-not-is_within c =
     let see = seen h (own_writes earlier now) now.at in
     let r = c.in-Get.rid in
     subst (λ s. Decides c.is_got.result (IsAnswer mode see (is_written (own_writes earlier now)) (option_map rest_of c.args.now.now.rest) now s)) (sym c.in-Get.is)
-    (decided_within (has now.scope r.table) c.is_got.result (IsGot (see r) now.reply.answer) (IsUndeclared r.table now.reply.answer) (sym (c.is_within.ensures (ap table_of c.in-Get.is)) ∙ c.if-not-is_within.false)
+    (decided_within (has now.scope r.table) c.is_got.result (IsGot (see r) now.reply.answer) (IsUndeclared r.table now.reply.answer)
+    (sym (c.is_within.ensures (ap table_of c.in-Get.is)) ∙ c.if-not-is_within.false)
     (c.is_got.ensures (see r) (c.see.ensures h earlier shows is)))
 
 pub returns-else-not-is_within-3 : goal.returns-else-not-is_within-3
@@ -25,7 +26,8 @@ returns-else-not-is_within-3 c =
     let see = seen h (own_writes earlier now) now.at in
     let r = c.in-Del.rid in
     subst (λ s. Decides c.is_deleted.result (IsAnswer mode see (is_written (own_writes earlier now)) (option_map rest_of c.args.now.now.rest) now s)) (sym c.in-Del.is)
-    (decided_within (has now.scope r.table) c.is_deleted.result (IsDeleted (see r) now.reply.answer) (IsUndeclared r.table now.reply.answer) (sym (c.is_within-in-Del.ensures (ap table_of c.in-Del.is)) ∙ c.if-not-is_within-3.false)
+    (decided_within (has now.scope r.table) c.is_deleted.result (IsDeleted (see r) now.reply.answer) (IsUndeclared r.table now.reply.answer)
+    (sym (c.is_within-in-Del.ensures (ap table_of c.in-Del.is)) ∙ c.if-not-is_within-3.false)
     (c.is_deleted.ensures (see r) (c.see-in-Del.ensures h earlier shows is)))
 
 pub returns-else-not-is_within-4 : goal.returns-else-not-is_within-4
@@ -33,20 +35,24 @@ returns-else-not-is_within-4 c =
     λ mode h earlier command shows is.
     let now = said_of c.args.now.now in
     let t = c.in-Scan.table in
-    subst (λ s. Decides c.is_scan.result (IsAnswer mode (seen h (own_writes earlier now) now.at) (is_written (own_writes earlier now)) (option_map rest_of c.args.now.now.rest) now s)) (sym c.in-Scan.is)
-    (decided_within (has now.scope t) c.is_scan.result (IsScanned (look h earlier now t) c.in-Scan.low c.in-Scan.high now.reply.answer) (IsUndeclared t now.reply.answer) (sym (c.is_within-in-Scan.ensures (ap table_of c.in-Scan.is)) ∙ c.if-not-is_within-4.false)
+    subst (λ s. Decides c.is_scan.result (IsAnswer mode (seen h (own_writes earlier now) now.at) (is_written (own_writes earlier now))
+    (option_map rest_of c.args.now.now.rest) now s)) (sym c.in-Scan.is)
+    (decided_within (has now.scope t) c.is_scan.result (IsScanned (look h earlier now t) c.in-Scan.low c.in-Scan.high now.reply.answer) (IsUndeclared t now.reply.answer)
+    (sym (c.is_within-in-Scan.ensures (ap table_of c.in-Scan.is)) ∙ c.if-not-is_within-4.false)
     (c.is_scan.ensures h earlier shows is))
 
 pub returns-in-Fetch : goal.returns-in-Fetch
 returns-in-Fetch c =
     λ mode h earlier command shows is.
     let now = said_of c.args.now.now in
-    subst (λ s. Decides c.is_fetched.result (IsAnswer mode (seen h (own_writes earlier now) now.at) (is_written (own_writes earlier now)) (option_map rest_of c.args.now.now.rest) now s)) (sym c.in-Fetch.is)
+    subst (λ s. Decides c.is_fetched.result (IsAnswer mode (seen h (own_writes earlier now) now.at) (is_written (own_writes earlier now))
+    (option_map rest_of c.args.now.now.rest) now s)) (sym c.in-Fetch.is)
     (c.is_fetched.ensures h earlier shows is)
 
 pub returns-in-Commit : goal.returns-in-Commit
 returns-in-Commit c =
     λ mode h earlier command shows is.
     let now = said_of c.args.now.now in
-    subst (λ s. Decides c.is_committed.result (IsAnswer mode (seen h (own_writes earlier now) now.at) (is_written (own_writes earlier now)) (option_map rest_of c.args.now.now.rest) now s)) (sym c.in-Commit.is)
+    subst (λ s. Decides c.is_committed.result (IsAnswer mode (seen h (own_writes earlier now) now.at) (is_written (own_writes earlier now))
+    (option_map rest_of c.args.now.now.rest) now s)) (sym c.in-Commit.is)
     (subst (λ b. Decides c.is_committed.result (IsCommitted b now.reply.answer)) (c.wrote.ensures earlier is) c.is_committed.ensures)

@@ -10,4 +10,5 @@ use Rattle.hg_audit.proofs.Scanned.{Scanning}
 use Rattle.hg_audit.proofs.scan.is_scanned.Given as goal
 
 abbrev pub invariant-loop-key : goal.invariant-loop-key
-invariant-loop-key l = (h : History) (earlier : List Said) → IsOfHistory h l.writes → HasOwn l.own earlier (said_of l.now) → Scanning (look h earlier (said_of l.now) l.table) (unwrap_or l.initial.from (2 ^ 64)) l.high (take l.key-index l.rows) l.from
+invariant-loop-key l = (h : History) (earlier : List Said) → IsOfHistory h l.writes → HasOwn l.own earlier (said_of l.now) →
+    Scanning (look h earlier (said_of l.now) l.table) (unwrap_or l.initial.from (2 ^ 64)) l.high (take l.key-index l.rows) l.from

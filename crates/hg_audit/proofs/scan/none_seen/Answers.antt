@@ -14,6 +14,7 @@ returns-then-not-none_stored c =
 pub returns : goal.returns
 returns c =
     λ h earlier shows is. (
-      λ e. both_unseen h earlier (said_of c.args.now.now) c.args.own.now is c.args.table c.args.from c.args.to (c.none_stored.ensures.0 c.if-not-none_stored.false) ((c.none_shown.ensures h shows).0 e),
+      λ e. both_unseen h earlier (said_of c.args.now.now) c.args.own.now is c.args.table c.args.from c.args.to (c.none_stored.ensures.0 c.if-not-none_stored.false)
+          ((c.none_shown.ensures h shows).0 e),
       λ none. (c.none_shown.ensures h shows).1 (others_unseen h earlier (said_of c.args.now.now) c.args.own.now is c.args.table c.args.from c.args.to none),
     )

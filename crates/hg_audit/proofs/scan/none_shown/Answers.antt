@@ -16,7 +16,8 @@ returns-then-key-from c =
     let own_of = λ (k : ℕ). own_at c.args.own.now now.session now.transaction (record_at c.args.table k) in
     let table_of = λ (k : ℕ). visible h (record_at c.args.table k) now.at in
     let look = other_look h c.args.own.now now.session now.transaction now.at c.args.table in (
-      λ _. down_all look c.args.from c.loop-key.to c.args.to (c.loop-key.invariant.passed h is) (λ k low high. other_none (own_of k) (table_of k) ((c.in-Some.ensures.shown h is).2 k (omega (arith, low, c.if-key-from.true)) high)),
+      λ _. down_all look c.args.from c.loop-key.to c.args.to (c.loop-key.invariant.passed h is)
+          (λ k low high. other_none (own_of k) (table_of k) ((c.in-Some.ensures.shown h is).2 k (omega (arith, low, c.if-key-from.true)) high)),
       λ _. refl,
     )
 
@@ -30,7 +31,8 @@ returns-then-is_shown c =
     let key = c.in-Some.key in (
       λ e. absurd (false_true e),
       λ none. absurd (isnt_none _ c.is_shown.result c.is_shown.ensures c.if-is_shown.true
-          (ap (λ r. cond (is_some (own_of key)) None r) (c.in-Some.ensures.shown h is).1 ∙ sym (other_row (own_of key) (table_of key)) ∙ none key (omega (arith, c.if-key-from.false)) (omega (arith, (c.in-Some.ensures.shown h is).0, c.loop-key.invariant.last)))),
+          (ap (λ r. cond (is_some (own_of key)) None r) (c.in-Some.ensures.shown h is).1 ∙ sym (other_row (own_of key) (table_of key)) ∙
+          none key (omega (arith, c.if-key-from.false)) (omega (arith, (c.in-Some.ensures.shown h is).0, c.loop-key.invariant.last)))),
     )
 
 pub returns-then-key-from-2 : goal.returns-then-key-from-2
@@ -41,8 +43,11 @@ returns-then-key-from-2 c =
     let table_of = λ (k : ℕ). visible h (record_at c.args.table k) now.at in
     let look = other_look h c.args.own.now now.session now.transaction now.at c.args.table in
     let key = c.in-Some.key in
-    let here : (look key).row ≡ None = other_row (own_of key) (table_of key) ∙ ap (λ r. cond (is_some (own_of key)) None r) (sym (c.in-Some.ensures.shown h is).1) ∙ isnt_some _ c.is_shown.result c.is_shown.ensures c.if-is_shown.false in (
-      λ _. down_all look c.args.from c.loop-key.to c.args.to (c.loop-key.invariant.passed h is) (λ k low high. from_here look key c.loop-key.to (λ k over high. other_none (own_of k) (table_of k) ((c.in-Some.ensures.shown h is).2 k over high)) here k (omega (arith, low, c.if-key-from-2.true)) high),
+    let here : (look key).row ≡ None = other_row (own_of key) (table_of key) ∙ ap (λ r. cond (is_some (own_of key)) None r) (sym (c.in-Some.ensures.shown h is).1) ∙
+    isnt_some _ c.is_shown.result c.is_shown.ensures c.if-is_shown.false in (
+      λ _. down_all look c.args.from c.loop-key.to c.args.to (c.loop-key.invariant.passed h is)
+          (λ k low high. from_here look key c.loop-key.to (λ k over high. other_none (own_of k) (table_of k) ((c.in-Some.ensures.shown h is).2 k over high)) here k
+          (omega (arith, low, c.if-key-from-2.true)) high),
       λ _. refl,
     )
 
@@ -58,8 +63,10 @@ loop-key-preserved c = record {
       let table_of = λ (k : ℕ). visible h (record_at c.args.table k) now.at in
       let look = other_look h c.args.own.now now.session now.transaction now.at c.args.table in
       let key = c.in-Some.key in
-      let here : (look key).row ≡ None = other_row (own_of key) (table_of key) ∙ ap (λ r. cond (is_some (own_of key)) None r) (sym (c.in-Some.ensures.shown h is).1) ∙ isnt_some _ c.is_shown.result c.is_shown.ensures c.if-is_shown.false in
-      down_more look c.loop-key.to c.args.to key (key - 1) (c.loop-key.invariant.passed h is) (λ k over high. other_none (own_of k) (table_of k) ((c.in-Some.ensures.shown h is).2 k over high)) here (omega arith);
+      let here : (look key).row ≡ None = other_row (own_of key) (table_of key) ∙ ap (λ r. cond (is_some (own_of key)) None r) (sym (c.in-Some.ensures.shown h is).1) ∙
+      isnt_some _ c.is_shown.result c.is_shown.ensures c.if-is_shown.false in
+      down_more look c.loop-key.to c.args.to key (key - 1) (c.loop-key.invariant.passed h is)
+      (λ k over high. other_none (own_of k) (table_of k) ((c.in-Some.ensures.shown h is).2 k over high)) here (omega arith);
 }
 
 pub returns : goal.returns

@@ -15,14 +15,16 @@ returns-then-key-to c =
 pub returns-then-stores_row : goal.returns-then-stores_row
 returns-then-stores_row c = (
   λ e. absurd (false_true e),
-  λ none. absurd (isnt_none _ c.stores_row.result c.stores_row.ensures c.if-stores_row.true (none c.in-Some.key (omega (arith, c.in-Some.ensures.0, c.loop-key.invariant.first)) (omega (arith, c.if-key-to.false)))),
+  λ none. absurd (isnt_none _ c.stores_row.result c.stores_row.ensures c.if-stores_row.true (none c.in-Some.key (omega (arith, c.in-Some.ensures.0, c.loop-key.invariant.first))
+      (omega (arith, c.if-key-to.false)))),
 )
 
 pub returns-then-key-to-2 : goal.returns-then-key-to-2
 returns-then-key-to-2 c =
     let look = own_look c.args.own.now c.args.tx.session c.args.tx.number c.args.table in (
       λ _. λ k low high. passed_more look c.args.from c.loop-key.from c.in-Some.key c.loop-key.invariant.passed
-          (λ k low less. unstored c.args.own.now c.args.tx.session c.args.tx.number c.args.table k (c.in-Some.ensures.1 k low less)) (isnt_some _ c.stores_row.result c.stores_row.ensures c.if-stores_row.false) k low (omega (arith, high, c.if-key-to-2.true)),
+          (λ k low less. unstored c.args.own.now c.args.tx.session c.args.tx.number c.args.table k (c.in-Some.ensures.1 k low less))
+          (isnt_some _ c.stores_row.result c.stores_row.ensures c.if-stores_row.false) k low (omega (arith, high, c.if-key-to-2.true)),
       λ _. refl,
     )
 
@@ -30,7 +32,8 @@ pub loop-key-preserved : goal.loop-key-preserved
 loop-key-preserved c = record {
   first = omega (arith, c.in-Some.ensures.0, c.loop-key.invariant.first);
   passed = passed_more (own_look c.args.own.now c.args.tx.session c.args.tx.number c.args.table) c.args.from c.loop-key.from c.in-Some.key c.loop-key.invariant.passed
-      (λ k low less. unstored c.args.own.now c.args.tx.session c.args.tx.number c.args.table k (c.in-Some.ensures.1 k low less)) (isnt_some _ c.stores_row.result c.stores_row.ensures c.if-stores_row.false);
+      (λ k low less. unstored c.args.own.now c.args.tx.session c.args.tx.number c.args.table k (c.in-Some.ensures.1 k low less))
+      (isnt_some _ c.stores_row.result c.stores_row.ensures c.if-stores_row.false);
 }
 
 pub returns : goal.returns

@@ -20,14 +20,16 @@ loop-found-smaller-then-not-is_row c =
     let h = c.requires.0 in
     let next = subst (λ n. IsNextRid c.args.writes.now c.in-Some.rid n c.next_rid-found-in-Some.result) (sym c.requires.2) c.next_rid-found-in-Some.ensures.next in
     subst (λ o. left_over c.next_rid-found-in-Some.result < left_over o) (sym c.in-Some.is)
-    (walk_ends h c.args.writes.now c.requires.1 c.in-Some.rid c.next_rid-found-in-Some.result next (subst (λ o. IfSome o IsSmall) c.in-Some.is c.loop-found.invariant.small) c.next_rid-found-in-Some.ensures.small)
+    (walk_ends h c.args.writes.now c.requires.1 c.in-Some.rid c.next_rid-found-in-Some.result next
+    (subst (λ o. IfSome o IsSmall) c.in-Some.is c.loop-found.invariant.small) c.next_rid-found-in-Some.ensures.small)
 
 pub loop-found-smaller : goal.loop-found-smaller
 loop-found-smaller c =
     let h = c.requires.0 in
     let next = subst (λ n. IsNextRid c.args.writes.now c.in-Some.rid n c.next_rid-found-in-Some.result) (sym c.requires.2) c.next_rid-found-in-Some.ensures.next in
     subst (λ o. left_over c.next_rid-found-in-Some.result < left_over o) (sym c.in-Some.is)
-    (walk_ends h c.args.writes.now c.requires.1 c.in-Some.rid c.next_rid-found-in-Some.result next (subst (λ o. IfSome o IsSmall) c.in-Some.is c.loop-found.invariant.small) c.next_rid-found-in-Some.ensures.small)
+    (walk_ends h c.args.writes.now c.requires.1 c.in-Some.rid c.next_rid-found-in-Some.result next
+    (subst (λ o. IfSome o IsSmall) c.in-Some.is c.loop-found.invariant.small) c.next_rid-found-in-Some.ensures.small)
 
 pub loop-found-preserved-then-not-is_row : goal.loop-found-preserved-then-not-is_row
 loop-found-preserved-then-not-is_row c = record {
@@ -36,7 +38,8 @@ loop-found-preserved-then-not-is_row c = record {
       let there = subst (λ o. IfSome o (IsWritten c.args.writes.now)) c.in-Some.is c.loop-found.invariant.here in
       let row : is_row h c.in-Some.rid ≡ false = sym (c.is_row.ensures h of many) ∙ c.if-not-is_row.true in
       let one : one_if h c.in-Some.rid ≡ 0 = ap count row in
-      let more : met h c.next_rid-found-in-Some.result ≡ met h (Some c.in-Some.rid) + one_if h c.in-Some.rid = next_met h c.args.writes.now of c.in-Some.rid c.next_rid-found-in-Some.result there next in
+      let more : met h c.next_rid-found-in-Some.result ≡ met h (Some c.in-Some.rid) + one_if h c.in-Some.rid = next_met h c.args.writes.now of c.in-Some.rid
+      c.next_rid-found-in-Some.result there next in
       let was : c.loop-found.rest + met h (Some c.in-Some.rid) ≡ c.args.told = ap (λ o. c.loop-found.rest + met h o) (sym c.in-Some.is) ∙ c.loop-found.invariant.met h of many in
       omega (arith, one, more, was);
   here = written_next c.args.writes.now _ _ c.next_rid-found-in-Some.result c.next_rid-found-in-Some.ensures.next;
@@ -68,7 +71,8 @@ loop-found-preserved c = record {
       let there = subst (λ o. IfSome o (IsWritten c.args.writes.now)) c.in-Some.is c.loop-found.invariant.here in
       let row : is_row h c.in-Some.rid ≡ true = sym (c.is_row.ensures h of many) ∙ c.if-not-is_row.false in
       let one : one_if h c.in-Some.rid ≡ 1 = ap count row in
-      let more : met h c.next_rid-found-in-Some.result ≡ met h (Some c.in-Some.rid) + one_if h c.in-Some.rid = next_met h c.args.writes.now of c.in-Some.rid c.next_rid-found-in-Some.result there next in
+      let more : met h c.next_rid-found-in-Some.result ≡ met h (Some c.in-Some.rid) + one_if h c.in-Some.rid = next_met h c.args.writes.now of c.in-Some.rid
+      c.next_rid-found-in-Some.result there next in
       let was : c.loop-found.rest + met h (Some c.in-Some.rid) ≡ c.args.told = ap (λ o. c.loop-found.rest + met h o) (sym c.in-Some.is) ∙ c.loop-found.invariant.met h of many in
       less c.loop-found.rest (met h c.next_rid-found-in-Some.result) (met h (Some c.in-Some.rid)) (one_if h c.in-Some.rid) c.args.told c.if-rest-eq0.false more one was;
   here = written_next c.args.writes.now _ _ c.next_rid-found-in-Some.result c.next_rid-found-in-Some.ensures.next;

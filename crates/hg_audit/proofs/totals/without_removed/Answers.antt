@@ -23,7 +23,8 @@ returns-in_err-rest c =
     let is : now ≡ get_or xs k now = get_or_default xs k no_line now less in
     let at : AtLine xs k now = at_line xs k now less is in
     let f : Said → ℕ = removed_by c.args.kind in
-    let over = more c.loop-k.rest (f now) (sum_by f (take k xs)) c.args.told (sum_by f xs) (subst (λ n. n ≤ c.loop-k.rest → ⊥) (c.removed.ensures now (c.reply.ensures now is)) c.in_err-rest.ensures) c.loop-k.invariant (sum_within f xs k now at) in
+    let over = more c.loop-k.rest (f now) (sum_by f (take k xs)) c.args.told (sum_by f xs)
+    (subst (λ n. n ≤ c.loop-k.rest → ⊥) (c.removed.ensures now (c.reply.ensures now is)) c.in_err-rest.ensures) c.loop-k.invariant (sum_within f xs k now at) in
     subst (λ o. MatchOption o (c.args.told < sum_by f xs) (λ rest. rest + sum_by f xs ≡ c.args.told)) (sym c.from_residual.ensures) over
 
 pub loop-k-preserved : goal.loop-k-preserved

@@ -22,4 +22,5 @@ loop-k-preserved c =
 
 pub returns : goal.returns
 returns c =
-    λ tables. c.loop-k.invariant tables ∙ ap (λ ys. length (flat_map (line_records tables) ys)) (same_before c.args.lines.now c.loop-k.k c.args.many (omega (arith, c.min-k-end.ensures)) (λ less. omega (arith, c.min-k-end.ensures, less)))
+    λ tables. c.loop-k.invariant tables ∙ ap (λ ys. length (flat_map (line_records tables) ys))
+    (same_before c.args.lines.now c.loop-k.k c.args.many (omega (arith, c.min-k-end.ensures)) (λ less. omega (arith, c.min-k-end.ensures, less)))

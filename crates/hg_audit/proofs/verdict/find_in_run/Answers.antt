@@ -16,7 +16,8 @@ returns-in_default c =
     λ rounds shape.
     let records = c.args.script.now.records in
     let many = length c.as_slice-lines.result.now in
-    when_none ((n : ℕ) → length (in_order (run n) records) ≡ many → ⊥) (λ (sequence : List Record). (n : ℕ) × (sequence ≡ in_order (run n) records) × (length sequence ≡ many)) c.in_ok-order.field-0 c.in_default.is c.in_ok-order.ensures rounds
+    when_none ((n : ℕ) → length (in_order (run n) records) ≡ many → ⊥) (λ (sequence : List Record). (n : ℕ) × (sequence ≡ in_order (run n) records) ×
+    (length sequence ≡ many)) c.in_ok-order.field-0 c.in_default.is c.in_ok-order.ensures rounds
     (shape_length (in_order (run rounds) records) c.args.printed.now.lines shape ∙ sym (ap length c.as_slice-lines.ensures))
 
 pub returns-then-not-has_shape : goal.returns-then-not-has_shape
@@ -26,7 +27,8 @@ returns-then-not-has_shape c =
     let s = shown_of records in
     let lines = c.args.printed.now.lines in
     let many = length c.as_slice-lines.result.now in
-    let made = when_some ((n : ℕ) → length (in_order (run n) records) ≡ many → ⊥) (λ (sequence : List Record). (n : ℕ) × (sequence ≡ in_order (run n) records) × (length sequence ≡ many)) c.in_ok-order.field-0 c.in-Some.order c.in-Some.is c.in_ok-order.ensures in
+    let made = when_some ((n : ℕ) → length (in_order (run n) records) ≡ many → ⊥) (λ (sequence : List Record). (n : ℕ) × (sequence ≡ in_order (run n) records) ×
+    (length sequence ≡ many)) c.in_ok-order.field-0 c.in-Some.order c.in-Some.is c.in_ok-order.ensures in
     let fit : length s + 3 * rounds ≡ length lines = run_lines s lines rounds shape in
     let told : length s + 3 * made.0 ≡ many = sym (run_length s made.0) ∙ ap length (sym made.1) ∙ made.2 in
     let there : many ≡ length lines = ap length c.as_slice-lines.ensures in
@@ -40,7 +42,8 @@ pub find_fault-requires : goal.find_fault-requires
 find_fault-requires c =
     let records = c.args.script.now.records in
     let many = length c.as_slice-lines.result.now in
-    let made = when_some ((n : ℕ) → length (in_order (run n) records) ≡ many → ⊥) (λ (sequence : List Record). (n : ℕ) × (sequence ≡ in_order (run n) records) × (length sequence ≡ many)) c.in_ok-order.field-0 c.in-Some.order c.in-Some.is c.in_ok-order.ensures in
+    let made = when_some ((n : ℕ) → length (in_order (run n) records) ≡ many → ⊥) (λ (sequence : List Record). (n : ℕ) × (sequence ≡ in_order (run n) records) ×
+    (length sequence ≡ many)) c.in_ok-order.field-0 c.in-Some.order c.in-Some.is c.in_ok-order.ensures in
     record { known = subst AllKnown (sym made.1) (known_in_run records made.0 c.requires.known) }
 
 pub returns : goal.returns
@@ -48,7 +51,8 @@ returns c =
     let records = c.args.script.now.records in
     let lines = c.args.printed.now.lines in
     let many = length c.as_slice-lines.result.now in
-    let made = when_some ((n : ℕ) → length (in_order (run n) records) ≡ many → ⊥) (λ (sequence : List Record). (n : ℕ) × (sequence ≡ in_order (run n) records) × (length sequence ≡ many)) c.in_ok-order.field-0 c.in-Some.order c.in-Some.is c.in_ok-order.ensures in
+    let made = when_some ((n : ℕ) → length (in_order (run n) records) ≡ many → ⊥) (λ (sequence : List Record). (n : ℕ) × (sequence ≡ in_order (run n) records) ×
+    (length sequence ≡ many)) c.in_ok-order.field-0 c.in-Some.order c.in-Some.is c.in_ok-order.ensures in
     let found = c.in_ok-found.ensures (run made.0) tt in
     let Shape = HasShape c.in-Some.order c.as_slice-lines.result.now in
     let shape : Shape = subst (λ b. MatchBool b Shape (¬ Shape)) c.if-not-has_shape.false

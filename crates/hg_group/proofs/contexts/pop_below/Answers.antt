@@ -28,7 +28,8 @@ both c =
     let cs = c.args.contexts.now.items in
     let left = contexts_left part.history.list part.taken cs (omega (arith, c.requires.mark, c.requires.taken)) c.requires.contexts in
     let below : part.taken < c.args.bound = omega (arith, left, c.len.ensures, c.requires.mark, c.if-taken-bound.false) in
-    pops v (pass_view c.take_group.new.pass) c.args.bound c.take_group.result cs c.pop_front.new.self.items c.in-Some.records c.in-Some.ensures.items below c.requires.contexts c.take_group.ensures.step
+    pops v (pass_view c.take_group.new.pass) c.args.bound c.take_group.result cs c.pop_front.new.self.items c.in-Some.records c.in-Some.ensures.items below c.requires.contexts
+    c.take_group.ensures.step
 
 pub returns-clause-popped : goal.returns-clause-popped
 returns-clause-popped c =

@@ -5,7 +5,11 @@ use Rattle.hg_group.proofs.NextGroup.{pops_none, pops_more, records_more}
 use Rattle.hg_group.proofs.contexts.pop_some.Goals as goal
 
 pub loop-context-init : goal.loop-context-init
-loop-context-init c = record { popped = ([], (sym (append-nil c.args.into.now.items), pops_none (pass_view c.args.pass.now) c.args.bound c.requires.own.1 c.requires.held)); contexts = c.requires.contexts; own = c.requires.own }
+loop-context-init c = record {
+  popped = ([], (sym (append-nil c.args.into.now.items), pops_none (pass_view c.args.pass.now) c.args.bound c.requires.own.1 c.requires.held));
+  contexts = c.requires.contexts;
+  own = c.requires.own;
+}
 
 pub returns-then-len-capacity-clause-popped : goal.returns-then-len-capacity-clause-popped
 returns-then-len-capacity-clause-popped c =

@@ -12,8 +12,11 @@ loop-rid-preserved c =
     let xs = c.args.rids.now in
     let old = c.args.into.now.items in
     let i = c.loop-rid.rid-index in
-    let one = get_or xs i first ∷ [] in
-    (c.push_reserved.ensures.items ∙ (ap (λ l. l ++ one) c.loop-rid.invariant.0 ∙ (append_assoc old (take i xs) one ∙ ap (λ l. old ++ l) (sym (take_next xs i first c.loop-rid-test.true)))), c.push_reserved.ensures.capacity ∙ c.loop-rid.invariant.1)
+    let one = get_or xs i first ∷ [] in (
+      c.push_reserved.ensures.items ∙ (ap (λ l. l ++ one) c.loop-rid.invariant.0 ∙
+          (append_assoc old (take i xs) one ∙ ap (λ l. old ++ l) (sym (take_next xs i first c.loop-rid-test.true)))),
+      c.push_reserved.ensures.capacity ∙ c.loop-rid.invariant.1,
+    )
 
 pub returns : goal.returns
 returns c =

@@ -24,5 +24,7 @@ returns-clause-taken c t sessions is =
         room = k.room;
         laid = (subst (λ x. AreLaid t 1 (set xs i x)) (sym c.take.ensures.after) (laid_none t 1 i xs k.laid.0), length-set xs i c.take.new.self ∙ k.laid.1);
       },
-      subst (λ o. IfSome o (IsLaid t (suc i))) (sym (c.take.ensures.value ∙ c.index_mut.ensures.value)) (subst (λ n. IfSome (get_or xs i c.index_mut.result.now) (IsLaid t n)) up (laid_at t 1 i xs c.index_mut.result.now (subst (λ (b : Book). i < length b.laid.items) (sym c.deref_mut.ensures.value) c.requires.index) k.laid.0)),
+      subst (λ o. IfSome o (IsLaid t (suc i))) (sym (c.take.ensures.value ∙ c.index_mut.ensures.value))
+          (subst (λ n. IfSome (get_or xs i c.index_mut.result.now) (IsLaid t n)) up
+          (laid_at t 1 i xs c.index_mut.result.now (subst (λ (b : Book). i < length b.laid.items) (sym c.deref_mut.ensures.value) c.requires.index) k.laid.0)),
     )

@@ -41,7 +41,8 @@ roomy txs was ms w h = subst (λ l. AreTaken l ms) (sym w.1) (taken_room w.0 was
 pub stamp_batch-requires-clause-received : goal.stamp_batch-requires-clause-received
 stamp_batch-requires-clause-received g c =
     let h = c.gather.ensures.gathered in
-    let o = in_hand (session_view c.args.pass.now) (session_view c.gather.new.pass) (commit_view c.args.kept.seat) (session_view c.join_commit-number.new.pass) (part_in c.args.kept.seat) h.ms h.parts c.requires.kept.0.seat.1 c.join_commit-number.ensures.view in
+    let o = in_hand (session_view c.args.pass.now) (session_view c.gather.new.pass) (commit_view c.args.kept.seat) (session_view c.join_commit-number.new.pass)
+    (part_in c.args.kept.seat) h.ms h.parts c.requires.kept.0.seat.1 c.join_commit-number.ensures.view in
     o.beyond_is ∙ ap lent (sym o.members_are)
 
 pub stamp_batch-requires-clause-taken : goal.stamp_batch-requires-clause-taken
@@ -51,8 +52,10 @@ stamp_batch-requires-clause-taken g c =
     let part = part_in c.args.kept.seat in
     let w = session_view c.join_commit-number.new.pass in
     let o = in_hand v (session_view c.gather.new.pass) (commit_view c.args.kept.seat) w part h.ms h.parts c.requires.kept.0.seat.1 c.join_commit-number.ensures.view in (
-      subst (λ l. AreTaken l (members (beyond w))) (sym c.as_slice-txs.ensures.value) (subst (AreTaken c.make_room.new.popped.items) (sym o.members_are) (roomy c.make_room.new.popped.items c.gather.new.popped.items h.ms c.make_room.ensures.whole h.taken)),
-      subst (λ ms. NoNumberTwice (who ms)) (sym o.members_are) (once (sizes_of c.args.tools.now.board.now) c.join_commit-number.result w c.join_commit-number.ensures.backed (Away (number v) (session v) (since v)) part h.ms o.parts),
+      subst (λ l. AreTaken l (members (beyond w))) (sym c.as_slice-txs.ensures.value)
+          (subst (AreTaken c.make_room.new.popped.items) (sym o.members_are) (roomy c.make_room.new.popped.items c.gather.new.popped.items h.ms c.make_room.ensures.whole h.taken)),
+      subst (λ ms. NoNumberTwice (who ms)) (sym o.members_are) (once (sizes_of c.args.tools.now.board.now) c.join_commit-number.result w c.join_commit-number.ensures.backed
+          (Away (number v) (session v) (since v)) part h.ms o.parts),
     )
 
 pub publish-requires-clause-received : goal.publish-requires-clause-received
@@ -65,8 +68,11 @@ pub publish-requires-clause-may : goal.publish-requires-clause-may
 publish-requires-clause-may g c =
     let h = c.gather.ensures.gathered in
     let w = session_view c.join_commit-number.new.pass in
-    let o = in_hand (session_view c.args.pass.now) (session_view c.gather.new.pass) (commit_view c.args.kept.seat) w (part_in c.args.kept.seat) h.ms h.parts c.requires.kept.0.seat.1 c.join_commit-number.ensures.view in
-    may_all w (session_view c.stamp_batch.new.pass) c.as_slice-txs.result.now (subst (λ l. AreTaken l (members (beyond w))) (sym c.as_slice-txs.ensures.value) (subst (AreTaken c.make_room.new.popped.items) (sym o.members_are) (roomy c.make_room.new.popped.items c.gather.new.popped.items h.ms c.make_room.ensures.whole h.taken))) (search rules) c.stamp_batch.ensures.stamped
+    let o = in_hand (session_view c.args.pass.now) (session_view c.gather.new.pass) (commit_view c.args.kept.seat) w
+    (part_in c.args.kept.seat) h.ms h.parts c.requires.kept.0.seat.1 c.join_commit-number.ensures.view in
+    may_all w (session_view c.stamp_batch.new.pass) c.as_slice-txs.result.now (subst (λ l. AreTaken l (members (beyond w))) (sym c.as_slice-txs.ensures.value)
+    (subst (AreTaken c.make_room.new.popped.items) (sym o.members_are) (roomy c.make_room.new.popped.items c.gather.new.popped.items h.ms c.make_room.ensures.whole h.taken)))
+    (search rules) c.stamp_batch.ensures.stamped
 
 pub lay-requires-clause-group : goal.lay-requires-clause-group
 lay-requires-clause-group g c =
@@ -79,9 +85,13 @@ lay-requires-clause-group g c =
     let n : ℕ = mark + 1 in
     let long : length part.history.list ≡ mark = ap (λ (q : CommitPart). length q.history.list) (sym o.commit_is) ∙ c.join_commit-number.ensures.mark.is_length in
     let next : n ≡ suc (length part.history.list) = omega (arith, long) in
-    let taken : AreTaken c.as_slice-txs.result.now h.ms = subst (λ l. AreTaken l h.ms) (sym c.as_slice-txs.ensures.value) (roomy c.make_room.new.popped.items c.gather.new.popped.items h.ms c.make_room.ensures.whole h.taken) in
-    (has_group v w (session_view c.stamp_batch.new.pass) (session_view c.publish.new.pass) (session_view c.split_commit-seat-2.new.pass) part h.ms c.as_slice-txs.result.now n o c.stamp_batch.ensures.stamped c.publish.ensures.step c.split_commit-seat-2.ensures.view
-    (sizes_of c.args.tools.now.board.now) mark c.deref_mut-open.result.now.count c.join_commit-number.ensures.backed taken next (booked_kept (board_id c.args.tools.now.board.now) (sizes_of c.args.tools.now.board.now).sessions c.args.kept c.deref_mut-open.result.now c.deref_mut-open.ensures.value c.requires.kept.0).count_is)
+    let taken : AreTaken c.as_slice-txs.result.now h.ms = subst (λ l. AreTaken l h.ms) (sym c.as_slice-txs.ensures.value)
+    (roomy c.make_room.new.popped.items c.gather.new.popped.items h.ms c.make_room.ensures.whole h.taken) in
+    (has_group v w (session_view c.stamp_batch.new.pass) (session_view c.publish.new.pass) (session_view c.split_commit-seat-2.new.pass) part h.ms c.as_slice-txs.result.now n o
+    c.stamp_batch.ensures.stamped c.publish.ensures.step c.split_commit-seat-2.ensures.view
+    (sizes_of c.args.tools.now.board.now) mark c.deref_mut-open.result.now.count c.join_commit-number.ensures.backed taken next
+    (booked_kept (board_id c.args.tools.now.board.now) (sizes_of c.args.tools.now.board.now).sessions c.args.kept c.deref_mut-open.result.now c.deref_mut-open.ensures.value
+    c.requires.kept.0).count_is)
 
 pub returns-then-is_empty-clause-turn : goal.returns-then-is_empty-clause-turn
 returns-then-is_empty-clause-turn g c = record { steps = []; events = c.gather.ensures.gathered.events ∙ sym (append-nil (session_view c.args.pass.now).events); whole = inl ([], refl) }
@@ -102,11 +112,16 @@ returns-clause-turn g c =
     let long : length part.history.list ≡ mark = ap (λ (q : CommitPart). length q.history.list) (sym o.commit_is) ∙ c.join_commit-number.ensures.mark.is_length in
     let next : n ≡ suc (length part.history.list) = omega (arith, long) in
     let z = (sizes_of c.args.tools.now.board.now).sessions in
-    let taken : AreTaken c.as_slice-txs.result.now h.ms = subst (λ l. AreTaken l h.ms) (sym c.as_slice-txs.ensures.value) (roomy c.make_room.new.popped.items c.gather.new.popped.items h.ms c.make_room.ensures.whole h.taken) in
+    let taken : AreTaken c.as_slice-txs.result.now h.ms = subst (λ l. AreTaken l h.ms) (sym c.as_slice-txs.ensures.value)
+    (roomy c.make_room.new.popped.items c.gather.new.popped.items h.ms c.make_room.ensures.whole h.taken) in
     let group : HasGroup z u c.as_slice-txs.result.now n c.deref_mut-open.result.now.count =
-    (has_group v w x y u part h.ms c.as_slice-txs.result.now n o s c.publish.ensures.step c.split_commit-seat-2.ensures.view (sizes_of c.args.tools.now.board.now) mark c.deref_mut-open.result.now.count c.join_commit-number.ensures.backed taken next (booked_kept (board_id c.args.tools.now.board.now) (sizes_of c.args.tools.now.board.now).sessions c.args.kept c.deref_mut-open.result.now c.deref_mut-open.ensures.value c.requires.kept.0).count_is) in
+    (has_group v w x y u part h.ms c.as_slice-txs.result.now n o s c.publish.ensures.step c.split_commit-seat-2.ensures.view
+    (sizes_of c.args.tools.now.board.now) mark c.deref_mut-open.result.now.count c.join_commit-number.ensures.backed taken next
+    (booked_kept (board_id c.args.tools.now.board.now) (sizes_of c.args.tools.now.board.now).sessions c.args.kept c.deref_mut-open.result.now c.deref_mut-open.ensures.value
+    c.requires.kept.0).count_is) in
     published_whole v w x y u (session_view c.lay.new.pass) s.steps n c.deref_mut-open.result.now.count z c.as_slice-txs.result.now
-    (ap (λ (t : View). t.events) c.join_commit-number.ensures.view ∙ h.events) s.only s.events (ap (λ (t : View). t.events) c.publish.ensures.step.1) (ap (λ (t : View). t.events) c.split_commit-seat-2.ensures.view) group c.lay.ensures.all
+    (ap (λ (t : View). t.events) c.join_commit-number.ensures.view ∙ h.events) s.only s.events (ap (λ (t : View). t.events) c.publish.ensures.step.1)
+    (ap (λ (t : View). t.events) c.split_commit-seat-2.ensures.view) group c.lay.ensures.all
 
 low : (a h b k : ℕ) → a ≤ h → b ≡ a → k ≡ suc h → b ≤ k
 low a h b k le e f = omega (arith, le, e, f)
@@ -115,7 +130,8 @@ pub returns-clause-kept : goal.returns-clause-kept
 returns-clause-kept g c =
     let v = session_view c.args.pass.now in
     let h = c.gather.ensures.gathered in
-    let kept = booked_kept (board_id c.args.tools.now.board.now) (sizes_of c.args.tools.now.board.now).sessions c.args.kept c.deref_mut-open.result.now c.deref_mut-open.ensures.value c.requires.kept.0 in
+    let kept = booked_kept (board_id c.args.tools.now.board.now) (sizes_of c.args.tools.now.board.now).sessions c.args.kept c.deref_mut-open.result.now
+    c.deref_mut-open.ensures.value c.requires.kept.0 in
     let part = part_in c.args.kept.seat in
     let w = session_view c.join_commit-number.new.pass in
     let y = session_view c.publish.new.pass in
@@ -123,23 +139,39 @@ returns-clause-kept g c =
     let o = in_hand v (session_view c.gather.new.pass) (commit_view c.args.kept.seat) w part h.ms h.parts kept.seat.1 c.join_commit-number.ensures.view in
     let n : ℕ = c.join_commit-number.result + 1 in
     let txs = c.as_slice-txs.result.now in
-    let taken : AreTaken txs h.ms = subst (λ l. AreTaken l h.ms) (sym c.as_slice-txs.ensures.value) (roomy c.make_room.new.popped.items c.gather.new.popped.items h.ms c.make_room.ensures.whole h.taken) in
+    let taken : AreTaken txs h.ms = subst (λ l. AreTaken l h.ms) (sym c.as_slice-txs.ensures.value)
+    (roomy c.make_room.new.popped.items c.gather.new.popped.items h.ms c.make_room.ensures.whole h.taken) in
     let part_is = ap (λ (t : View). commit_there (first_in t.parts)) c.split_commit-seat-2.ensures.seat in
-    let history : (part_in c.split_commit-seat-2.result).history.list ≡ part.history.list ++ group_of h.ms ∷ [] = ap (λ (q : CommitPart). q.history.list) part_is ∙ ap (λ (gs : Groups). gs.list) (after_is v w (session_view c.stamp_batch.new.pass) y u part h.ms txs n o c.stamp_batch.ensures.stamped c.publish.ensures.step c.split_commit-seat-2.ensures.view) in
-    let taken_is : (part_in c.split_commit-seat-2.result).taken ≡ part.taken = ap (λ (q : CommitPart). q.taken) part_is ∙ taken_after v w (session_view c.stamp_batch.new.pass) y u part h.ms txs n o c.stamp_batch.ensures.stamped c.publish.ensures.step c.split_commit-seat-2.ensures.view in
+    let history : (part_in c.split_commit-seat-2.result).history.list ≡ part.history.list ++ group_of h.ms ∷ [] = ap (λ (q : CommitPart). q.history.list) part_is ∙
+    ap (λ (gs : Groups). gs.list) (after_is v w (session_view c.stamp_batch.new.pass) y u part h.ms txs n o c.stamp_batch.ensures.stamped c.publish.ensures.step
+    c.split_commit-seat-2.ensures.view) in
+    let taken_is : (part_in c.split_commit-seat-2.result).taken ≡ part.taken = ap (λ (q : CommitPart). q.taken) part_is ∙
+    taken_after v w (session_view c.stamp_batch.new.pass) y u part h.ms txs n o c.stamp_batch.ensures.stamped c.publish.ensures.step c.split_commit-seat-2.ensures.view in
     let long : length part.history.list ≡ c.join_commit-number.result = ap (λ (q : CommitPart). length q.history.list) (sym o.commit_is) ∙ c.join_commit-number.ensures.mark.is_length in
     let next : n ≡ suc (length part.history.list) = omega (arith, long) in
     let records = c.join_records-records.result in
-    let listed : c.push_back_reserved.new.self.items ≡ c.deref_mut-open.result.now.contexts.items ++ records ∷ [] = c.push_back_reserved.ensures.items ∙ ap (λ l. l ++ records ∷ []) c.make_room.ensures.same in
+    let listed : c.push_back_reserved.new.self.items ≡ c.deref_mut-open.result.now.contexts.items ++ records ∷ [] = c.push_back_reserved.ensures.items ∙
+    ap (λ l. l ++ records ∷ []) c.make_room.ensures.same in
     let many : length (group_of h.ms) ≡ length txs = group_length h.ms ∙ whose_length txs h.ms (taken_whose txs h.ms taken) in
-    let more : c.deref_mut-open.result.now.count + length txs ≡ commits_in (part.history.list ++ group_of h.ms ∷ []) = (λ i. kept.count_is i + sym many i) ∙ sym (commits_more part.history.list (group_of h.ms)) in
-    let pairs : (known c.gather.new.line).pairs ≡ (known c.deref_mut-open.result.now.line).pairs ++ map pair_in txs = h.pairs ∙ ap (λ l. (known c.deref_mut-open.result.now.line).pairs ++ l) (sym (pairs_room c.make_room.ensures.whole.0 c.gather.new.popped.items) ∙ ap (map pair_in) (sym c.make_room.ensures.whole.1 ∙ sym c.as_slice-txs.ensures.value)) in
-    let follows = follows_group (sizes_of c.args.tools.now.board.now) c.join_commit-number.result w c.join_commit-number.ensures.backed (Away (number v) (session v) (since v)) part h.ms o.parts txs taken (known c.deref_mut-open.result.now.line).pairs kept.follows in (
+    let more : c.deref_mut-open.result.now.count + length txs ≡ commits_in (part.history.list ++ group_of h.ms ∷ []) = (λ i. kept.count_is i + sym many i) ∙
+    sym (commits_more part.history.list (group_of h.ms)) in
+    let pairs : (known c.gather.new.line).pairs ≡ (known c.deref_mut-open.result.now.line).pairs ++ map pair_in txs = h.pairs ∙
+    ap (λ l. (known c.deref_mut-open.result.now.line).pairs ++ l) (sym (pairs_room c.make_room.ensures.whole.0 c.gather.new.popped.items) ∙
+    ap (map pair_in) (sym c.make_room.ensures.whole.1 ∙ sym c.as_slice-txs.ensures.value)) in
+    let follows = follows_group (sizes_of c.args.tools.now.board.now) c.join_commit-number.result w c.join_commit-number.ensures.backed
+    (Away (number v) (session v) (since v)) part h.ms o.parts txs taken (known c.deref_mut-open.result.now.line).pairs kept.follows in (
       record {
         seat = c.split_commit-seat-2.ensures.commit;
-        unstamped = ap (λ (q : CommitPart). q.stamped) part_is ∙ none_after v w (session_view c.stamp_batch.new.pass) y u part h.ms txs n o c.stamp_batch.ensures.stamped c.publish.ensures.step c.split_commit-seat-2.ensures.view;
-        taken = low part.taken (length part.history.list) (part_in c.split_commit-seat-2.result).taken (length (part_in c.split_commit-seat-2.result).history.list) kept.taken taken_is (ap length history ∙ length_more part.history.list (group_of h.ms));
-        contexts_are = subst (λ (x : History × (ℕ × List Rids)). AreContexts x.0 x.1.0 x.1.1) (λ i. (sym history i, (sym taken_is i, sym listed i))) (contexts_more part.history.list part.taken c.deref_mut-open.result.now.contexts.items (group_of h.ms) records kept.taken kept.contexts_are (group_context (sizes_of c.args.tools.now.board.now) c.join_commit-number.result w c.join_commit-number.ensures.backed (Away (number v) (session v) (since v)) part h.ms o.parts c.gather.new.popped.items h.taken (suc (length part.history.list)) (context_of (suc (length part.history.list)) records) refl (c.join_records-records.ensures.records ∙ (ap all_records c.make_room.ensures.whole.1 ∙ records_room c.make_room.ensures.whole.0 c.gather.new.popped.items))));
+        unstamped = ap (λ (q : CommitPart). q.stamped) part_is ∙
+            none_after v w (session_view c.stamp_batch.new.pass) y u part h.ms txs n o c.stamp_batch.ensures.stamped c.publish.ensures.step c.split_commit-seat-2.ensures.view;
+        taken = low part.taken (length part.history.list) (part_in c.split_commit-seat-2.result).taken
+            (length (part_in c.split_commit-seat-2.result).history.list) kept.taken taken_is (ap length history ∙ length_more part.history.list (group_of h.ms));
+        contexts_are = subst (λ (x : History × (ℕ × List Rids)). AreContexts x.0 x.1.0 x.1.1) (λ i. (sym history i, (sym taken_is i, sym listed i)))
+            (contexts_more part.history.list part.taken c.deref_mut-open.result.now.contexts.items (group_of h.ms) records kept.taken kept.contexts_are
+            (group_context (sizes_of c.args.tools.now.board.now) c.join_commit-number.result w c.join_commit-number.ensures.backed
+            (Away (number v) (session v) (since v)) part h.ms o.parts c.gather.new.popped.items h.taken (suc (length part.history.list))
+            (context_of (suc (length part.history.list)) records) refl (c.join_records-records.ensures.records ∙
+            (ap all_records c.make_room.ensures.whole.1 ∙ records_room c.make_room.ensures.whole.0 c.gather.new.popped.items))));
         count_is = search rules;
         follows = subst (λ (hs : History). FollowsQueue hs (known c.gather.new.line).pairs) (sym history) (subst (FollowsQueue (part.history.list ++ group_of h.ms ∷ [])) (sym pairs) follows);
         line = (c.gather.ensures.line.1, (c.gather.ensures.line.2, c.gather.ensures.line.3));
@@ -149,7 +181,8 @@ returns-clause-kept g c =
       c.gather.ensures.line.0,
     )
 
-few : (z : Sizes) (mark count long sessions : ℕ) (w : View) (first : Part) (part : CommitPart) (os : List Part) → IsBacked z mark w → w.parts ≡ first ∷ OfCommit part ∷ os → HasRoom z → count ≡ commits_in part.history.list → long ≤ sessions → sessions < 2 ^ 32 → count + long < 2 ^ 64
+few : (z : Sizes) (mark count long sessions : ℕ) (w : View) (first : Part) (part : CommitPart) (os : List Part) → IsBacked z mark w → w.parts ≡ first ∷ OfCommit part ∷ os →
+    HasRoom z → count ≡ commits_in part.history.list → long ≤ sessions → sessions < 2 ^ 32 → count + long < 2 ^ 64
 few z mark count long sessions w first part os backed is room same le small = let a = count_most z mark w first part os backed is room.begins in omega (arith, a, same, le, small)
 
 room_long : (n : ℕ) (txs : List OpenTx) → length (with_room n txs) ≡ length txs
@@ -170,9 +203,12 @@ lay-requires-clause-small g c =
     let txs = c.as_slice-txs.result.now in
     let kept = booked_kept (board_id c.args.tools.now.board.now) z.sessions c.args.kept book c.deref_mut-open.ensures.value c.requires.kept.0 in
     let o = in_hand v (session_view c.gather.new.pass) (commit_view c.args.kept.seat) w part h.ms h.parts c.requires.kept.0.seat.1 c.join_commit-number.ensures.view in
-    let long : length txs ≡ length c.gather.new.popped.items = ap length c.as_slice-txs.ensures.value ∙ (ap length c.make_room.ensures.whole.1 ∙ room_long c.make_room.ensures.whole.0 c.gather.new.popped.items) in
-    let most : length txs ≤ z.sessions = at_most (length txs) (length c.gather.new.popped.items) c.len-sessions.result (length book.laid.items) z.sessions long c.gather.ensures.room.1 (c.len-sessions.ensures ∙ book.laid.ok.0) kept.laid.1 in
-    few z c.join_commit-number.result book.count (length txs) z.sessions w (Away (number v) (session v) (since v)) part (lent h.ms) c.join_commit-number.ensures.backed o.parts c.args.tools.now.board.now.room kept.count_is most (search rules)
+    let long : length txs ≡ length c.gather.new.popped.items = ap length c.as_slice-txs.ensures.value ∙
+    (ap length c.make_room.ensures.whole.1 ∙ room_long c.make_room.ensures.whole.0 c.gather.new.popped.items) in
+    let most : length txs ≤ z.sessions = at_most (length txs) (length c.gather.new.popped.items) c.len-sessions.result
+    (length book.laid.items) z.sessions long c.gather.ensures.room.1 (c.len-sessions.ensures ∙ book.laid.ok.0) kept.laid.1 in
+    few z c.join_commit-number.result book.count (length txs) z.sessions w (Away (number v) (session v) (since v)) part
+    (lent h.ms) c.join_commit-number.ensures.backed o.parts c.args.tools.now.board.now.room kept.count_is most (search rules)
 
 pub overflow_add-open : goal.overflow_add-open
 overflow_add-open g c =
@@ -185,9 +221,14 @@ overflow_add-open g c =
     let txs = c.as_slice-txs.result.now in
     let kept = booked_kept (board_id c.args.tools.now.board.now) z.sessions c.args.kept book c.deref_mut-open.ensures.value c.requires.kept.0 in
     let o = in_hand v (session_view c.gather.new.pass) (commit_view c.args.kept.seat) w part h.ms h.parts c.requires.kept.0.seat.1 c.join_commit-number.ensures.view in
-    let long : length txs ≡ length c.gather.new.popped.items = ap length c.as_slice-txs.ensures.value ∙ (ap length c.make_room.ensures.whole.1 ∙ room_long c.make_room.ensures.whole.0 c.gather.new.popped.items) in
-    let most : length txs ≤ z.sessions = at_most (length txs) (length c.gather.new.popped.items) c.len-sessions.result (length book.laid.items) z.sessions long c.gather.ensures.room.1 (c.len-sessions.ensures ∙ book.laid.ok.0) kept.laid.1 in
-    record { fits = few z c.join_commit-number.result book.count (length txs) z.sessions w (Away (number v) (session v) (since v)) part (lent h.ms) c.join_commit-number.ensures.backed o.parts c.args.tools.now.board.now.room kept.count_is most (search rules) }
+    let long : length txs ≡ length c.gather.new.popped.items = ap length c.as_slice-txs.ensures.value ∙
+    (ap length c.make_room.ensures.whole.1 ∙ room_long c.make_room.ensures.whole.0 c.gather.new.popped.items) in
+    let most : length txs ≤ z.sessions = at_most (length txs) (length c.gather.new.popped.items) c.len-sessions.result
+    (length book.laid.items) z.sessions long c.gather.ensures.room.1 (c.len-sessions.ensures ∙ book.laid.ok.0) kept.laid.1 in
+    record {
+      fits = few z c.join_commit-number.result book.count (length txs) z.sessions w (Away (number v) (session v) (since v)) part
+          (lent h.ms) c.join_commit-number.ensures.backed o.parts c.args.tools.now.board.now.room kept.count_is most (search rules);
+    }
 
 pub lay_back-requires-clause-batch : goal.lay_back-requires-clause-batch
 lay_back-requires-clause-batch g c =
@@ -196,18 +237,22 @@ lay_back-requires-clause-batch g c =
     let part = part_in c.args.kept.seat in
     let w = session_view c.join_commit-number.new.pass in
     let o = in_hand v (session_view c.gather.new.pass) (commit_view c.args.kept.seat) w part h.ms h.parts c.requires.kept.0.seat.1 c.join_commit-number.ensures.view in
-    has_batch v w (session_view c.split_commit-seat.new.pass) part h.ms c.make_room.new.popped.items (sizes_of c.args.tools.now.board.now) c.join_commit-number.result o c.split_commit-seat.ensures.view c.join_commit-number.ensures.backed (roomy c.make_room.new.popped.items c.gather.new.popped.items h.ms c.make_room.ensures.whole h.taken)
+    has_batch v w (session_view c.split_commit-seat.new.pass) part h.ms c.make_room.new.popped.items
+    (sizes_of c.args.tools.now.board.now) c.join_commit-number.result o c.split_commit-seat.ensures.view c.join_commit-number.ensures.backed
+    (roomy c.make_room.new.popped.items c.gather.new.popped.items h.ms c.make_room.ensures.whole h.taken)
 
 pub returns-in_default-clause-kept : goal.returns-in_default-clause-kept
 returns-in_default-clause-kept g c =
     let v = session_view c.args.pass.now in
     let h = c.gather.ensures.gathered in
-    let kept = booked_kept (board_id c.args.tools.now.board.now) (sizes_of c.args.tools.now.board.now).sessions c.args.kept c.deref_mut-open.result.now c.deref_mut-open.ensures.value c.requires.kept.0 in
+    let kept = booked_kept (board_id c.args.tools.now.board.now) (sizes_of c.args.tools.now.board.now).sessions c.args.kept c.deref_mut-open.result.now
+    c.deref_mut-open.ensures.value c.requires.kept.0 in
     let part = part_in c.args.kept.seat in
     let w = session_view c.join_commit-number.new.pass in
     let o = in_hand v (session_view c.gather.new.pass) (commit_view c.args.kept.seat) w part h.ms h.parts kept.seat.1 c.join_commit-number.ensures.view in
     let same : part_in c.split_commit-seat.result ≡ part = ap (λ (t : View). commit_there (first_in t.parts)) c.split_commit-seat.ensures.seat ∙ o.commit_is in
-    let follows = follows_still (sizes_of c.args.tools.now.board.now) c.join_commit-number.result w c.join_commit-number.ensures.backed (Away (number v) (session v) (since v)) part h.ms o.parts c.gather.new.popped.items h.taken (known c.deref_mut-open.result.now.line).pairs kept.follows in (
+    let follows = follows_still (sizes_of c.args.tools.now.board.now) c.join_commit-number.result w c.join_commit-number.ensures.backed
+    (Away (number v) (session v) (since v)) part h.ms o.parts c.gather.new.popped.items h.taken (known c.deref_mut-open.result.now.line).pairs kept.follows in (
       record {
         seat = c.split_commit-seat.ensures.commit;
         unstamped = ap (λ (q : CommitPart). q.stamped) same ∙ kept.unstamped;

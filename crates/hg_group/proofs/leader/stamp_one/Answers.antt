@@ -19,12 +19,14 @@ stamp-requires-clause-mine g c =
     let j = c.args.by.session in
     let backed = c.take-held.ensures.backed in
     let t = away_taken v u c.bucket_of-bucket.result c.requires.own.0.3 c.requires.own.1 c.take-held.ensures.view in
-    let open_ = lent_open (sizes_of c.args.tools.now.board.now) backed.0 j c.bucket_of-bucket.result u c.args.rid backed.1 t.own t.both (subst (λ b. HoldsBucket b u) c.take-held.ensures.held.1 c.take-held.ensures.holds.has)
+    let open_ = lent_open (sizes_of c.args.tools.now.board.now) backed.0 j c.bucket_of-bucket.result u c.args.rid backed.1 t.own t.both
+    (subst (λ b. HoldsBucket b u) c.take-held.ensures.held.1 c.take-held.ensures.holds.has)
     (subst (λ l. l ≡ lent (members l)) (sym t.farther_is) c.requires.received.0) (subst (λ l. IsTrue (is_in (who (members l)) j)) (sym t.farther_is) c.requires.received.1)
     (sym (c.bucket_of-bucket.ensures.own ∙ here c.requires.store.2))
     (subst (λ l. IsSome (open_in c.args.rid (part_of j (members l)).log)) (sym t.farther_is) c.requires.mine)
     (ap (λ (p : CommitPart). is_stamped j c.args.rid p.stamped) t.commit_is ∙ c.requires.once) in
     subst (λ w. IsOpenBy w (held u c.args.rid)) (ap (λ l. writer_at j (members l)) t.farther_is ∙ sym c.requires.by) open_
   where
-    here : store_buckets c.args.tools.now.store.now ≡ (sizes_of c.args.tools.now.board.now).buckets → bucket_of (store_buckets c.args.tools.now.store.now) c.args.rid ≡ bucket_of (sizes_of c.args.tools.now.board.now).buckets c.args.rid
+    here : store_buckets c.args.tools.now.store.now ≡ (sizes_of c.args.tools.now.board.now).buckets →
+        bucket_of (store_buckets c.args.tools.now.store.now) c.args.rid ≡ bucket_of (sizes_of c.args.tools.now.board.now).buckets c.args.rid
     here e = ap (λ n. bucket_of n c.args.rid) e

@@ -20,14 +20,16 @@ loop-found-preserved c =
     let h = subst (Joining own j x c.args.number c.args.writes.now c.loop-found.writes) c.in-Some.is c.loop-found.invariant.joining in
     let its : own_at own j x r ≡ Some c.in_ok-copy.field-0 = sym c.in-Some-image.ensures ∙ ap (λ (i : Image). Some i) (sym c.in_ok-copy.ensures) in
     record {
-      joining = one_more own j x c.args.number c.args.writes.now c.loop-found.writes c.add.new.self r c.in_ok-copy.field-0 c.next_after-found.result h its (none_is _ c.in_ok-add.field-0 c.in_ok-add.ensures.first c.if-not-branch.false) c.in_ok-add.ensures.added c.next_after-found.ensures.next;
+      joining = one_more own j x c.args.number c.args.writes.now c.loop-found.writes c.add.new.self r c.in_ok-copy.field-0 c.next_after-found.result h its
+          (none_is _ c.in_ok-add.field-0 c.in_ok-add.ensures.first c.if-not-branch.false) c.in_ok-add.ensures.added c.next_after-found.ensures.next;
       small = c.next_after-found.ensures.small;
     }
 
 pub loop-found-smaller : goal.loop-found-smaller
 loop-found-smaller c =
     subst (λ o. left_over c.next_after-found.result < left_over o) (sym c.in-Some.is)
-    (ends c.args.own.now c.args.tx.session c.args.tx.number c.in-Some.rid c.next_after-found.result c.next_after-found.ensures.next (subst (λ o. IfSome o IsSmall) c.in-Some.is c.loop-found.invariant.small) c.next_after-found.ensures.small)
+    (ends c.args.own.now c.args.tx.session c.args.tx.number c.in-Some.rid c.next_after-found.result c.next_after-found.ensures.next
+    (subst (λ o. IfSome o IsSmall) c.in-Some.is c.loop-found.invariant.small) c.next_after-found.ensures.small)
 
 some_is : (o : Option Image) (b : Bool) → b ≡ is_none o → b ≡ false → IsSome o
 some_is None b e f = cc

@@ -42,9 +42,12 @@ loop-preserved c =
     record {
       reader = reader_next c.loop.reader c.read.new.self xs k c.loop.invariant.reader c.in_ok-said.ensures.next;
       context = subst (IsContext c.find_wants-wants.result c.keep.new.self) (sym (earlier_next xs k now at)) (c.in_ok-keep.ensures (earlier_at xs k) c.loop.invariant.context);
-      own = subst (AreOpenOwn c.close.new.self) (sym (earlier_next xs k now at)) (c.close.ensures.kept (earlier_at xs k) (others_own c.loop.own c.add.new.self (earlier_at xs k) now c.loop.invariant.own (c.in_ok-first.ensures.added (earlier_at xs k))));
+      own = subst (AreOpenOwn c.close.new.self) (sym (earlier_next xs k now at))
+          (c.close.ensures.kept (earlier_at xs k) (others_own c.loop.own c.add.new.self (earlier_at xs k) now c.loop.invariant.own (c.in_ok-first.ensures.added (earlier_at xs k))));
       versions = subst (AreTallied c.add-in-loop.new.self) (sym (earlier_next xs k now at))
-          (c.in_ok-add.ensures (earlier_at xs k) c.loop.invariant.versions (open_at xs k now at c.requires) (c.in_ok-first.ensures.first (earlier_at xs k) (c.loop.invariant.own now.session now.transaction (open_at xs k now at c.requires))) (few_at xs k less c.len-end.ensures.few c.len-end.ensures.same));
+          (c.in_ok-add.ensures (earlier_at xs k) c.loop.invariant.versions (open_at xs k now at c.requires)
+          (c.in_ok-first.ensures.first (earlier_at xs k) (c.loop.invariant.own now.session now.transaction (open_at xs k now at c.requires)))
+          (few_at xs k less c.len-end.ensures.few c.len-end.ensures.same));
       shows = kept.0;
       fine = kept.1;
     }
@@ -69,5 +72,12 @@ returns c =
     let xs = c.args.all.now in
     let kept = kept_all xs c.loop.counter c.loop.commits (omega (arith, c.len-end.ensures.same)) (c.loop.invariant.shows, c.loop.invariant.fine) in
     let done = history_is xs c.loop.commits c.loop-number.number-counter kept.0 kept.1 c.loop-number.invariant (omega arith) in
-    let lines = ap (λ ys. onto ys []) (take_all xs c.loop.counter (omega (arith, c.len-end.ensures.same))) in
-    (done.0, subst (IsOfHistory (history_of xs)) (sym c.into_writes.ensures) done.1, as_many xs ∙ sym (greatest_number xs) ∙ sym kept.0.greatest, c.tally.ensures xs (subst (AreTallied c.loop.versions) lines c.loop.invariant.versions), subst (λ w. IsContext w c.loop.context (onto xs [])) c.find_wants-wants.ensures (subst (IsContext c.find_wants-wants.result c.loop.context) lines c.loop.invariant.context))
+    let lines = ap (λ ys. onto ys []) (take_all xs c.loop.counter (omega (arith, c.len-end.ensures.same))) in (
+      done.0,
+      subst (IsOfHistory (history_of xs)) (sym c.into_writes.ensures) done.1,
+      as_many xs ∙ sym (greatest_number xs) ∙
+          sym kept.0.greatest,
+      c.tally.ensures xs (subst (AreTallied c.loop.versions) lines c.loop.invariant.versions),
+      subst
+          (λ w. IsContext w c.loop.context (onto xs [])) c.find_wants-wants.ensures (subst (IsContext c.find_wants-wants.result c.loop.context) lines c.loop.invariant.context),
+    )

@@ -23,7 +23,8 @@ returns-then-now-eq0-clause-rest c =
     λ earlier lasts rests.
     let j = c.args.asked.session in
     let last : c.copied-last.result ≡ get nat_cmp c.args.lasts.now j = c.copied-last.ensures ∙ c.get.ensures.value in
-    c.stand-now.ensures.rest earlier (ap (option_map without_rest) last ∙ lasts j) (subst (IsRest j earlier) (sym last) (rests j)) ∙ ap (λ i. rest_in i c.stand-now.result.transaction earlier) (sym c.stand-now.ensures.session)
+    c.stand-now.ensures.rest earlier (ap (option_map without_rest) last ∙ lasts j) (subst (IsRest j earlier) (sym last) (rests j)) ∙
+    ap (λ i. rest_in i c.stand-now.result.transaction earlier) (sym c.stand-now.ensures.session)
 
 pub returns-then-now-eq0-clause-rests : goal.returns-then-now-eq0-clause-rests
 returns-then-now-eq0-clause-rests c =
@@ -39,7 +40,8 @@ returns-clause-rest c =
     λ earlier lasts rests.
     let j = c.args.asked.session in
     let last : c.copied-last.result ≡ get nat_cmp c.args.lasts.now j = c.copied-last.ensures ∙ c.get.ensures.value in
-    c.stand-now.ensures.rest earlier (ap (option_map without_rest) last ∙ lasts j) (subst (IsRest j earlier) (sym last) (rests j)) ∙ ap (λ i. rest_in i c.stand-now.result.transaction earlier) (sym c.stand-now.ensures.session)
+    c.stand-now.ensures.rest earlier (ap (option_map without_rest) last ∙ lasts j) (subst (IsRest j earlier) (sym last) (rests j)) ∙
+    ap (λ i. rest_in i c.stand-now.result.transaction earlier) (sym c.stand-now.ensures.session)
 
 pub returns-clause-rests : goal.returns-clause-rests
 returns-clause-rests c =
@@ -47,6 +49,8 @@ returns-clause-rests c =
     let j = c.args.asked.session in
     let last : c.copied-last.result ≡ get nat_cmp c.args.lasts.now j = c.copied-last.ensures ∙ c.get.ensures.value in
     let is : said_of c.stand-now.result ≡ said earlier c.args.asked c.args.reply.now = c.stand-now.ensures.said (last_of j earlier) (sym (ap (option_map without_rest) last ∙ lasts j)) in
-    let rest : HasRest earlier c.stand-now.result = c.stand-now.ensures.rest earlier (ap (option_map without_rest) last ∙ lasts j) (subst (IsRest j earlier) (sym last) (rests j)) ∙ ap (λ i. rest_in i c.stand-now.result.transaction earlier) (sym c.stand-now.ensures.session) in
+    let rest : HasRest earlier c.stand-now.result = c.stand-now.ensures.rest earlier (ap (option_map without_rest) last ∙ lasts j) (subst (IsRest j earlier) (sym last) (rests j)) ∙
+    ap (λ i. rest_in i c.stand-now.result.transaction earlier) (sym c.stand-now.ensures.session) in
     let some : nat_lt 0 c.stand-now.result.transaction ≡ true = grind (arith, nat_tests) in
-    rests_more c.args.lasts.now c.insert.new.self earlier c.args.asked c.args.reply.now (said_of c.stand-now.result) c.left.result c.stand-now.result.rest is rests some rest c.left.ensures.rest c.in_ok-insert.ensures.updates.0
+    rests_more c.args.lasts.now c.insert.new.self earlier c.args.asked c.args.reply.now (said_of c.stand-now.result) c.left.result c.stand-now.result.rest is rests some rest
+    c.left.ensures.rest c.in_ok-insert.ensures.updates.0

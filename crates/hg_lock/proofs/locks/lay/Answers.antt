@@ -10,7 +10,8 @@ loop-turn-preserved g c =
     let n = c.loop-turn.turn - 1 in
     let xs = c.args.slots.now.items in
     let more : suc n ≡ c.loop-turn.turn + 1 - 1 = omega (arith, c.loop-turn.auto.turn) in
-    search rules ∙ ap (λ l. l ++ None ∷ []) c.loop-turn.invariant ∙ append_assoc xs (Some c.args.value ∷ replicate n None) (None ∷ []) ∙ ap (λ l. xs ++ Some c.args.value ∷ l) (replicate-next n None ∙ ap (λ m. replicate m None) more)
+    search rules ∙ ap (λ l. l ++ None ∷ []) c.loop-turn.invariant ∙ append_assoc xs (Some c.args.value ∷ replicate n None) (None ∷ []) ∙
+    ap (λ l. xs ++ Some c.args.value ∷ l) (replicate-next n None ∙ ap (λ m. replicate m None) more)
 
 pub returns : goal.returns
 returns g c =

@@ -15,7 +15,8 @@ pub loop-line-preserved : goal.loop-line-preserved
 loop-line-preserved c =
     let inv = c.loop-line.invariant in
     let (records, runs, split, count) = inv.taken in
-    let took = has_taken c.args.script.now c.loop-line.progress c.step.new.progress (parted false [] c.loop-line.rest.now) c.loop-line.rest.now c.in-Some.more.now refl (rw c.in-Some.is at c.in_ok-more.ensures) in
+    let took = has_taken c.args.script.now c.loop-line.progress c.step.new.progress (parted false [] c.loop-line.rest.now) c.loop-line.rest.now c.in-Some.more.now refl
+    (rw c.in-Some.is at c.in_ok-more.ensures) in
     let stood = stood_more c.args.script.now records c.loop-line.progress c.step.new.progress c.args.bytes.now c.loop-line.rest.now c.in-Some.more.now runs split took in
     record {
       taken = (records ++ took.fields ∷ [], stood.runs, stood.split, omega (arith, count, length-append records (took.fields ∷ [])));

@@ -18,5 +18,6 @@ loop-k-preserved c =
     let read = value ∙ c.integer_value.ensures ∙ ap integer_value c.read_integer.ensures ∙ ap (λ text. integer_value (integer_of text)) c.field.ensures in
     record {
       size = length-set values c.loop-k.k _ ∙ c.loop-k.invariant.size;
-      same = numbers_more (fields_of c.args.row.now) c.args.i c.args.kinds.now c.loop-k.k values _ c.requires.numbers c.loop-k-test.true (omega (arith, c.loop-k.invariant.size, c.loop-k-test.true, c.requires.few.2)) c.loop-k.invariant.same read;
+      same = numbers_more (fields_of c.args.row.now) c.args.i c.args.kinds.now c.loop-k.k values _ c.requires.numbers c.loop-k-test.true
+          (omega (arith, c.loop-k.invariant.size, c.loop-k-test.true, c.requires.few.2)) c.loop-k.invariant.same read;
     }

@@ -10,7 +10,8 @@ loop-k-init c = record { many = ap length c.in_ok-values.ensures.items; same = c
 pub loop-k-preserved : goal.loop-k-preserved
 loop-k-preserved c = record {
   many = omega (arith, ap length c.in_ok-push.ensures.items, length-append c.loop-k.values.items (c.in_ok-value_in.field-0 ∷ []), c.loop-k.invariant.many);
-  same = values_more (fields_of c.args.row.now) c.args.i c.args.kinds.now c.loop-k.k columns.Number c.loop-k.values.items c.push.new.self.items c.in_ok-value_in.field-0 c.loop-k-test.true c.loop-k.invariant.same
+  same = values_more (fields_of c.args.row.now) c.args.i c.args.kinds.now c.loop-k.k columns.Number c.loop-k.values.items c.push.new.self.items c.in_ok-value_in.field-0
+      c.loop-k-test.true c.loop-k.invariant.same
       (c.in_ok-value_in.ensures ∙ ap (value_in _) c.field.ensures) c.in_ok-push.ensures.items;
 }
 

@@ -9,13 +9,15 @@ use Rattle.hg_seed.proofs.generator.add_drawn.Goals as goal
 pub returns-clause-script : goal.returns-clause-script
 returns-clause-script c =
     let within : c.is_open-within.result ≡ is_open c.args.session c.args.script.now.records = c.is_open-within.ensures ∙ c.requires.known c.args.session c.requires.session in
-    let asked : c.in_ok-statement.statement ≡ statement_at c.args.draws.now (is_open c.args.session c.args.script.now.records) = c.in_ok-statement.ensures.statement ∙ ap (statement_at c.args.draws.now) within in
+    let asked : c.in_ok-statement.statement ≡ statement_at c.args.draws.now (is_open c.args.session c.args.script.now.records) = c.in_ok-statement.ensures.statement ∙
+    ap (statement_at c.args.draws.now) within in
     rw asked at c.in_ok-add.ensures
 
 pub returns-clause-state : goal.returns-clause-state
 returns-clause-state c =
     let within : c.is_open-within.result ≡ is_open c.args.session c.args.script.now.records = c.is_open-within.ensures ∙ c.requires.known c.args.session c.requires.session in
-    let asked : c.in_ok-statement.statement ≡ statement_at c.args.draws.now (is_open c.args.session c.args.script.now.records) = c.in_ok-statement.ensures.statement ∙ ap (statement_at c.args.draws.now) within in
+    let asked : c.in_ok-statement.statement ≡ statement_at c.args.draws.now (is_open c.args.session c.args.script.now.records) = c.in_ok-statement.ensures.statement ∙
+    ap (statement_at c.args.draws.now) within in
     rw asked at c.in_ok-statement.ensures.state
 
 pub returns-clause-known : goal.returns-clause-known

@@ -8,4 +8,5 @@ returns-then-not-is_used c =
     let k = c.loop-i.invariant in
     let within : c.loop-i.i < length c.loop-i.bin = search rules in
     let far = subst (λ xs. take c.loop-i.i xs ++ put_in c.args.rid c.args.place (drop c.loop-i.i xs) ≡ put_in c.args.rid c.args.place c.args.bin.now) (sym k.same) k.far in
-    ap (set c.loop-i.bin c.loop-i.i) c.used.ensures ∙ put_at c.args.rid c.args.place c.loop-i.i c.loop-i.bin (put_in c.args.rid c.args.place c.args.bin.now) _ within (sym c.is_used.ensures ∙ c.if-not-is_used.true) far
+    ap (set c.loop-i.bin c.loop-i.i) c.used.ensures ∙ put_at c.args.rid c.args.place c.loop-i.i c.loop-i.bin (put_in c.args.rid c.args.place c.args.bin.now) _ within
+    (sym c.is_used.ensures ∙ c.if-not-is_used.true) far

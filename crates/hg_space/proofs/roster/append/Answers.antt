@@ -14,7 +14,8 @@ returns-in_err-push-clause-refused c =
 pub returns-clause-last : goal.returns-clause-last
 returns-clause-last c =
     let there : c.args.table.0 < length c.begin.new.lists.items = omega (arith, c.in_ok-begin.ensures.there) in
-    list_more c.begin.new.lists.items c.args.lists.now.items c.args.table.0 c.index_mut-list.result.now c.push.new.self c.args.listed there c.index_mut-list.ensures.value c.in_ok-push.ensures.items (c.begin.ensures.same c.args.table.0)
+    list_more c.begin.new.lists.items c.args.lists.now.items c.args.table.0 c.index_mut-list.result.now c.push.new.self c.args.listed there c.index_mut-list.ensures.value
+    c.in_ok-push.ensures.items (c.begin.ensures.same c.args.table.0)
 
 pub returns-clause-others : goal.returns-clause-others
 returns-clause-others c = λ t apart. list_set_apart c.begin.new.lists.items c.args.table.0 c.push.new.self t apart ∙ c.begin.ensures.same t

@@ -7,4 +7,5 @@ use Rattle.hg_known.proofs.Opened.{open_is, open_without}
 use Rattle.hg_known.proofs.before.Before.open_at.Goals as goal
 
 pub returns : goal.returns
-returns c = λ earlier before. let j = c.args.session in c.left_open.ensures ∙ sym (open_without j (get nat_cmp c.args.self.now.lasts j)) ∙ ap (open_left j) (before.lasts j) ∙ sym (open_is j (last_of j earlier))
+returns c = λ earlier before. let j = c.args.session in c.left_open.ensures ∙ sym (open_without j (get nat_cmp c.args.self.now.lasts j)) ∙ ap (open_left j) (before.lasts j) ∙
+    sym (open_is j (last_of j earlier))

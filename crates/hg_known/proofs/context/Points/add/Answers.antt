@@ -20,5 +20,6 @@ returns c =
     let e = sym c.snapshot_of.ensures ∙ c.in-Some.is in
     record {
       printed = printed_more c.args.self.now.printed c.insert.new.self earlier now c.in-Some.number e c.in_ok-insert.ensures.updates.0 h.printed;
-      declared = declared_more c.args.self.now.declared c.insert-2.new.self earlier now c.in-Some.number e (sym c.is_declared.ensures ∙ c.if-not-is_declared.false) c.in_ok-insert-2.ensures.updates.0 h.declared;
+      declared = declared_more c.args.self.now.declared c.insert-2.new.self earlier now c.in-Some.number e (sym c.is_declared.ensures ∙
+          c.if-not-is_declared.false) c.in_ok-insert-2.ensures.updates.0 h.declared;
     }

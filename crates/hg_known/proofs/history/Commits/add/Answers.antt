@@ -25,8 +25,10 @@ returns-then-not-branch-2 c =
     λ earlier ps own shows fits.
     let now = said_of c.args.said.now in
     let clash : Clashes c.args.own.now c.args.said.now.session c.args.said.now.transaction c.args.number c.args.self.now.writes =
-    subst (λ b. MatchBool b (IsJoined c.args.own.now c.args.said.now.session c.args.said.now.transaction c.args.number c.args.self.now.writes c.add_writes.new.writes) (Clashes c.args.own.now c.args.said.now.session c.args.said.now.transaction c.args.number c.args.self.now.writes)) c.if-not-branch-2.true c.in_ok-add_writes.ensures in
-    clashed (printed c.args.number earlier now) ps clash.0 (subst IsSome (stored_is c.args.own.now earlier now own c.args.number clash.0) clash.1) (subst IsSome (shows.writes clash.0 c.args.number) clash.2) fits.1
+    subst (λ b. MatchBool b (IsJoined c.args.own.now c.args.said.now.session c.args.said.now.transaction c.args.number c.args.self.now.writes c.add_writes.new.writes)
+    (Clashes c.args.own.now c.args.said.now.session c.args.said.now.transaction c.args.number c.args.self.now.writes)) c.if-not-branch-2.true c.in_ok-add_writes.ensures in
+    clashed (printed c.args.number earlier now) ps clash.0 (subst IsSome (stored_is c.args.own.now earlier now own c.args.number clash.0) clash.1)
+    (subst IsSome (shows.writes clash.0 c.args.number) clash.2) fits.1
 
 pub returns : goal.returns
 returns c =
@@ -35,7 +37,8 @@ returns c =
     let n = c.args.number in
     let p = printed n earlier now in
     let joined : IsJoined c.args.own.now c.args.said.now.session c.args.said.now.transaction n c.args.self.now.writes c.add_writes.new.writes =
-    subst (λ b. MatchBool b (IsJoined c.args.own.now c.args.said.now.session c.args.said.now.transaction n c.args.self.now.writes c.add_writes.new.writes) (Clashes c.args.own.now c.args.said.now.session c.args.said.now.transaction n c.args.self.now.writes)) c.if-not-branch-2.false c.in_ok-add_writes.ensures in
+    subst (λ b. MatchBool b (IsJoined c.args.own.now c.args.said.now.session c.args.said.now.transaction n c.args.self.now.writes c.add_writes.new.writes)
+    (Clashes c.args.own.now c.args.said.now.session c.args.said.now.transaction n c.args.self.now.writes)) c.if-not-branch-2.false c.in_ok-add_writes.ensures in
     let its = stored_is c.args.own.now earlier now own n in
     let no_seat = sym (shows.seats n c.args.said.now.session) ∙ free c.in_ok-insert.field-0 _ c.in_ok-insert.ensures.added c.if-not-branch.false in
     let below : c.args.said.now.at < n = omega (arith, c.if-said-number.false) in

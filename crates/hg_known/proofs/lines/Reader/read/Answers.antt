@@ -71,13 +71,15 @@ returns-clause-said c =
     let replied : reply ≡ it.reply = c.reply-reply.ensures it (get_or_default xs k now it less) in
     let is : get_or xs k now ≡ said (onto (take k xs) []) r reply =
     (λ i. get_or (sym c.all.view_is i) k now)
-    ∙ read_at [] ls.sequence.now ls.lines.now k r reply now long short c.in_ok-record.ensures (λ line e. replied ∙ (λ i. (get_or (sym c.all.view_is i) k now).reply) ∙ sym (reply_at [] ls.sequence.now ls.lines.now k line now same short e))
+    ∙ read_at [] ls.sequence.now ls.lines.now k r reply now long short c.in_ok-record.ensures (λ line e. replied ∙ (λ i. (get_or (sym c.all.view_is i) k now).reply) ∙
+    sym (reply_at [] ls.sequence.now ls.lines.now k line now same short e))
     ∙ (λ i. said (onto (take k (c.all.view_is i)) []) r reply) in
     c.in_ok-said.ensures.said (onto (take k xs) []) c.self.invariant.0 ∙ sym is ∙ (λ i. get_or (c.self.view_is i).1 (c.self.view_is i).0 now)
 
 pub returns-clause-rest : goal.returns-clause-rest
 returns-clause-rest c =
-    subst (λ (p : ℕ × List Said). HasRest (onto (take p.0 p.1) []) c.in_ok-said.said) c.self.view_is (c.in_ok-said.ensures.rest (onto (take c.self.inside.at c.self.inside.all.now) []) c.self.invariant.0 c.self.invariant.1)
+    subst (λ (p : ℕ × List Said). HasRest (onto (take p.0 p.1) []) c.in_ok-said.said) c.self.view_is
+    (c.in_ok-said.ensures.rest (onto (take c.self.inside.at c.self.inside.all.now) []) c.self.invariant.0 c.self.invariant.1)
 
 pub invariant_of-self-2 : goal.invariant_of-self-2
 invariant_of-self-2 c =
@@ -98,7 +100,8 @@ invariant_of-self-2 c =
     let replied : reply ≡ it.reply = c.reply-reply.ensures it (get_or_default xs k now it less) in
     let is : get_or xs k now ≡ said (onto (take k xs) []) r reply =
     (λ i. get_or (sym c.all.view_is i) k now)
-    ∙ read_at [] ls.sequence.now ls.lines.now k r reply now long short c.in_ok-record.ensures (λ line e. replied ∙ (λ i. (get_or (sym c.all.view_is i) k now).reply) ∙ sym (reply_at [] ls.sequence.now ls.lines.now k line now same short e))
+    ∙ read_at [] ls.sequence.now ls.lines.now k r reply now long short c.in_ok-record.ensures (λ line e. replied ∙ (λ i. (get_or (sym c.all.view_is i) k now).reply) ∙
+    sym (reply_at [] ls.sequence.now ls.lines.now k line now same short e))
     ∙ (λ i. said (onto (take k (c.all.view_is i)) []) r reply) in
     let at : AtLine xs k now = at_line xs k now less (c.in_ok-said.ensures.said (onto (take k xs) []) c.self.invariant.0 ∙ sym is) in (
       subst (AreLasts c.read_line.new.lasts) (sym (earlier_next xs k now at)) (c.in_ok-said.ensures.lasts (earlier_at xs k) c.self.invariant.0),

@@ -16,7 +16,8 @@ returns-clause-first c =
     let is : stored now ≡ Some w = sym c.in_ok-rid.ensures ∙ ap (option_map write_of) c.in-Some.is in
     let es = c.self.inside.images.entries in
     is_none_of c.in_ok-before.before c.is_none.result c.is_none.ensures
-    ∙ sym (first_some earlier now w c.in_ok-before.before is (c.in_ok-before.ensures.old ∙ looked_up es (spot now.session now.transaction c.in-Some.rid) ∙ ap (λ es. own_at es now.session now.transaction c.in-Some.rid) c.self.view_is ∙ own c.in-Some.rid))
+    ∙ sym (first_some earlier now w c.in_ok-before.before is (c.in_ok-before.ensures.old ∙ looked_up es (spot now.session now.transaction c.in-Some.rid) ∙
+    ap (λ es. own_at es now.session now.transaction c.in-Some.rid) c.self.view_is ∙ own c.in-Some.rid))
 
 pub returns-clause-added : goal.returns-clause-added
 returns-clause-added c =

@@ -15,6 +15,7 @@ loop-found-preserved c =
     let its : ((j == j) && (x == x)) ≡ true = λ i. (Decides-eqb j j).1 refl i && (Decides-eqb x x).1 refl i in
     record {
       kept = λ k y q e. c.remove.ensures k y q ∙ (λ i. cond (e i && same_rid r q) None (own_at old k y q)) ∙ c.loop-found.invariant.kept k y q e;
-      left = left_on old c.remove.new.self j x r c.next_after-found.result (λ q. c.remove.ensures j x q ∙ (λ i. cond (its i && same_rid r q) None (own_at old j x q))) c.next_after-found.ensures.next (subst (Left old j x) c.in-Some.is c.loop-found.invariant.left);
+      left = left_on old c.remove.new.self j x r c.next_after-found.result (λ q. c.remove.ensures j x q ∙
+          (λ i. cond (its i && same_rid r q) None (own_at old j x q))) c.next_after-found.ensures.next (subst (Left old j x) c.in-Some.is c.loop-found.invariant.left);
       small = c.next_after-found.ensures.small;
     }

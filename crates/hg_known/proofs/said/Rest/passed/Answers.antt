@@ -7,4 +7,5 @@ pub returns-then-count-eq0 : goal.returns-then-count-eq0
 returns-then-count-eq0 c = sym (passed_none c.args.most c.args.self.high c.args.rows.now (omega arith))
 
 pub returns : goal.returns
-returns c = ap (λ (p : ℕ × List Value). p.0) (sym c.index-rows-count.is) ∙ passed_last c.args.most c.args.self.high c.args.rows.now (length c.args.rows.now - 1) c.index-rows-count.result (omega arith) (omega arith) c.index-rows-count.is
+returns c = ap (λ (p : ℕ × List Value). p.0) (sym c.index-rows-count.is) ∙
+    passed_last c.args.most c.args.self.high c.args.rows.now (length c.args.rows.now - 1) c.index-rows-count.result (omega arith) (omega arith) c.index-rows-count.is

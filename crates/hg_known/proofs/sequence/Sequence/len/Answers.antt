@@ -9,5 +9,6 @@ returns c =
     let s = c.self.inside in
     let shown = map (record_at s.script.now) s.indices.items in
     let many : length shown ≡ length s.indices.items = length-map s.indices.items (record_at s.script.now) in
-    let all : length shown + 3 * s.rounds ≡ length c.args.self.now = sym (run_length shown s.rounds) ∙ ap (λ b. length (sequence_of b s.script.now s.indices.items s.rounds)) (sym c.if-self.false) ∙ ap length c.self.view_is in
+    let all : length shown + 3 * s.rounds ≡ length c.args.self.now = sym (run_length shown s.rounds) ∙
+    ap (λ b. length (sequence_of b s.script.now s.indices.items s.rounds)) (sym c.if-self.false) ∙ ap length c.self.view_is in
     omega (arith, many, all, c.len.ensures)

@@ -19,4 +19,5 @@ pub returns : goal.returns
 returns c =
     let last = last_entry c.self.inside.images c.args.rid c.args.number c.range.result _ _ _ (c.range.ensures.in_range tt) c.in_ok-slot.ensures.steps in
     subst (λ es. IsLastAt es c.args.rid c.args.number (Some (c.in_ok-slot.slot.now.number, c.in_ok-slot.image.now))) c.self.view_is
-    (last_here c.self.inside.images c.args.rid c.args.number c.in_ok-slot.slot.now c.in_ok-slot.image.now last (same_rid_equal c.in_ok-slot.slot.now.rid c.args.rid (not_false _ (sym c.if-ne.ensures))))
+    (last_here c.self.inside.images c.args.rid c.args.number c.in_ok-slot.slot.now c.in_ok-slot.image.now last
+    (same_rid_equal c.in_ok-slot.slot.now.rid c.args.rid (not_false _ (sym c.if-ne.ensures))))

@@ -8,7 +8,8 @@ pub returns-in_err-slot-clause-shown : goal.returns-in_err-slot-clause-shown
 returns-in_err-slot-clause-shown c =
     λ h is.
     let small : c.args.at ≤ 18446744073709551615 = omega arith in
-    let none = no_key c.self.inside.images c.args.table c.args.key 18446744073709551615 c.args.at c.range.result small (c.range.ensures.in_range tt) c.in_err-slot.ensures.steps.0 h (subst (IsOfHistory h) (sym c.self.view_is) is) in
+    let none = no_key c.self.inside.images c.args.table c.args.key 18446744073709551615 c.args.at c.range.result small (c.range.ensures.in_range tt) c.in_err-slot.ensures.steps.0 h
+    (subst (IsOfHistory h) (sym c.self.view_is) is) in
     rw (c.from_residual.ensures) none
 
 pub returns-then-ne-clause-shown : goal.returns-then-ne-clause-shown
@@ -16,7 +17,8 @@ returns-then-ne-clause-shown c =
     λ h is.
     let small : c.args.at ≤ 18446744073709551615 = omega arith in
     let last = last_key c.self.inside.images c.args.table c.args.key 18446744073709551615 c.range.result _ _ _ (c.range.ensures.in_range tt) c.in_ok-slot.ensures.steps in
-    other_table c.self.inside.images c.args.table c.args.key 18446744073709551615 c.args.at _ _ small last (λ same. let k = c.if-ne.ensures in grind (arith, nat_tests, k, same)) h (subst (IsOfHistory h) (sym c.self.view_is) is)
+    other_table c.self.inside.images c.args.table c.args.key 18446744073709551615 c.args.at _ _ small last (λ same. let k = c.if-ne.ensures in
+    grind (arith, nat_tests, k, same)) h (subst (IsOfHistory h) (sym c.self.view_is) is)
 
 pub returns-then-slot-at-clause-shown : goal.returns-then-slot-at-clause-shown
 returns-then-slot-at-clause-shown c =
@@ -33,7 +35,8 @@ returns-clause-shown c =
     λ h is.
     let small : c.args.at ≤ 18446744073709551615 = omega arith in
     let last = last_key c.self.inside.images c.args.table c.args.key 18446744073709551615 c.range.result _ _ _ (c.range.ensures.in_range tt) c.in_ok-slot.ensures.steps in
-    this_key c.self.inside.images c.args.table c.args.key 18446744073709551615 c.args.at _ _ _ small last (let k = c.if-ne.ensures in grind (arith, nat_tests, k)) h (subst (IsOfHistory h) (sym c.self.view_is) is) (c.visible.ensures h is)
+    this_key c.self.inside.images c.args.table c.args.key 18446744073709551615 c.args.at _ _ _ small last (let k = c.if-ne.ensures in
+    grind (arith, nat_tests, k)) h (subst (IsOfHistory h) (sym c.self.view_is) is) (c.visible.ensures h is)
 
 pub returns-then-slot-at-clause-within : goal.returns-then-slot-at-clause-within
 returns-then-slot-at-clause-within c =

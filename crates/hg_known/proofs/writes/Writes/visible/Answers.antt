@@ -15,4 +15,5 @@ returns c =
     λ h shows.
     let e = c.in_ok-image.ensures in
     c.as_ref.ensures.value
-    ∙ sym (ap (λ (i : Image). i.row) (last_visible h c.args.rid c.args.at c.in_ok-image.field-0-0 c.in_ok-image.image.now e.0 (sym (shows c.args.rid c.in_ok-image.field-0-0) ∙ e.1) (λ m j k. sym (shows c.args.rid m) ∙ e.2 m j k)))
+    ∙ sym (ap (λ (i : Image). i.row) (last_visible h c.args.rid c.args.at c.in_ok-image.field-0-0 c.in_ok-image.image.now e.0 (sym (shows c.args.rid c.in_ok-image.field-0-0) ∙ e.1)
+    (λ m j k. sym (shows c.args.rid m) ∙ e.2 m j k)))

@@ -20,7 +20,8 @@ invariant_of-self-2 c =
     let x : Entry = record { session = c.args.session; next = NOWHERE; packed = c.in_ok-packed.packed } in
     let (most, few, few_rows, within, sessions, chained, cursored, known) = c.self.invariant in
     let cursor : c.of-cursor.result ≡ cursor_among c.args.session es = c.of-cursor.ensures ∙ known c.args.session c.requires.session in
-    let opened : table_opened x.packed ≡ c.opens-opened.result = ap table_opened c.in_ok-packed.ensures.packed ∙ packed_opens c.of-cursor.result (length ns) (length rows) c.args.statement ∙ sym c.opens-opened.ensures in
+    let opened : table_opened x.packed ≡ c.opens-opened.result = ap table_opened c.in_ok-packed.ensures.packed ∙
+    packed_opens c.of-cursor.result (length ns) (length rows) c.args.statement ∙ sym c.opens-opened.ensures in
     let room = rw (← c.self.view_is) at c.requires.room in
     let less : length es < MOST_RECORDS = omega (arith, room, length-map es (unpacked ns rows)) in
     let same : c.push.new.self.items ≡ es ++ x ∷ [] = rw (c.in_ok-push.ensures.items, c.reserve.ensures.items) refl in
@@ -31,11 +32,14 @@ invariant_of-self-2 c =
       omega (arith, few, more, c.in_ok-packed.ensures.few, ap length c.in_ok-packed.ensures.numbers, length-append ns (added c.args.statement)),
       omega (arith, few_rows, more, c.in_ok-packed.ensures.one, ap length c.in_ok-packed.ensures.rows, length-append rows (added_rows c.args.statement)),
       led_within (length c.pack.new.numbers.items) (length c.pack.new.rows.items) c.note-last.result (length es) (es ++ x ∷ [])
-          (each_snoc (IsWithin (length c.pack.new.numbers.items) (length c.pack.new.rows.items)) es x (rw (c.in_ok-packed.ensures.numbers, c.in_ok-packed.ensures.rows) (within_more ns (added c.args.statement) rows (added_rows c.args.statement) es within)) c.in_ok-packed.ensures.within),
+          (each_snoc (IsWithin (length c.pack.new.numbers.items) (length c.pack.new.rows.items)) es x
+          (rw (c.in_ok-packed.ensures.numbers, c.in_ok-packed.ensures.rows) (within_more ns (added c.args.statement) rows (added_rows c.args.statement) es within)) c.in_ok-packed.ensures.within),
       led_session c.note-last.result (length es) (es ++ x ∷ []) (each_snoc HasSession es x sessions c.requires.session),
-      chained_more c.self.inside.ends c.note-last.new.self es x c.note-last.result chained c.requires.session refl (omega (arith, less)) c.note-last.ensures.before (λ j. rw here at (c.note-last.ensures.first j)) (λ j. rw here at (c.note-last.ensures.last j)),
+      chained_more c.self.inside.ends c.note-last.new.self es x c.note-last.result chained c.requires.session refl (omega (arith, less)) c.note-last.ensures.before
+          (λ j. rw here at (c.note-last.ensures.first j)) (λ j. rw here at (c.note-last.ensures.last j)),
       led_cursored c.note-last.result (length es) (es ++ x ∷ [])
-          (cursored_more [] es x cursored (subst (HasCursor (cursor_among c.args.session es)) (sym c.in_ok-packed.ensures.packed) (subst (λ o. HasCursor o (packed_as c.of-cursor.result (length ns) (length rows) c.args.statement)) cursor (packed_has c.of-cursor.result (length ns) (length rows) c.args.statement)))),
+          (cursored_more [] es x cursored (subst (HasCursor (cursor_among c.args.session es)) (sym c.in_ok-packed.ensures.packed)
+          (subst (λ o. HasCursor o (packed_as c.of-cursor.result (length ns) (length rows) c.args.statement)) cursor (packed_has c.of-cursor.result (length ns) (length rows) c.args.statement)))),
       λ j h.
           c.note.ensures j
           ∙ ap (λ o. option_or (if c.args.session == j then o else None) (get_or c.self.inside.cursors.tables j None)) (sym opened)
@@ -46,5 +50,14 @@ invariant_of-self-2 c =
 
 pub returns-clause-ok : goal.returns-clause-ok
 returns-clause-ok c =
-    rw (← c.self.view_is, c.lead.ensures, led_unpacked c.pack.new.numbers.items c.pack.new.rows.items c.note-last.result c.len-here.result c.push.new.self.items, c.in_ok-push.ensures.items, c.in_ok-packed.ensures.numbers, c.in_ok-packed.ensures.rows, c.in_ok-packed.ensures.packed, c.reserve.ensures.items)
+    rw (
+      ← c.self.view_is,
+      c.lead.ensures,
+      led_unpacked c.pack.new.numbers.items c.pack.new.rows.items c.note-last.result c.len-here.result c.push.new.self.items,
+      c.in_ok-push.ensures.items,
+      c.in_ok-packed.ensures.numbers,
+      c.in_ok-packed.ensures.rows,
+      c.in_ok-packed.ensures.packed,
+      c.reserve.ensures.items,
+    )
     (one_more c.of-cursor.result c.self.inside.numbers.items c.self.inside.rows.items c.self.inside.entries.items c.args.session NOWHERE c.args.statement c.self.invariant.3)

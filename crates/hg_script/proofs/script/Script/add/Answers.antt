@@ -19,4 +19,10 @@ pub returns : goal.returns
 returns c =
     let s = c.self.inside.statements in
     let place = many_before c.self.inside.version (length c.self.inside.tables) + 1 in
-    rw (← c.self.view_is, numbered_many place s, c.in_ok-push.ensures.ok, numbered_one place s c.args.session c.args.statement (many_before c.self.inside.version (length c.self.inside.tables) + length s + 1) (omega arith)) refl
+    rw (
+      ← c.self.view_is,
+      numbered_many place s,
+      c.in_ok-push.ensures.ok,
+      numbered_one place s c.args.session c.args.statement
+          (many_before c.self.inside.version (length c.self.inside.tables) + length s + 1) (omega arith),
+    ) refl

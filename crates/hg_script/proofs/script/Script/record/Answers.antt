@@ -14,7 +14,16 @@ overflow_add-place-2 c =
     let less = rw (← c.self.view_is) at c.requires in
     let most = c.self.invariant in
     let before = rw (← c.self.view_is) at c.records_before.ensures in
-    omega (arith, less, before, few_before c.self.inside.version (length c.self.inside.tables), most.0, most.1, numbered_many (many_before c.self.inside.version (length c.self.inside.tables) + 1) c.self.inside.statements)
+    omega (
+      arith,
+      less,
+      before,
+      few_before c.self.inside.version (length c.self.inside.tables),
+      most.0,
+      most.1,
+      numbered_many
+          (many_before c.self.inside.version (length c.self.inside.tables) + 1) c.self.inside.statements,
+    )
 
 pub returns : goal.returns
 returns c =

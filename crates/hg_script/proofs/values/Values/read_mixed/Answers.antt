@@ -14,7 +14,8 @@ loop-i-preserved c =
     let kinds = c.args.kinds.now in
     let inv = c.loop-i.invariant in
     let room : 4 + i < length r = omega (arith, c.loop-i-test.true, c.requires.many) in
-    let is : value_in (get_or kinds i column.Number) (nth r (4 + i)) ≡ Some c.in-Some.value = sym (ap (value_in (get_or kinds i column.Number)) c.field.ensures) ∙ sym c.read_value.ensures ∙ c.in-Some.is in
+    let is : value_in (get_or kinds i column.Number) (nth r (4 + i)) ≡ Some c.in-Some.value = sym (ap (value_in (get_or kinds i column.Number)) c.field.ensures) ∙
+    sym c.read_value.ensures ∙ c.in-Some.is in
     let added = c.in_ok-push-in-Some.ensures.items in record {
       many = omega (arith, ap length added, length-append c.loop-i.values.items (c.in-Some.value ∷ []), inv.many);
       values = rw added (more-value kinds r i column.Number c.loop-i.values.items c.in-Some.value _ c.loop-i-test.true room is inv.values);

@@ -15,12 +15,15 @@ pub invariant_of-self-2 : goal.invariant_of-self-2
 invariant_of-self-2 c =
     let ls = lists_in c.self.inside.lists.items in
     let there : c.args.place < length c.reach.new.standings.items = omega (arith, c.in_ok-reach.ensures.there) in
-    let all = entered ls (lists_in c.append.new.lists.items) c.self.inside.standings.items c.reach.new.standings.items c.args.table.0 (record { key = c.args.key; place = c.args.place }) c.self.invariant c.reach.ensures.stay (nowhere_inside ls c.args.self.now c.args.place c.self.view_is c.requires.new_place) there c.in_ok-at.ensures.last c.append.ensures.others in
+    let all = entered ls (lists_in c.append.new.lists.items) c.self.inside.standings.items c.reach.new.standings.items c.args.table.0
+    (record { key = c.args.key; place = c.args.place }) c.self.invariant c.reach.ensures.stay
+    (nowhere_inside ls c.args.self.now c.args.place c.self.view_is c.requires.new_place) there c.in_ok-at.ensures.last c.append.ensures.others in
     subst (λ n. AreStanding (lists_in c.append.new.lists.items) (set c.reach.new.standings.items c.args.place (standing_at c.args.table.0 n))) (sym c.in_ok-at.ensures.at) all
 
 pub returns-clause-last : goal.returns-clause-last
 returns-clause-last c =
-    trimmed_list (lists_in c.append.new.lists.items) c.args.table.0 ∙ c.in_ok-at.ensures.last ∙ ap (λ xs. xs ++ record { key = c.args.key; place = c.args.place } ∷ []) (seen_list (lists_in c.self.inside.lists.items) c.args.self.now c.args.table.0 c.self.view_is)
+    trimmed_list (lists_in c.append.new.lists.items) c.args.table.0 ∙ c.in_ok-at.ensures.last ∙
+    ap (λ xs. xs ++ record { key = c.args.key; place = c.args.place } ∷ []) (seen_list (lists_in c.self.inside.lists.items) c.args.self.now c.args.table.0 c.self.view_is)
 
 pub returns-clause-others : goal.returns-clause-others
 returns-clause-others c = λ t apart. seen_apart (lists_in c.self.inside.lists.items) (lists_in c.append.new.lists.items) c.args.self.now t c.self.view_is (c.append.ensures.others t apart)

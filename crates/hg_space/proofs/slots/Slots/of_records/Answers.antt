@@ -19,5 +19,6 @@ loop-rid-preserved c =
     let up = subst (λ es. IsStrictlySortedBy rid_cmp (keys_of es)) e c.loop-rid.invariant.ascends in
     record {
       ascends = sorted_tail rid_cmp r (keys_of c.next.new.self) up;
-      said = filled c.loop-rid.slots c.put.new.self c.args.places.now.entries c.next.new.self r p up c.put.ensures.here c.put.ensures.others (λ q. subst (λ es. Says (look_at c.loop-rid.slots q) (place_of es q) (place_of c.args.places.now.entries q)) e (c.loop-rid.invariant.said q));
+      said = filled c.loop-rid.slots c.put.new.self c.args.places.now.entries c.next.new.self r p up c.put.ensures.here c.put.ensures.others
+          (λ q. subst (λ es. Says (look_at c.loop-rid.slots q) (place_of es q) (place_of c.args.places.now.entries q)) e (c.loop-rid.invariant.said q));
     }

@@ -12,6 +12,7 @@ invariant_of-result c =
     record {
       begun = (
         omega arith,
-        start_put c.args.session c.args.place _ _ _ (put_tail (replicate 48 0) c.copy_from_slice.new.self 44 4 0 48 refl c.copy_from_slice.ensures.len (omega arith) (omega arith) ∙ append-nil _ ∙ word) c.put_number-after.ensures.written (rw c.from.ensures at c.write_digits-from.ensures.written),
+        start_put c.args.session c.args.place _ _ _ (put_tail (replicate 48 0) c.copy_from_slice.new.self 44 4 0 48 refl c.copy_from_slice.ensures.len (omega arith) (omega arith) ∙
+            append-nil _ ∙ word) c.put_number-after.ensures.written (rw c.from.ensures at c.write_digits-from.ensures.written),
       );
     }
