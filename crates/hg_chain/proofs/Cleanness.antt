@@ -54,26 +54,33 @@ clean_swept horizon xs up kept [] u h l = tt
 clean_swept horizon xs up kept (v ∷ vs) u h l =
     let below = under_next v.stamp vs h.0 in
     cases (goes horizon xs up (number_in v.stamp))
-    (λ e. subst (IsCleanFrom horizon xs kept) (sym (swept_goes horizon xs up v vs e)) (clean_swept horizon xs (number_in v.stamp) kept vs below h.1 (later_gone horizon xs up kept (number_in v.stamp) l (under_follows up v vs u) e)))
-    (λ e. subst (IsCleanFrom horizon xs kept) (sym (swept_stays horizon xs up v vs e)) (may_stay horizon xs up kept (number_in v.stamp) l e, clean_swept horizon xs (number_in v.stamp) (number_in v.stamp) vs below h.1 (later_itself (number_in v.stamp))))
+    (λ e. subst (IsCleanFrom horizon xs kept) (sym (swept_goes horizon xs up v vs e))
+    (clean_swept horizon xs (number_in v.stamp) kept vs below h.1 (later_gone horizon xs up kept (number_in v.stamp) l (under_follows up v vs u) e)))
+    (λ e. subst (IsCleanFrom horizon xs kept) (sym (swept_stays horizon xs up v vs e))
+    (may_stay horizon xs up kept (number_in v.stamp) l e, clean_swept horizon xs (number_in v.stamp) (number_in v.stamp) vs below h.1 (later_itself (number_in v.stamp))))
 
 -- the last version that is left is the last that was, or over it
-pub last_later : (horizon : ℕ) (xs : List ℕ) (up kept : Option ℕ) (vs : List Version) → Under up vs → IsChain vs → Later up kept → Later (last_after up vs) (last_after kept (swept_from horizon xs up vs))
+pub last_later : (horizon : ℕ) (xs : List ℕ) (up kept : Option ℕ) (vs : List Version) → Under up vs → IsChain vs → Later up kept →
+    Later (last_after up vs) (last_after kept (swept_from horizon xs up vs))
 last_later horizon xs up kept [] u h l = l
 last_later horizon xs up kept (v ∷ vs) u h l =
     let below = under_next v.stamp vs h.0 in
     cases (goes horizon xs up (number_in v.stamp))
-    (λ e. subst (λ ws. Later (last_after (number_in v.stamp) vs) (last_after kept ws)) (sym (swept_goes horizon xs up v vs e)) (last_later horizon xs (number_in v.stamp) kept vs below h.1 (later_gone horizon xs up kept (number_in v.stamp) l (under_follows up v vs u) e)))
-    (λ e. subst (λ ws. Later (last_after (number_in v.stamp) vs) (last_after kept ws)) (sym (swept_stays horizon xs up v vs e)) (last_later horizon xs (number_in v.stamp) (number_in v.stamp) vs below h.1 (later_itself (number_in v.stamp))))
+    (λ e. subst (λ ws. Later (last_after (number_in v.stamp) vs) (last_after kept ws)) (sym (swept_goes horizon xs up v vs e))
+    (last_later horizon xs (number_in v.stamp) kept vs below h.1 (later_gone horizon xs up kept (number_in v.stamp) l (under_follows up v vs u) e)))
+    (λ e. subst (λ ws. Later (last_after (number_in v.stamp) vs) (last_after kept ws)) (sym (swept_stays horizon xs up v vs e))
+    (last_later horizon xs (number_in v.stamp) (number_in v.stamp) vs below h.1 (later_itself (number_in v.stamp))))
 
 pub all_clean : (horizon : ℕ) (xs : List ℕ) (vs : List Version) → IsChain vs → IsClean horizon xs (swept horizon xs vs)
 all_clean horizon xs vs h = clean_swept horizon xs None None vs tt h tt
 
-pub base_stays : (horizon : ℕ) (xs : List ℕ) (base : Option ℕ) (vs : List Version) → IsChain vs → OnFalse (goes horizon xs (last_number vs) base) (MayStay horizon xs (last_number (swept horizon xs vs)) base)
+pub base_stays : (horizon : ℕ) (xs : List ℕ) (base : Option ℕ) (vs : List Version) → IsChain vs →
+    OnFalse (goes horizon xs (last_number vs) base) (MayStay horizon xs (last_number (swept horizon xs vs)) base)
 base_stays horizon xs base vs h = go (goes horizon xs (last_number vs) base) (may_stay horizon xs (last_number vs) (last_number (swept horizon xs vs)) base later)
   where
     later : Later (last_number vs) (last_number (swept horizon xs vs))
-    later = subst (λ n. Later n (last_number (swept horizon xs vs))) (last_of_all vs) (subst (Later (last_after None vs)) (last_of_all (swept horizon xs vs)) (last_later horizon xs None None vs tt h tt))
+    later = subst (λ n. Later n (last_number (swept horizon xs vs))) (last_of_all vs)
+        (subst (Later (last_after None vs)) (last_of_all (swept horizon xs vs)) (last_later horizon xs None None vs tt h tt))
 
     go : (b : Bool) → (b ≡ false → MayStay horizon xs (last_number (swept horizon xs vs)) base) → OnFalse b (MayStay horizon xs (last_number (swept horizon xs vs)) base)
     go true f = tt

@@ -1,5 +1,6 @@
 -- A version is put in a place's first node, and the one that was there in a node of its own behind it.
-use Rattle.std.proofs.Common.{◌≡◌, ◌≢◌, ℕ, zero, suc, ◌+◌, ◌<◌, ◌^◌, List, ◌∷◌, ◌++◌, length, take, drop, set, Bool, true, false, refl, sym, ap, ◌∙◌, subst, arith, get_or-set_same, get_or-set_other, inl, inr}
+use Rattle.std.proofs.Common.{◌≡◌, ◌≢◌, ℕ, zero, suc, ◌+◌, ◌<◌, ◌^◌, List, ◌∷◌, ◌++◌, length, take, drop, set, Bool, true, false, refl, sym, ap, ◌∙◌, subst, arith, get_or-set_same}
+use Rattle.std.proofs.Common.{get_or-set_other, inl, inr}
 use Rattle.std.specs.Prelude.{◌⊎◌}
 use Rattle.std.proofs.lemmas.List.{length-set}
 use Rattle.std.proofs.lemmas.Bool.{cases_eq}
@@ -29,7 +30,8 @@ free_owned heads nodes free a some = go free.count refl
     go zero e = absurd (omega (arith, some, e))
     go (suc n) e = (subst (λ m. IsStrand nodes a.owner a.rank 0 (a.top 0) m free.first) e (a.strands 0)).1
 
-pub loosened : (heads : List Head) (nodes : List Node) (free : Strand) (a : AreStrands heads nodes free) (p f c : ℕ) (x : Node) (i : ℕ) (nodes2 : List Node) (free' : Strand) → First heads nodes free a p f c → Took (set nodes f x) free (node_at nodes f) i nodes2 free' → (free.count ≡ 0 → length nodes + 1 < 2 ^ 32) → Loose heads nodes free a i (relinked nodes2 f i) free'
+pub loosened : (heads : List Head) (nodes : List Node) (free : Strand) (a : AreStrands heads nodes free) (p f c : ℕ) (x : Node) (i : ℕ) (nodes2 : List Node) (free' : Strand) →
+    First heads nodes free a p f c → Took (set nodes f x) free (node_at nodes f) i nodes2 free' → (free.count ≡ 0 → length nodes + 1 < 2 ^ 32) → Loose heads nodes free a i (relinked nodes2 f i) free'
 loosened heads nodes free a p f c x i nodes2 free' h t room = loose heads nodes free a i (relinked nodes2 f i) free' grown reused room
   where
     same : length (set nodes f x) ≡ length nodes
@@ -47,14 +49,16 @@ loosened heads nodes free a p f c x i nodes2 free' h t room = loose heads nodes 
     reused : 0 < free.count → (i ≡ free.first) × (length (relinked nodes2 f i) ≡ length nodes) × (free'.first ≡ (node_at nodes free.first).next) × (free'.count + 1 ≡ free.count)
     reused some = let r = t.reused some in (r.0, same2 ∙ r.1 ∙ same, r.2 ∙ ap (λ (n : Node). n.next) (get_or-set_other nodes f free.first x blank (other some)), r.3)
 
-pub laid : (heads : List Head) (nodes : List Node) (free : Strand) (a : AreStrands heads nodes free) (p f c : ℕ) (x : Node) (i : ℕ) (nodes2 : List Node) (free' : Strand) → First heads nodes free a p f c → Took (set nodes f x) free (node_at nodes f) i nodes2 free' → Loose heads nodes free a i (relinked nodes2 f i) free' → Laid nodes f x i (relinked nodes2 f i)
+pub laid : (heads : List Head) (nodes : List Node) (free : Strand) (a : AreStrands heads nodes free) (p f c : ℕ) (x : Node) (i : ℕ) (nodes2 : List Node) (free' : Strand) →
+    First heads nodes free a p f c → Took (set nodes f x) free (node_at nodes f) i nodes2 free' → Loose heads nodes free a i (relinked nodes2 f i) free' → Laid nodes f x i (relinked nodes2 f i)
 laid heads nodes free a p f c x i nodes2 free' h t l =
     record {
       front = get_or-set_same nodes2 f (record (node_at nodes2 f) { next = i }) blank within2 ∙ ap (λ (n : Node). record n { next = i }) first_now;
       behind = get_or-set_other nodes2 f i (record (node_at nodes2 f) { next = i }) blank (λ e. apart (sym e)) ∙ t.here;
       within = (let k = t.within in let s = length-set nodes2 f (record (node_at nodes2 f) { next = i }) in omega (arith, k, s));
       apart = apart;
-      others = λ j less nf ni. get_or-set_other nodes2 f j (record (node_at nodes2 f) { next = i }) blank nf ∙ t.others j (let s = same in omega (arith, less, s)) ni ∙ get_or-set_other nodes f j x blank nf;
+      others = λ j less nf ni. get_or-set_other nodes2 f j (record (node_at nodes2 f) { next = i }) blank nf ∙ t.others j (let s = same in omega (arith, less, s)) ni ∙
+          get_or-set_other nodes f j x blank nf;
     }
   where
     same : length (set nodes f x) ≡ length nodes
@@ -76,7 +80,8 @@ pub record Covered (heads : List Head) (nodes : List Node) (p f : ℕ) (x : Node
   pub here : versions_of nodes' (head_at (set heads p (with_front heads p f)) p) ≡ version_in true x ∷ versions nodes false (head_at heads p).strand.count f
   pub others : (q : ℕ) → q ≢ p → versions_of nodes' (head_at (set heads p (with_front heads p f)) q) ≡ versions_of nodes (head_at heads q)
 
-pub covered : (heads : List Head) (nodes : List Node) (free : Strand) (a : AreStrands heads nodes free) (p f c : ℕ) (x : Node) (i : ℕ) (nodes' : List Node) (free' : Strand) → (head_at heads p).strand.count ≡ suc c → First heads nodes free a p f c → Laid nodes f x i nodes' → Loose heads nodes free a i nodes' free' → Covered heads nodes p f x nodes' free'
+pub covered : (heads : List Head) (nodes : List Node) (free : Strand) (a : AreStrands heads nodes free) (p f c : ℕ) (x : Node) (i : ℕ) (nodes' : List Node) (free' : Strand) →
+    (head_at heads p).strand.count ≡ suc c → First heads nodes free a p f c → Laid nodes f x i nodes' → Loose heads nodes free a i nodes' free' → Covered heads nodes p f x nodes' free'
 covered heads nodes free a p f c x i nodes' free' many h t l =
     record {
       arena = record {
@@ -87,10 +92,14 @@ covered heads nodes free a p f c x i nodes' free' many h t l =
         all = (let e = recount heads p (with_front heads p f) within in let k = l.count in let all = a.all in omega (arith, e, k, all));
         fits = l.fits;
       };
-      here = ap (versions_of nodes') (head_here heads p (with_front heads p f) within) ∙ ap (λ n. versions nodes' true n f) two ∙ (λ k. version_in true (t.front k) ∷ versions nodes' false (suc c) (t.front k).next) ∙ (λ k. version_in true x ∷ version_in false (t.behind k) ∷ versions nodes' false c (t.behind k).next)
-          ∙ ap (λ vs. version_in true x ∷ version_in false (node_at nodes f) ∷ vs) (frame_versions nodes a.owner a.rank nodes' false (suc p) (a.rank f) c (node_at nodes f).next (λ j u v w. t.others j u (below j w) (apart_from (suc p) (suc_zero p) j u v)) h.rest)
+      here = ap (versions_of nodes') (head_here heads p (with_front heads p f) within) ∙ ap (λ n. versions nodes' true n f) two ∙
+          (λ k. version_in true (t.front k) ∷ versions nodes' false (suc c) (t.front k).next) ∙ (λ k. version_in true x ∷ version_in false (t.behind k) ∷ versions nodes' false c (t.behind k).next)
+          ∙ ap (λ vs. version_in true x ∷ version_in false (node_at nodes f) ∷ vs) (frame_versions nodes a.owner a.rank nodes' false (suc p) (a.rank f) c (node_at nodes f).next
+          (λ j u v w. t.others j u (below j w) (apart_from (suc p) (suc_zero p) j u v)) h.rest)
           ∙ sym (ap (λ n. version_in true x ∷ versions nodes false n f) many);
-      others = λ q other. ap (versions_of nodes') (head_apart heads p q (with_front heads p f) other) ∙ frame_versions nodes a.owner a.rank nodes' (head_at heads q).is_open (suc q) (a.top (suc q)) (head_at heads q).strand.count (head_at heads q).strand.first (λ j u v w. t.others j u (not_first q other j v) (apart_from (suc q) (suc_zero q) j u v)) (a.strands (suc q));
+      others = λ q other. ap (versions_of nodes') (head_apart heads p q (with_front heads p f) other) ∙
+          frame_versions nodes a.owner a.rank nodes' (head_at heads q).is_open (suc q) (a.top (suc q)) (head_at heads q).strand.count (head_at heads q).strand.first
+          (λ j u v w. t.others j u (not_first q other j v) (apart_from (suc q) (suc_zero q) j u v)) (a.strands (suc q));
     }
   where
     within : p < length heads
@@ -119,13 +128,16 @@ covered heads nodes free a p f c x i nodes' free' many h t l =
           ranked = put_apart (put a.rank f (a.top (suc p))) i (a.rank f) j ni ∙ put_apart a.rank f (a.top (suc p)) j nf;
         }
 
-    kept : (who : ℕ) → who ≢ 0 → (bound n j : ℕ) → ((k : ℕ) → a.owner k ≡ who → a.rank k < bound → k ≢ f) → IsStrand nodes a.owner a.rank who bound n j → IsStrand nodes' (put a.owner i (suc p)) (put (put a.rank f (a.top (suc p))) i (a.rank f)) who bound n j
-    kept who some bound n j nf s = frame nodes a.owner a.rank nodes' (put a.owner i (suc p)) (put (put a.rank f (a.top (suc p))) i (a.rank f)) l.more who bound n j (λ k u v w. stays k u (nf k v w) (apart_from who some k u v)) s
+    kept : (who : ℕ) → who ≢ 0 → (bound n j : ℕ) → ((k : ℕ) → a.owner k ≡ who → a.rank k < bound → k ≢ f) → IsStrand nodes a.owner a.rank who bound n j →
+        IsStrand nodes' (put a.owner i (suc p)) (put (put a.rank f (a.top (suc p))) i (a.rank f)) who bound n j
+    kept who some bound n j nf s = frame nodes a.owner a.rank nodes' (put a.owner i (suc p)) (put (put a.rank f (a.top (suc p))) i (a.rank f)) l.more who bound n j
+        (λ k u v w. stays k u (nf k v w) (apart_from who some k u v)) s
 
     free_strand : IsStrand nodes' (put a.owner i (suc p)) (put (put a.rank f (a.top (suc p))) i (a.rank f)) 0 l.bound free'.count free'.first
     free_strand =
         frame nodes a.owner a.rank nodes' (put a.owner i (suc p)) (put (put a.rank f (a.top (suc p))) i (a.rank f)) l.more 0 l.bound free'.count free'.first
-        (λ k u v w. stays k u (λ e. absurd (let s : 0 ≡ suc p = sym v ∙ ap a.owner e ∙ h.owned in omega (arith, s))) (λ e. absurd (let o = l.over (subst (λ m. m < length nodes) e u) in let r : a.rank k ≡ a.rank i = ap a.rank e in omega (arith, o, r, w)))) l.strand
+        (λ k u v w. stays k u (λ e. absurd (let s : 0 ≡ suc p = sym v ∙ ap a.owner e ∙ h.owned in omega (arith, s)))
+        (λ e. absurd (let o = l.over (subst (λ m. m < length nodes) e u) in let r : a.rank k ≡ a.rank i = ap a.rank e in omega (arith, o, r, w)))) l.strand
 
     tail : IsStrand nodes' (put a.owner i (suc p)) (put (put a.rank f (a.top (suc p))) i (a.rank f)) (suc p) (a.rank f) c (node_at nodes f).next
     tail = kept (suc p) (suc_zero p) (a.rank f) c (node_at nodes f).next (λ k v w. below k w) h.rest
@@ -156,24 +168,32 @@ covered heads nodes free a p f c x i nodes' free' many h t l =
           (subst (λ m. IsStrand nodes' (put a.owner i (suc p)) (put (put a.rank f (a.top (suc p))) i (a.rank f)) (suc p) (a.top (suc p)) m i) (let k : suc c ≡ n = omega (arith, e) in k) second)),
     )
 
-    strands : (who : ℕ) → IsStrand nodes' (put a.owner i (suc p)) (put (put a.rank f (a.top (suc p))) i (a.rank f)) who (tops a.top l.bound p (suc (a.top (suc p))) who) (strand_of (set heads p (with_front heads p f)) free' who).count (strand_of (set heads p (with_front heads p f)) free' who).first
+    strands : (who : ℕ) → IsStrand nodes' (put a.owner i (suc p)) (put (put a.rank f (a.top (suc p))) i (a.rank f)) who (tops a.top l.bound p (suc (a.top (suc p))) who)
+        (strand_of (set heads p (with_front heads p f)) free' who).count (strand_of (set heads p (with_front heads p f)) free' who).first
     strands zero = free_strand
     strands (suc q) = go (cases_eq q p)
       where
-        go : (q ≡ p) ⊎ (q ≡ p → ⊥) → IsStrand nodes' (put a.owner i (suc p)) (put (put a.rank f (a.top (suc p))) i (a.rank f)) (suc q) (put (λ q. a.top (suc q)) p (suc (a.top (suc p))) q) (head_at (set heads p (with_front heads p f)) q).strand.count (head_at (set heads p (with_front heads p f)) q).strand.first
+        go : (q ≡ p) ⊎ (q ≡ p → ⊥) → IsStrand nodes' (put a.owner i (suc p)) (put (put a.rank f (a.top (suc p))) i (a.rank f)) (suc q)
+            (put (λ q. a.top (suc q)) p (suc (a.top (suc p))) q) (head_at (set heads p (with_front heads p f)) q).strand.count (head_at (set heads p (with_front heads p f)) q).strand.first
         go (inl e) =
-            subst (λ r. IsStrand nodes' (put a.owner i (suc p)) (put (put a.rank f (a.top (suc p))) i (a.rank f)) (suc r) (put (λ q. a.top (suc q)) p (suc (a.top (suc p))) r) (head_at (set heads p (with_front heads p f)) r).strand.count (head_at (set heads p (with_front heads p f)) r).strand.first) (sym e)
-            (subst (λ (h : Head). IsStrand nodes' (put a.owner i (suc p)) (put (put a.rank f (a.top (suc p))) i (a.rank f)) (suc p) (put (λ q. a.top (suc q)) p (suc (a.top (suc p))) p) h.strand.count h.strand.first) (sym (head_here heads p (with_front heads p f) within))
-            (subst (λ b. IsStrand nodes' (put a.owner i (suc p)) (put (put a.rank f (a.top (suc p))) i (a.rank f)) (suc p) b ((head_at heads p).strand.count + 1) f) (sym (put_here (λ q. a.top (suc q)) p (suc (a.top (suc p))))) (front ((head_at heads p).strand.count + 1) two)))
+            subst (λ r. IsStrand nodes' (put a.owner i (suc p)) (put (put a.rank f (a.top (suc p))) i (a.rank f)) (suc r) (put (λ q. a.top (suc q)) p (suc (a.top (suc p))) r)
+            (head_at (set heads p (with_front heads p f)) r).strand.count (head_at (set heads p (with_front heads p f)) r).strand.first) (sym e)
+            (subst (λ (h : Head). IsStrand nodes' (put a.owner i (suc p)) (put (put a.rank f (a.top (suc p))) i (a.rank f)) (suc p)
+            (put (λ q. a.top (suc q)) p (suc (a.top (suc p))) p) h.strand.count h.strand.first) (sym (head_here heads p (with_front heads p f) within))
+            (subst (λ b. IsStrand nodes' (put a.owner i (suc p)) (put (put a.rank f (a.top (suc p))) i (a.rank f)) (suc p) b ((head_at heads p).strand.count + 1) f)
+            (sym (put_here (λ q. a.top (suc q)) p (suc (a.top (suc p))))) (front ((head_at heads p).strand.count + 1) two)))
         go (inr other) =
-            subst (λ (h : Head). IsStrand nodes' (put a.owner i (suc p)) (put (put a.rank f (a.top (suc p))) i (a.rank f)) (suc q) (put (λ q. a.top (suc q)) p (suc (a.top (suc p))) q) h.strand.count h.strand.first) (sym (head_apart heads p q (with_front heads p f) other))
-            (subst (λ b. IsStrand nodes' (put a.owner i (suc p)) (put (put a.rank f (a.top (suc p))) i (a.rank f)) (suc q) b (head_at heads q).strand.count (head_at heads q).strand.first) (sym (put_apart (λ q. a.top (suc q)) p (suc (a.top (suc p))) q other))
+            subst (λ (h : Head). IsStrand nodes' (put a.owner i (suc p)) (put (put a.rank f (a.top (suc p))) i (a.rank f)) (suc q)
+            (put (λ q. a.top (suc q)) p (suc (a.top (suc p))) q) h.strand.count h.strand.first) (sym (head_apart heads p q (with_front heads p f) other))
+            (subst (λ b. IsStrand nodes' (put a.owner i (suc p)) (put (put a.rank f (a.top (suc p))) i (a.rank f)) (suc q) b (head_at heads q).strand.count
+            (head_at heads q).strand.first) (sym (put_apart (λ q. a.top (suc q)) p (suc (a.top (suc p))) q other))
             (kept (suc q) (suc_zero q) (a.top (suc q)) (head_at heads q).strand.count (head_at heads q).strand.first (λ k v w. not_first q other k v) (a.strands (suc q))))
 
 -- ---- the first of two versions or more goes, and the second stands in its node
 
 -- a walk that has passed one version stands behind the first node
-pub behind_one : (nodes : List Node) (f : ℕ) (start second : Cursor) → node_behind nodes start.kept f ≡ start.at → start.kept ≡ 0 → second ≡ record { kept = start.kept + 1; last = start.at; at = (node_at nodes start.at).next } → second.at ≡ (node_at nodes f).next
+pub behind_one : (nodes : List Node) (f : ℕ) (start second : Cursor) → node_behind nodes start.kept f ≡ start.at → start.kept ≡ 0 →
+    second ≡ record { kept = start.kept + 1; last = start.at; at = (node_at nodes start.at).next } → second.at ≡ (node_at nodes f).next
 behind_one nodes f start second e none is =
     let first : f ≡ start.at = ap (λ k. node_behind nodes k f) (sym none) ∙ e in
     ap (λ (w : Cursor). w.at) is ∙ ap (λ j. (node_at nodes j).next) (sym first)
@@ -181,7 +201,8 @@ behind_one nodes f start second e none is =
 pub one_passed : (nodes : List Node) (start second : Cursor) → start.kept ≡ 0 → second ≡ record { kept = start.kept + 1; last = start.at; at = (node_at nodes start.at).next } → second.kept ≡ 1
 one_passed nodes start second none is = let k = ap (λ (w : Cursor). w.kept) is in omega (arith, k, none)
 
-pub second_is : (nodes : List Node) (begins : Bool) (n f : ℕ) → 1 < n → version_in false (node_at nodes (node_at nodes f).next) ∷ drop 1 (take 1 (versions nodes begins n f) ++ drop 2 (versions nodes begins n f)) ≡ drop 1 (versions nodes begins n f)
+pub second_is : (nodes : List Node) (begins : Bool) (n f : ℕ) → 1 < n →
+    version_in false (node_at nodes (node_at nodes f).next) ∷ drop 1 (take 1 (versions nodes begins n f) ++ drop 2 (versions nodes begins n f)) ≡ drop 1 (versions nodes begins n f)
 second_is nodes begins zero f h = absurd (omega (arith, h))
 second_is nodes begins (suc zero) f h = absurd (omega (arith, h))
 second_is nodes begins (suc (suc c)) f h = refl

@@ -50,7 +50,8 @@ below_at_most bound n (Numbered number by) k h = le-leb number bound (omega (ari
 
 pub falls_at_most : (bound : ℕ) (s : Stamp) (vs : List Version) → has_at_most bound s ≡ true → FallsTo s vs → Each (λ v. is_at_most bound v ≡ true) vs
 falls_at_most bound (Written w) vs e h = absurd (false_true e)
-falls_at_most bound (Numbered number by) vs e h = let k : number ≤ bound = leb-true number bound e in each_keeps (IsBelow number) (λ v. is_at_most bound v ≡ true) (λ v. below_at_most bound number v.stamp k) vs h
+falls_at_most bound (Numbered number by) vs e h = let k : number ≤ bound = leb-true number bound e in
+    each_keeps (IsBelow number) (λ v. is_at_most bound v ≡ true) (λ v. below_at_most bound number v.stamp k) vs h
 
 pub none_left : (bound : ℕ) (vs : List Version) → Each (λ v. is_at_most bound v ≡ true) vs → left_by bound vs ≡ []
 none_left bound [] h = refl

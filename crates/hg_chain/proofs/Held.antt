@@ -15,7 +15,8 @@ use Rattle.hg_chain.specs.declared.version.Version.{Version}
 use Rattle.hg_chain.specs.declared.node.Node.{Node}
 use Rattle.hg_chain.specs.declared.cursor.Cursor.{Cursor}
 use Rattle.hg_chain.specs.declared.arena.Arena.{Arena}
-use Rattle.hg_chain.specs.Versions.{IsChain, IsBelow, NoOther, HasNoOther, has_at_most, is_at_most, number_in, is_open_by, newest, image_by, is_written_by, has_writer, installed, stamped, left_by, numbered_image, oldest_at, others_at}
+use Rattle.hg_chain.specs.Versions.{IsChain, IsBelow, NoOther, HasNoOther, has_at_most, is_at_most, number_in, is_open_by, newest, image_by, is_written_by, has_writer, installed, stamped}
+use Rattle.hg_chain.specs.Versions.{left_by, numbered_image, oldest_at, others_at}
 use Rattle.hg_chain.specs.Places.{Places, list_at, nodes_of, OthersStay}
 use Rattle.hg_chain.specs.declared.node.Strand.{Strand}
 use Rattle.hg_chain.specs.Strands.{blank, node_at, head_at, stamp_in, version_in, versions, versions_of, IsStrand, strand_of, AreStrands}
@@ -80,7 +81,8 @@ newest_of nodes begins (suc n) i some = refl
 
 pub own_of : (by : Writer) (nodes : List Node) (begins : Bool) (n i : ℕ) → is_open_by by (versions nodes begins n i) ≡ true → image_by by (versions nodes begins n i) ≡ Some (node_at nodes i).image
 own_of by nodes begins zero i e = absurd (false_true e)
-own_of by nodes begins (suc n) i e = ap (λ b. option_map (λ (v : Version). v.image) (cond b (Some (version_in begins (node_at nodes i))) (find (is_written_by by) (versions nodes false n (node_at nodes i).next)))) e
+own_of by nodes begins (suc n) i e = ap (λ b. option_map (λ (v : Version). v.image)
+    (cond b (Some (version_in begins (node_at nodes i))) (find (is_written_by by) (versions nodes false n (node_at nodes i).next)))) e
 
 -- ---- the first version at a bound
 
@@ -90,14 +92,18 @@ got_none (v ∷ vs) zero e = absurd (omega (arith, e))
 got_none (v ∷ vs) (suc k) e = got_none vs k (let l : k ≡ length vs = omega (arith, e) in l)
 
 -- where a walk has passed all versions over the bound, none is left or the first is at hand
-pub none_found : (a : Arena) (place bound : ℕ) (cursor : Cursor) → IsChain (list_in a place) → cursor.kept ≡ length (left_by bound (list_in a place)) → cursor.kept ≡ (head_in a place).strand.count → find (is_at_most bound) (list_in a place) ≡ None
+pub none_found : (a : Arena) (place bound : ℕ) (cursor : Cursor) → IsChain (list_in a place) → cursor.kept ≡ length (left_by bound (list_in a place)) →
+    cursor.kept ≡ (head_in a place).strand.count → find (is_at_most bound) (list_in a place) ≡ None
 none_found a place bound cursor chain kept all =
-    sym (kept_first bound (list_in a place) chain) ∙ ap (slice_get (list_in a place)) (sym kept) ∙ got_none (list_in a place) cursor.kept (let m = list_many a place in let e : cursor.kept ≡ length (list_in a place) = omega (arith, m, all) in e)
+    sym (kept_first bound (list_in a place) chain) ∙ ap (slice_get (list_in a place)) (sym kept) ∙ got_none (list_in a place) cursor.kept (let m = list_many a place in
+    let e : cursor.kept ≡ length (list_in a place) = omega (arith, m, all) in e)
 
-pub one_found : (a : Arena) (place bound : ℕ) (cursor : Cursor) → IsChain (list_in a place) → IsAt a place cursor → cursor.kept ≡ length (left_by bound (list_in a place)) → cursor.kept < (head_in a place).strand.count → find (is_at_most bound) (list_in a place) ≡ Some (version_in ((head_in a place).is_open && (cursor.kept == 0)) (node_at a.nodes.items cursor.at))
+pub one_found : (a : Arena) (place bound : ℕ) (cursor : Cursor) → IsChain (list_in a place) → IsAt a place cursor → cursor.kept ≡ length (left_by bound (list_in a place)) →
+    cursor.kept < (head_in a place).strand.count → find (is_at_most bound) (list_in a place) ≡ Some (version_in ((head_in a place).is_open && (cursor.kept == 0)) (node_at a.nodes.items cursor.at))
 one_found a place bound cursor chain at kept less =
     let d = version_in false blank in
-    sym (kept_first bound (list_in a place) chain) ∙ ap (slice_get (list_in a place)) (sym kept) ∙ slice_get-get_or (list_in a place) cursor.kept d (let m = list_many a place in omega (arith, m, less)) ∙ ap (λ (v : Version). Some v) (version_here a place cursor d at less)
+    sym (kept_first bound (list_in a place) chain) ∙ ap (slice_get (list_in a place)) (sym kept) ∙ slice_get-get_or (list_in a place) cursor.kept d (let m = list_many a place in
+    omega (arith, m, less)) ∙ ap (λ (v : Version). Some v) (version_here a place cursor d at less)
 
 -- fewer are left, or none is at the bound
 pub kept_less : (bound : ℕ) (vs : List Version) → IsChain vs → length (left_by bound vs) ≤ length vs
@@ -115,11 +121,13 @@ numbered_out : (bound : ℕ) (begins : Bool) (n : Node) → has_at_most bound (s
 numbered_out bound true n e = absurd (false_true e)
 numbered_out bound false n e = refl
 
-pub handed_out : (a : Arena) (place bound : ℕ) (cursor : Cursor) → IsChain (list_in a place) → IsAt a place cursor → cursor.kept ≡ length (left_by bound (list_in a place)) → cursor.kept < (head_in a place).strand.count → oldest_at bound (list_in a place) ≡ Some ((node_at a.nodes.items cursor.at).number, (node_at a.nodes.items cursor.at).image)
+pub handed_out : (a : Arena) (place bound : ℕ) (cursor : Cursor) → IsChain (list_in a place) → IsAt a place cursor → cursor.kept ≡ length (left_by bound (list_in a place)) →
+    cursor.kept < (head_in a place).strand.count → oldest_at bound (list_in a place) ≡ Some ((node_at a.nodes.items cursor.at).number, (node_at a.nodes.items cursor.at).image)
 handed_out a place bound cursor chain at kept less =
     let f = one_found a place bound cursor chain at kept less in
     let begins = (head_in a place).is_open && (cursor.kept == 0) in
-    ap (option_and_then numbered_image) f ∙ numbered_out bound begins (node_at a.nodes.items cursor.at) (found_passes (is_at_most bound) (list_in a place) (version_in begins (node_at a.nodes.items cursor.at)) f)
+    ap (option_and_then numbered_image) f ∙ numbered_out bound begins (node_at a.nodes.items cursor.at)
+    (found_passes (is_at_most bound) (list_in a place) (version_in begins (node_at a.nodes.items cursor.at)) f)
 
 pub nothing_out : (bound : ℕ) (vs : List Version) → find (is_at_most bound) vs ≡ None → oldest_at bound vs ≡ None
 nothing_out bound vs e = ap (option_and_then numbered_image) e
@@ -144,24 +152,29 @@ none_yet =
 pub holds_none : (a : Arena) (none : Strand) → none ≡ record { first = 0; count = 0 } → a.heads.items ≡ [] → a.nodes.items ≡ [] → a.free ≡ none → Holds a
 holds_none a none z h n f =
     record {
-      strands = subst (λ s. AreStrands a.heads.items a.nodes.items s) (sym (f ∙ z)) (subst (λ ns. AreStrands a.heads.items ns (record { first = 0; count = 0 })) (sym n) (subst (λ hs. AreStrands hs [] (record { first = 0; count = 0 })) (sym h) none_yet));
+      strands = subst (λ s. AreStrands a.heads.items a.nodes.items s) (sym (f ∙ z)) (subst (λ ns. AreStrands a.heads.items ns (record { first = 0; count = 0 })) (sym n)
+          (subst (λ hs. AreStrands hs [] (record { first = 0; count = 0 })) (sym h) none_yet));
       chains = λ p. subst (λ hs. IsChain (versions_of a.nodes.items (head_at hs p))) (sym h) tt;
     }
 
 -- ---- what a walk over the bound has passed
 
-pub walk_less : (a : Arena) (place bound kept : ℕ) → IsChain (list_in a place) → kept ≡ length (left_by bound (list_in a place)) → (kept ≡ (head_in a place).strand.count → ⊥) → kept < (head_in a place).strand.count
+pub walk_less : (a : Arena) (place bound kept : ℕ) → IsChain (list_in a place) → kept ≡ length (left_by bound (list_in a place)) → (kept ≡ (head_in a place).strand.count → ⊥) →
+    kept < (head_in a place).strand.count
 walk_less a place bound kept chain e apart = let m = list_many a place in let l = kept_less bound (list_in a place) chain in omega (arith, e, apart, m, l)
 
 pub walk_left : (a : Arena) (place bound kept : ℕ) → IsChain (list_in a place) → kept ≡ length (left_by bound (list_in a place)) → take kept (list_in a place) ≡ left_by bound (list_in a place)
 walk_left a place bound kept chain e = ap (λ n. take n (list_in a place)) e ∙ kept_left bound (list_in a place) chain
 
-pub walk_others : (a : Arena) (place bound kept : ℕ) → IsChain (list_in a place) → kept ≡ length (left_by bound (list_in a place)) → (head_in a place).strand.count - kept - 1 ≡ others_at bound (list_in a place)
+pub walk_others : (a : Arena) (place bound kept : ℕ) → IsChain (list_in a place) → kept ≡ length (left_by bound (list_in a place)) →
+    (head_in a place).strand.count - kept - 1 ≡ others_at bound (list_in a place)
 walk_others a place bound kept chain e = let m = list_many a place in let s = kept_sum bound (list_in a place) chain in omega (arith, e, m, s)
 
 -- nothing was at the bound
-pub all_left : (a : Arena) (place bound kept : ℕ) → IsChain (list_in a place) → kept ≡ length (left_by bound (list_in a place)) → kept ≡ (head_in a place).strand.count → list_in a place ≡ left_by bound (list_in a place)
+pub all_left : (a : Arena) (place bound kept : ℕ) → IsChain (list_in a place) → kept ≡ length (left_by bound (list_in a place)) → kept ≡ (head_in a place).strand.count →
+    list_in a place ≡ left_by bound (list_in a place)
 all_left a place bound kept chain e all = sym (take_all kept (list_in a place) (let m = list_many a place in omega (arith, m, all))) ∙ walk_left a place bound kept chain e
 
-pub none_gone : (a : Arena) (place bound kept : ℕ) → IsChain (list_in a place) → kept ≡ length (left_by bound (list_in a place)) → kept ≡ (head_in a place).strand.count → 0 ≡ others_at bound (list_in a place)
+pub none_gone : (a : Arena) (place bound kept : ℕ) → IsChain (list_in a place) → kept ≡ length (left_by bound (list_in a place)) → kept ≡ (head_in a place).strand.count →
+    0 ≡ others_at bound (list_in a place)
 none_gone a place bound kept chain e all = (let o = walk_others a place bound kept chain e in omega (arith, o, all))

@@ -16,9 +16,11 @@ pub record First (heads : List Head) (nodes : List Node) (free : Strand) (a : Ar
   pub low : a.rank i < a.top (suc p)
   pub rest : IsStrand nodes a.owner a.rank (suc p) (a.rank i) c (node_at nodes i).next
 
-pub first : (heads : List Head) (nodes : List Node) (free : Strand) (a : AreStrands heads nodes free) (p c : ℕ) → (head_at heads p).strand.count ≡ suc c → First heads nodes free a p (head_at heads p).strand.first c
+pub first : (heads : List Head) (nodes : List Node) (free : Strand) (a : AreStrands heads nodes free) (p c : ℕ) → (head_at heads p).strand.count ≡ suc c →
+    First heads nodes free a p (head_at heads p).strand.first c
 first heads nodes free a p c e =
-    let s : IsStrand nodes a.owner a.rank (suc p) (a.top (suc p)) (suc c) (head_at heads p).strand.first = subst (λ n. IsStrand nodes a.owner a.rank (suc p) (a.top (suc p)) n (head_at heads p).strand.first) e (a.strands (suc p)) in
+    let s : IsStrand nodes a.owner a.rank (suc p) (a.top (suc p)) (suc c) (head_at heads p).strand.first = subst
+    (λ n. IsStrand nodes a.owner a.rank (suc p) (a.top (suc p)) n (head_at heads p).strand.first) e (a.strands (suc p)) in
     record {
       within = s.0;
       owned = s.1;
@@ -38,7 +40,8 @@ without_apart nodes i next j apart = get_or-set_other nodes i j (freed next (nod
 pub without_link : (nodes : List Node) (i next : ℕ) → i < length nodes → (node_at (without nodes i next) i).next ≡ next
 without_link nodes i next within = ap (λ (n : Node). n.next) (get_or-set_same nodes i (freed next (node_at nodes i)) blank within)
 
-pub popped : (heads : List Head) (nodes : List Node) (free : Strand) (a : AreStrands heads nodes free) (p c : ℕ) → (head_at heads p).strand.count ≡ suc c → Given heads nodes free a p (head_at heads p).strand.first (without nodes (head_at heads p).strand.first free.first) (behind_first heads nodes p c) (a.rank (head_at heads p).strand.first)
+pub popped : (heads : List Head) (nodes : List Node) (free : Strand) (a : AreStrands heads nodes free) (p c : ℕ) → (head_at heads p).strand.count ≡ suc c →
+    Given heads nodes free a p (head_at heads p).strand.first (without nodes (head_at heads p).strand.first free.first) (behind_first heads nodes p c) (a.rank (head_at heads p).strand.first)
 popped heads nodes free a p c e =
     let i = (head_at heads p).strand.first in
     let f = first heads nodes free a p c e in
@@ -49,7 +52,8 @@ popped heads nodes free a p c e =
       link = without_link nodes i free.first f.within;
       count = e;
       others = λ j other. without_apart nodes i free.first j (λ k. other (ap a.owner k ∙ f.owned));
-      strand = frame nodes a.owner a.rank (without nodes i free.first) (put a.owner i 0) (put a.rank i (a.top 0)) (let s = length-set nodes i (freed free.first (node_at nodes i)) in omega (arith, s)) (suc p) (a.rank i) c (node_at nodes i).next
+      strand = frame nodes a.owner a.rank (without nodes i free.first) (put a.owner i 0) (put a.rank i (a.top 0))
+          (let s = length-set nodes i (freed free.first (node_at nodes i)) in omega (arith, s)) (suc p) (a.rank i) c (node_at nodes i).next
           (λ j x y z. let apart : j ≢ i = λ k. absurd (let l : a.rank j ≡ a.rank i = ap a.rank k in let m : a.rank j < a.rank i = z in omega (arith, l, m)) in
           record {
             next = ap (λ (n : Node). n.next) (without_apart nodes i free.first j apart);
@@ -59,22 +63,29 @@ popped heads nodes free a p c e =
           f.rest;
     }
 
-pub popped_arena : (heads : List Head) (nodes : List Node) (free : Strand) → AreStrands heads nodes free → (p : ℕ) → 0 < (head_at heads p).strand.count → AreStrands (set heads p (behind_first heads nodes p ((head_at heads p).strand.count - 1))) (without nodes (head_at heads p).strand.first free.first) (record { first = (head_at heads p).strand.first; count = free.count + 1 })
+pub popped_arena : (heads : List Head) (nodes : List Node) (free : Strand) → AreStrands heads nodes free → (p : ℕ) → 0 < (head_at heads p).strand.count →
+    AreStrands (set heads p (behind_first heads nodes p ((head_at heads p).strand.count - 1))) (without nodes (head_at heads p).strand.first free.first)
+    (record { first = (head_at heads p).strand.first; count = free.count + 1 })
 popped_arena heads nodes free a p some = gave heads nodes free a p _ _ _ _ (popped heads nodes free a p ((head_at heads p).strand.count - 1) (omega (arith, some)))
 
-pub popped_others : (heads : List Head) (nodes : List Node) (free : Strand) → AreStrands heads nodes free → (p : ℕ) → 0 < (head_at heads p).strand.count → (q : ℕ) → q ≢ p → versions_of (without nodes (head_at heads p).strand.first free.first) (head_at (set heads p (behind_first heads nodes p ((head_at heads p).strand.count - 1))) q) ≡ versions_of nodes (head_at heads q)
+pub popped_others : (heads : List Head) (nodes : List Node) (free : Strand) → AreStrands heads nodes free → (p : ℕ) → 0 < (head_at heads p).strand.count → (q : ℕ) → q ≢ p →
+    versions_of (without nodes (head_at heads p).strand.first free.first) (head_at (set heads p (behind_first heads nodes p ((head_at heads p).strand.count - 1))) q) ≡ versions_of
+    nodes (head_at heads q)
 popped_others heads nodes free a p some =
     let g = popped heads nodes free a p ((head_at heads p).strand.count - 1) (omega (arith, some)) in
     gave_others heads nodes free a p _ _ g.others
 
-pub popped_here : (heads : List Head) (nodes : List Node) (free : Strand) → AreStrands heads nodes free → (p : ℕ) → 0 < (head_at heads p).strand.count → versions_of (without nodes (head_at heads p).strand.first free.first) (head_at (set heads p (behind_first heads nodes p ((head_at heads p).strand.count - 1))) p) ≡ drop 1 (versions_of nodes (head_at heads p))
+pub popped_here : (heads : List Head) (nodes : List Node) (free : Strand) → AreStrands heads nodes free → (p : ℕ) → 0 < (head_at heads p).strand.count →
+    versions_of (without nodes (head_at heads p).strand.first free.first) (head_at (set heads p (behind_first heads nodes p ((head_at heads p).strand.count - 1))) p) ≡ drop 1
+    (versions_of nodes (head_at heads p))
 popped_here heads nodes free a p some =
     let i = (head_at heads p).strand.first in
     let c = (head_at heads p).strand.count - 1 in
     let e : (head_at heads p).strand.count ≡ suc c = omega (arith, some) in
     let f = first heads nodes free a p c e in
     ap (versions_of (without nodes i free.first)) (head_here heads p _ (has_head heads p some))
-    ∙ frame_versions nodes a.owner a.rank (without nodes i free.first) false (suc p) (a.rank i) c (node_at nodes i).next (λ j x y z. without_apart nodes i free.first j (λ k. absurd (let l : a.rank j ≡ a.rank i = ap a.rank k in let m : a.rank j < a.rank i = z in omega (arith, l, m)))) f.rest
+    ∙ frame_versions nodes a.owner a.rank (without nodes i free.first) false (suc p) (a.rank i) c (node_at nodes i).next
+    (λ j x y z. without_apart nodes i free.first j (λ k. absurd (let l : a.rank j ≡ a.rank i = ap a.rank k in let m : a.rank j < a.rank i = z in omega (arith, l, m)))) f.rest
     ∙ sym (ap (λ n. drop 1 (versions nodes (head_at heads p).is_open n i)) e)
 
 -- the node of a place's first version is there

@@ -36,7 +36,8 @@ padded_arena heads nodes free a n k less =
       rank = a.rank;
       top = a.top;
       strands = strands;
-      all = (let e = ap (λ hs. sum_by (λ (h : Head). h.strand.count) (hs ++ replicate k no_head)) (take_all n heads less) in let f = sum_by-append (λ (h : Head). h.strand.count) heads (replicate k no_head) in let g = none_counted k in let all = a.all in omega (arith, e, f, g, all));
+      all = (let e = ap (λ hs. sum_by (λ (h : Head). h.strand.count) (hs ++ replicate k no_head)) (take_all n heads less) in
+          let f = sum_by-append (λ (h : Head). h.strand.count) heads (replicate k no_head) in let g = none_counted k in let all = a.all in omega (arith, e, f, g, all));
       fits = a.fits;
     }
   where

@@ -33,7 +33,8 @@ pub record Here (horizon : ℕ) (snapshots : List ℕ) (old items : List Version
   pub under : Under up (v ∷ drop (kept + 1) items)
   pub chain : IsChain (v ∷ drop (kept + 1) items)
 
-pub here : (horizon : ℕ) (snapshots : List ℕ) (old items : List Version) (kept rest : ℕ) (up : Option ℕ) (d v : Version) → 0 < rest → get_or items kept d ≡ v → Settled horizon snapshots old items kept rest up → Here horizon snapshots old items kept up v
+pub here : (horizon : ℕ) (snapshots : List ℕ) (old items : List Version) (kept rest : ℕ) (up : Option ℕ) (d v : Version) → 0 < rest → get_or items kept d ≡ v →
+    Settled horizon snapshots old items kept rest up → Here horizon snapshots old items kept up v
 here horizon snapshots old items kept rest up d v some e s =
     let m = s.many in
     let first : drop kept items ≡ v ∷ drop (kept + 1) items = drop_more items kept d (omega (arith, m, some)) ∙ ap (λ w. w ∷ drop (kept + 1) items) e in
@@ -47,20 +48,25 @@ here horizon snapshots old items kept rest up d v some e s =
 pub follows : (horizon : ℕ) (snapshots : List ℕ) (old items : List Version) (kept : ℕ) (up : Option ℕ) (v : Version) → Here horizon snapshots old items kept up v → Follows up (number_in v.stamp)
 follows horizon snapshots old items kept up v h = under_follows up v (drop (kept + 1) items) h.under
 
-pub stays : (horizon : ℕ) (snapshots : List ℕ) (old items : List Version) (kept rest : ℕ) (up : Option ℕ) (d v : Version) → 0 < rest → get_or items kept d ≡ v → Settled horizon snapshots old items kept rest up → goes horizon snapshots up (number_in v.stamp) ≡ false → Settled horizon snapshots old items (kept + 1) (rest - 1) (number_in v.stamp)
+pub stays : (horizon : ℕ) (snapshots : List ℕ) (old items : List Version) (kept rest : ℕ) (up : Option ℕ) (d v : Version) → 0 < rest → get_or items kept d ≡ v →
+    Settled horizon snapshots old items kept rest up → goes horizon snapshots up (number_in v.stamp) ≡ false → Settled horizon snapshots old items (kept + 1) (rest - 1) (number_in v.stamp)
 stays horizon snapshots old items kept rest up d v some e s same =
     let h = here horizon snapshots old items kept rest up d v some e s in
     let m = s.many in
     let more : take (kept + 1) items ≡ take kept items ++ v ∷ [] = take_more items kept d (omega (arith, m, some)) ∙ ap (λ w. take kept items ++ w ∷ []) e in
     record {
       many = omega (arith, m, some);
-      left = ap (λ ws. ws ++ swept_from horizon snapshots (number_in v.stamp) (drop (kept + 1) items)) more ∙ append_assoc (take kept items) (v ∷ []) (swept_from horizon snapshots (number_in v.stamp) (drop (kept + 1) items)) ∙ ap (λ ws. take kept items ++ ws) (sym (swept_stays horizon snapshots up v (drop (kept + 1) items) same)) ∙ h.left;
+      left = ap (λ ws. ws ++ swept_from horizon snapshots (number_in v.stamp) (drop (kept + 1) items)) more ∙
+          append_assoc (take kept items) (v ∷ []) (swept_from horizon snapshots (number_in v.stamp) (drop (kept + 1) items)) ∙
+          ap (λ ws. take kept items ++ ws) (sym (swept_stays horizon snapshots up v (drop (kept + 1) items) same)) ∙ h.left;
       last = h.last;
       under = under_next v.stamp (drop (kept + 1) items) h.chain.0;
       chain = h.chain.1;
     }
 
-pub leaves : (horizon : ℕ) (snapshots : List ℕ) (old items : List Version) (kept rest : ℕ) (up : Option ℕ) (d v : Version) → 0 < rest → get_or items kept d ≡ v → Settled horizon snapshots old items kept rest up → goes horizon snapshots up (number_in v.stamp) ≡ true → Settled horizon snapshots old (take kept items ++ drop (kept + 1) items) kept (rest - 1) (number_in v.stamp)
+pub leaves : (horizon : ℕ) (snapshots : List ℕ) (old items : List Version) (kept rest : ℕ) (up : Option ℕ) (d v : Version) → 0 < rest → get_or items kept d ≡ v →
+    Settled horizon snapshots old items kept rest up → goes horizon snapshots up (number_in v.stamp) ≡ true →
+    Settled horizon snapshots old (take kept items ++ drop (kept + 1) items) kept (rest - 1) (number_in v.stamp)
 leaves horizon snapshots old items kept rest up d v some e s gone =
     let h = here horizon snapshots old items kept rest up d v some e s in
     let m = s.many in
@@ -110,7 +116,9 @@ pub none_behind : {X : Type 0} (xs : List X) (kept m : ℕ) → length xs ≤ m 
 none_behind xs kept m past = ap (λ ys. take kept xs ++ ys) (drop_all m xs past) ∙ append-nil (take kept xs)
 
 -- the version goes or stays
-pub next : (horizon : ℕ) (snapshots : List ℕ) (old items items' : List Version) (kept kept' rest : ℕ) (up : Option ℕ) (d v : Version) (gone : Bool) → 0 < rest → get_or items kept d ≡ v → Settled horizon snapshots old items kept rest up → goes horizon snapshots up (number_in v.stamp) ≡ gone → items' ≡ cond gone (take kept items ++ drop (kept + 1) items) items → kept' ≡ kept + cond gone 0 1 → Settled horizon snapshots old items' kept' (rest - 1) (number_in v.stamp)
+pub next : (horizon : ℕ) (snapshots : List ℕ) (old items items' : List Version) (kept kept' rest : ℕ) (up : Option ℕ) (d v : Version) (gone : Bool) → 0 < rest →
+    get_or items kept d ≡ v → Settled horizon snapshots old items kept rest up → goes horizon snapshots up (number_in v.stamp) ≡ gone →
+    items' ≡ cond gone (take kept items ++ drop (kept + 1) items) items → kept' ≡ kept + cond gone 0 1 → Settled horizon snapshots old items' kept' (rest - 1) (number_in v.stamp)
 next horizon snapshots old items items' kept kept' rest up d v true some e s g a b =
     subst (λ k. Settled horizon snapshots old items' k (rest - 1) (number_in v.stamp)) (let k : kept ≡ kept' = omega (arith, b) in k)
     (subst (λ ws. Settled horizon snapshots old ws kept (rest - 1) (number_in v.stamp)) (sym a) (leaves horizon snapshots old items kept rest up d v some e s g))

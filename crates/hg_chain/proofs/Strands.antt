@@ -1,5 +1,6 @@
 -- Strands and the versions in them, where nodes change.
-use Rattle.std.proofs.Common.{◌≡◌, ◌≢◌, ℕ, zero, suc, ◌+◌, ◌<◌, ◌≤◌, List, [], ◌∷◌, length, set, get_or, Bool, false, cond, refl, sym, ap, ◌∙◌, subst, arith, get_or-set_same, get_or-set_other, inl, inr}
+use Rattle.std.proofs.Common.{◌≡◌, ◌≢◌, ℕ, zero, suc, ◌+◌, ◌<◌, ◌≤◌, List, [], ◌∷◌, length, set, get_or, Bool, false, cond, refl, sym, ap, ◌∙◌, subst, arith, get_or-set_same}
+use Rattle.std.proofs.Common.{get_or-set_other, inl, inr}
 use Rattle.std.specs.Prelude.{sum_by, ◌==◌, ◌⊎◌}
 use Rattle.std.proofs.lemmas.List.Sums.{sum_by-set, sum_by-cons}
 use Rattle.std.proofs.lemmas.Bool.Decides.{Decides-eqb}
@@ -38,7 +39,8 @@ has_head (x ∷ heads) zero h = omega arith
 has_head (x ∷ heads) (suc p) h = let k : p < length heads = has_head heads p h in omega (arith, k)
 
 -- the counts, where the head of a place is another one
-pub recount : (heads : List Head) (p : ℕ) (h : Head) → p < length heads → sum_by (λ h. h.strand.count) (set heads p h) + (head_at heads p).strand.count ≡ sum_by (λ h. h.strand.count) heads + h.strand.count
+pub recount : (heads : List Head) (p : ℕ) (h : Head) → p < length heads → sum_by (λ h. h.strand.count) (set heads p h) + (head_at heads p).strand.count ≡ sum_by
+    (λ h. h.strand.count) heads + h.strand.count
 recount heads p h within = sum_by-set (λ (h : Head). h.strand.count) heads p h no_head within
 
 -- ---- a function that differs in one place
@@ -59,7 +61,8 @@ pub record Stays (nodes : List Node) (owner rank : ℕ → ℕ) (nodes' : List N
   pub owned : owner' j ≡ owner j
   pub ranked : rank' j ≡ rank j
 
-pub frame : (nodes : List Node) (owner rank : ℕ → ℕ) (nodes' : List Node) (owner' rank' : ℕ → ℕ) → length nodes ≤ length nodes' → (who bound n i : ℕ) → ((j : ℕ) → j < length nodes → owner j ≡ who → rank j < bound → Stays nodes owner rank nodes' owner' rank' j) → IsStrand nodes owner rank who bound n i → IsStrand nodes' owner' rank' who bound n i
+pub frame : (nodes : List Node) (owner rank : ℕ → ℕ) (nodes' : List Node) (owner' rank' : ℕ → ℕ) → length nodes ≤ length nodes' → (who bound n i : ℕ) →
+    ((j : ℕ) → j < length nodes → owner j ≡ who → rank j < bound → Stays nodes owner rank nodes' owner' rank' j) → IsStrand nodes owner rank who bound n i → IsStrand nodes' owner' rank' who bound n i
 frame nodes owner rank nodes' owner' rank' more who bound zero i f h = tt
 frame nodes owner rank nodes' owner' rank' more who bound (suc n) i f h =
     let s = f i h.0 h.1 h.2 in
@@ -71,7 +74,9 @@ frame nodes owner rank nodes' owner' rank' more who bound (suc n) i f h =
       subst (λ b. IsStrand nodes' owner' rank' who b n (node_at nodes' i).next) (sym s.ranked) (subst (IsStrand nodes' owner' rank' who (rank i) n) (sym s.next) rest),
     )
 
-pub frame_versions : (nodes : List Node) (owner rank : ℕ → ℕ) (nodes' : List Node) (begins : Bool) (who bound n i : ℕ) → ((j : ℕ) → j < length nodes → owner j ≡ who → rank j < bound → node_at nodes' j ≡ node_at nodes j) → IsStrand nodes owner rank who bound n i → versions nodes' begins n i ≡ versions nodes begins n i
+pub frame_versions : (nodes : List Node) (owner rank : ℕ → ℕ) (nodes' : List Node) (begins : Bool) (who bound n i : ℕ) →
+    ((j : ℕ) → j < length nodes → owner j ≡ who → rank j < bound → node_at nodes' j ≡ node_at nodes j) → IsStrand nodes owner rank who bound n i →
+    versions nodes' begins n i ≡ versions nodes begins n i
 frame_versions nodes owner rank nodes' begins who bound zero i f h = refl
 frame_versions nodes owner rank nodes' begins who bound (suc n) i f h =
     let s = f i h.0 h.1 h.2 in
@@ -105,7 +110,8 @@ abbrev pub tops : (ℕ → ℕ) → ℕ → ℕ → ℕ → ℕ → ℕ
 tops top t p bound zero = t
 tops top t p bound (suc q) = put (λ q. top (suc q)) p bound q
 
-pub gave : (heads : List Head) (nodes : List Node) (free : Strand) (a : AreStrands heads nodes free) (p i : ℕ) (nodes' : List Node) (h : Head) (bound : ℕ) → Given heads nodes free a p i nodes' h bound → AreStrands (set heads p h) nodes' (record { first = i; count = free.count + 1 })
+pub gave : (heads : List Head) (nodes : List Node) (free : Strand) (a : AreStrands heads nodes free) (p i : ℕ) (nodes' : List Node) (h : Head) (bound : ℕ) →
+    Given heads nodes free a p i nodes' h bound → AreStrands (set heads p h) nodes' (record { first = i; count = free.count + 1 })
 gave heads nodes free a p i nodes' h bound g =
     let some : 0 < (head_at heads p).strand.count = (let e = g.count in omega (arith, e)) in
     let within : p < length heads = has_head heads p some in
@@ -128,7 +134,8 @@ gave heads nodes free a p i nodes' h bound g =
         }
 
     kept : (who : ℕ) → who ≢ suc p → (bound n first : ℕ) → IsStrand nodes a.owner a.rank who bound n first → IsStrand nodes' (put a.owner i 0) (put a.rank i (a.top 0)) who bound n first
-    kept who other bound n first s = frame nodes a.owner a.rank nodes' (put a.owner i 0) (put a.rank i (a.top 0)) (let e = g.same in omega (arith, e)) who bound n first (λ j x y z. stays who other j x y) s
+    kept who other bound n first s = frame nodes a.owner a.rank nodes' (put a.owner i 0) (put a.rank i (a.top 0)) (let e = g.same in
+        omega (arith, e)) who bound n first (λ j x y z. stays who other j x y) s
 
     zero_suc : (0 ≡ suc p) → ⊥
     zero_suc e = omega (arith, e)
@@ -141,25 +148,34 @@ gave heads nodes free a p i nodes' h bound g =
       (let k = put_here a.rank i (a.top 0) in omega (arith, k)),
       subst (λ b. IsStrand nodes' (put a.owner i 0) (put a.rank i (a.top 0)) 0 b n (node_at nodes' i).next) (sym (put_here a.rank i (a.top 0)))
           (subst (IsStrand nodes' (put a.owner i 0) (put a.rank i (a.top 0)) 0 (a.top 0) n) (sym g.link)
-          (subst (λ m. IsStrand nodes' (put a.owner i 0) (put a.rank i (a.top 0)) 0 (a.top 0) m free.first) (let k : free.count ≡ n = omega (arith, e) in k) (kept 0 zero_suc (a.top 0) free.count free.first (a.strands 0)))),
+          (subst (λ m. IsStrand nodes' (put a.owner i 0) (put a.rank i (a.top 0)) 0 (a.top 0) m free.first) (let k : free.count ≡ n = omega (arith, e) in
+          k) (kept 0 zero_suc (a.top 0) free.count free.first (a.strands 0)))),
     )
 
-    strands : p < length heads → (who : ℕ) → IsStrand nodes' (put a.owner i 0) (put a.rank i (a.top 0)) who (tops a.top (suc (a.top 0)) p bound who) (strand_of (set heads p h) (record { first = i; count = free.count + 1 }) who).count (strand_of (set heads p h) (record { first = i; count = free.count + 1 }) who).first
+    strands : p < length heads → (who : ℕ) → IsStrand nodes' (put a.owner i 0) (put a.rank i (a.top 0)) who (tops a.top (suc (a.top 0)) p bound who)
+        (strand_of (set heads p h) (record { first = i; count = free.count + 1 }) who).count (strand_of (set heads p h) (record { first = i; count = free.count + 1 }) who).first
     strands within zero = free_strand (free.count + 1) (omega arith)
     strands within (suc q) = go (cases_eq q p)
       where
-        go : (q ≡ p) ⊎ (q ≡ p → ⊥) → IsStrand nodes' (put a.owner i 0) (put a.rank i (a.top 0)) (suc q) (put (λ q. a.top (suc q)) p bound q) (head_at (set heads p h) q).strand.count (head_at (set heads p h) q).strand.first
+        go : (q ≡ p) ⊎ (q ≡ p → ⊥) → IsStrand nodes' (put a.owner i 0) (put a.rank i (a.top 0)) (suc q) (put (λ q. a.top (suc q)) p bound q)
+            (head_at (set heads p h) q).strand.count (head_at (set heads p h) q).strand.first
         go (inl e) =
-            subst (λ r. IsStrand nodes' (put a.owner i 0) (put a.rank i (a.top 0)) (suc r) (put (λ q. a.top (suc q)) p bound r) (head_at (set heads p h) r).strand.count (head_at (set heads p h) r).strand.first) (sym e)
-            (subst (λ (x : Head). IsStrand nodes' (put a.owner i 0) (put a.rank i (a.top 0)) (suc p) (put (λ q. a.top (suc q)) p bound p) x.strand.count x.strand.first) (sym (head_here heads p h within))
+            subst (λ r. IsStrand nodes' (put a.owner i 0) (put a.rank i (a.top 0)) (suc r) (put (λ q. a.top (suc q)) p bound r) (head_at (set heads p h) r).strand.count
+            (head_at (set heads p h) r).strand.first) (sym e)
+            (subst (λ (x : Head). IsStrand nodes' (put a.owner i 0) (put a.rank i (a.top 0)) (suc p) (put (λ q. a.top (suc q)) p bound p) x.strand.count x.strand.first)
+            (sym (head_here heads p h within))
             (subst (λ b. IsStrand nodes' (put a.owner i 0) (put a.rank i (a.top 0)) (suc p) b h.strand.count h.strand.first) (sym (put_here (λ q. a.top (suc q)) p bound)) g.strand))
         go (inr apart) =
-            subst (λ (x : Head). IsStrand nodes' (put a.owner i 0) (put a.rank i (a.top 0)) (suc q) (put (λ q. a.top (suc q)) p bound q) x.strand.count x.strand.first) (sym (head_apart heads p q h apart))
-            (subst (λ b. IsStrand nodes' (put a.owner i 0) (put a.rank i (a.top 0)) (suc q) b (head_at heads q).strand.count (head_at heads q).strand.first) (sym (put_apart (λ q. a.top (suc q)) p bound q apart))
+            subst (λ (x : Head). IsStrand nodes' (put a.owner i 0) (put a.rank i (a.top 0)) (suc q) (put (λ q. a.top (suc q)) p bound q) x.strand.count x.strand.first)
+            (sym (head_apart heads p q h apart))
+            (subst (λ b. IsStrand nodes' (put a.owner i 0) (put a.rank i (a.top 0)) (suc q) b (head_at heads q).strand.count (head_at heads q).strand.first)
+            (sym (put_apart (λ q. a.top (suc q)) p bound q apart))
             (kept (suc q) (λ e. apart (let k : q ≡ p = omega (arith, e) in k)) (a.top (suc q)) (head_at heads q).strand.count (head_at heads q).strand.first (a.strands (suc q))))
 
 -- the others have the versions that they had
-pub gave_others : (heads : List Head) (nodes : List Node) (free : Strand) (a : AreStrands heads nodes free) (p : ℕ) (nodes' : List Node) (h : Head) → ((j : ℕ) → a.owner j ≢ suc p → node_at nodes' j ≡ node_at nodes j) → (q : ℕ) → q ≢ p → versions_of nodes' (head_at (set heads p h) q) ≡ versions_of nodes (head_at heads q)
+pub gave_others : (heads : List Head) (nodes : List Node) (free : Strand) (a : AreStrands heads nodes free) (p : ℕ) (nodes' : List Node) (h : Head) →
+    ((j : ℕ) → a.owner j ≢ suc p → node_at nodes' j ≡ node_at nodes j) → (q : ℕ) → q ≢ p → versions_of nodes' (head_at (set heads p h) q) ≡ versions_of nodes (head_at heads q)
 gave_others heads nodes free a p nodes' h others q apart =
     ap (versions_of nodes') (head_apart heads p q h apart)
-    ∙ frame_versions nodes a.owner a.rank nodes' (head_at heads q).is_open (suc q) (a.top (suc q)) (head_at heads q).strand.count (head_at heads q).strand.first (λ j x y z. others j (λ e. apart (let k : suc q ≡ suc p = sym y ∙ e in let l : q ≡ p = omega (arith, k) in l))) (a.strands (suc q))
+    ∙ frame_versions nodes a.owner a.rank nodes' (head_at heads q).is_open (suc q) (a.top (suc q)) (head_at heads q).strand.count (head_at heads q).strand.first
+    (λ j x y z. others j (λ e. apart (let k : suc q ≡ suc p = sym y ∙ e in let l : q ≡ p = omega (arith, k) in l))) (a.strands (suc q))

@@ -52,18 +52,25 @@ under_follows (Some up) v vs h = follows_stamp up v.stamp h.0
 
 -- ---- one version
 
-pub swept_goes : (horizon : ℕ) (snapshots : List ℕ) (up : Option ℕ) (v : Version) (vs : List Version) → goes horizon snapshots up (number_in v.stamp) ≡ true → swept_from horizon snapshots up (v ∷ vs) ≡ swept_from horizon snapshots (number_in v.stamp) vs
-swept_goes horizon snapshots up v vs e = ap (λ b. map (λ p. p.1) (cond (not b) ((up, v) ∷ filter (λ p. not (goes_after horizon snapshots p)) (with_successors (number_in v.stamp) vs)) (filter (λ p. not (goes_after horizon snapshots p)) (with_successors (number_in v.stamp) vs)))) e
+pub swept_goes : (horizon : ℕ) (snapshots : List ℕ) (up : Option ℕ) (v : Version) (vs : List Version) → goes horizon snapshots up (number_in v.stamp) ≡ true →
+    swept_from horizon snapshots up (v ∷ vs) ≡ swept_from horizon snapshots (number_in v.stamp) vs
+swept_goes horizon snapshots up v vs e = ap (λ b. map (λ p. p.1)
+    (cond (not b) ((up, v) ∷ filter (λ p. not (goes_after horizon snapshots p)) (with_successors (number_in v.stamp) vs))
+    (filter (λ p. not (goes_after horizon snapshots p)) (with_successors (number_in v.stamp) vs)))) e
 
-pub swept_stays : (horizon : ℕ) (snapshots : List ℕ) (up : Option ℕ) (v : Version) (vs : List Version) → goes horizon snapshots up (number_in v.stamp) ≡ false → swept_from horizon snapshots up (v ∷ vs) ≡ v ∷ swept_from horizon snapshots (number_in v.stamp) vs
-swept_stays horizon snapshots up v vs e = ap (λ b. map (λ p. p.1) (cond (not b) ((up, v) ∷ filter (λ p. not (goes_after horizon snapshots p)) (with_successors (number_in v.stamp) vs)) (filter (λ p. not (goes_after horizon snapshots p)) (with_successors (number_in v.stamp) vs)))) e
+pub swept_stays : (horizon : ℕ) (snapshots : List ℕ) (up : Option ℕ) (v : Version) (vs : List Version) → goes horizon snapshots up (number_in v.stamp) ≡ false →
+    swept_from horizon snapshots up (v ∷ vs) ≡ v ∷ swept_from horizon snapshots (number_in v.stamp) vs
+swept_stays horizon snapshots up v vs e = ap (λ b. map (λ p. p.1)
+    (cond (not b) ((up, v) ∷ filter (λ p. not (goes_after horizon snapshots p)) (with_successors (number_in v.stamp) vs))
+    (filter (λ p. not (goes_after horizon snapshots p)) (with_successors (number_in v.stamp) vs)))) e
 
 -- what is left and what goes are all
 parted : {X : Type 0} (p : X → Bool) (xs : List X) → length (filter (λ x. not (p x)) xs) + length (filter p xs) ≡ length xs
 parted p [] = refl
 parted p (x ∷ xs) = go (p x) (parted p xs)
   where
-    go : (b : Bool) → length (filter (λ x. not (p x)) xs) + length (filter p xs) ≡ length xs → length (cond (not b) (x ∷ filter (λ x. not (p x)) xs) (filter (λ x. not (p x)) xs)) + length (cond b (x ∷ filter p xs) (filter p xs)) ≡ length (x ∷ xs)
+    go : (b : Bool) → length (filter (λ x. not (p x)) xs) + length (filter p xs) ≡ length xs →
+        length (cond (not b) (x ∷ filter (λ x. not (p x)) xs) (filter (λ x. not (p x)) xs)) + length (cond b (x ∷ filter p xs) (filter p xs)) ≡ length (x ∷ xs)
     go true e = omega (arith, e)
     go false e = omega (arith, e)
 

@@ -33,10 +33,12 @@ record Opened (horizon : ℕ) (snapshots : List ℕ) (old : List Version) (v : V
   under : Under up (v ∷ before)
   chain : IsChain (v ∷ before)
 
-opened : (horizon : ℕ) (snapshots : List ℕ) (old : List Version) (v : Version) (more : List Version) (rest : ℕ) (up : Option ℕ) → 0 < rest → Turned horizon snapshots old (v ∷ more) rest up → Opened horizon snapshots old v more rest up
+opened : (horizon : ℕ) (snapshots : List ℕ) (old : List Version) (v : Version) (more : List Version) (rest : ℕ) (up : Option ℕ) → 0 < rest →
+    Turned horizon snapshots old (v ∷ more) rest up → Opened horizon snapshots old v more rest up
 opened horizon snapshots old v more rest up h t = go t.before t.stand t.many t.left t.last t.under t.chain
   where
-    go : (before : List Version) → (v ∷ more) ≡ before ++ t.kept → length before ≡ rest → t.kept ++ swept_from horizon snapshots up before ≡ swept horizon snapshots old → last_after up before ≡ last_number old → Under up before → IsChain before → Opened horizon snapshots old v more rest up
+    go : (before : List Version) → (v ∷ more) ≡ before ++ t.kept → length before ≡ rest → t.kept ++ swept_from horizon snapshots up before ≡ swept horizon snapshots old →
+        last_after up before ≡ last_number old → Under up before → IsChain before → Opened horizon snapshots old v more rest up
     go [] a b c d e f = absurd (omega (arith, b, h))
     go (w ∷ ws) a b c d e f =
         let same : w ≡ v = cc in
@@ -52,7 +54,8 @@ opened horizon snapshots old v more rest up h t = go t.before t.stand t.many t.l
           chain = subst (λ x. IsChain (x ∷ ws)) same f;
         }
 
-pub follows : (horizon : ℕ) (snapshots : List ℕ) (old : List Version) (v : Version) (more : List Version) (rest : ℕ) (up : Option ℕ) → 0 < rest → Turned horizon snapshots old (v ∷ more) rest up → Follows up (number_in v.stamp)
+pub follows : (horizon : ℕ) (snapshots : List ℕ) (old : List Version) (v : Version) (more : List Version) (rest : ℕ) (up : Option ℕ) → 0 < rest →
+    Turned horizon snapshots old (v ∷ more) rest up → Follows up (number_in v.stamp)
 follows horizon snapshots old v more rest up h t = let o = opened horizon snapshots old v more rest up h t in under_follows up v o.before o.under
 
 regroup : (xs : List Version) (v : Version) (ys : List Version) → (xs ++ v ∷ []) ++ ys ≡ xs ++ (v ∷ ys)
@@ -63,7 +66,8 @@ regroup_end : (xs ys : List Version) (v : Version) → (xs ++ ys) ++ v ∷ [] �
 regroup_end [] ys v = refl
 regroup_end (x ∷ xs) ys v = ap (λ zs. x ∷ zs) (regroup_end xs ys v)
 
-pub turn_stays : (horizon : ℕ) (snapshots : List ℕ) (old : List Version) (v : Version) (more : List Version) (rest : ℕ) (up : Option ℕ) → 0 < rest → Turned horizon snapshots old (v ∷ more) rest up → goes horizon snapshots up (number_in v.stamp) ≡ false → Turned horizon snapshots old (more ++ v ∷ []) (rest - 1) (number_in v.stamp)
+pub turn_stays : (horizon : ℕ) (snapshots : List ℕ) (old : List Version) (v : Version) (more : List Version) (rest : ℕ) (up : Option ℕ) → 0 < rest →
+    Turned horizon snapshots old (v ∷ more) rest up → goes horizon snapshots up (number_in v.stamp) ≡ false → Turned horizon snapshots old (more ++ v ∷ []) (rest - 1) (number_in v.stamp)
 turn_stays horizon snapshots old v more rest up h t e =
     let o = opened horizon snapshots old v more rest up h t in
     record {
@@ -81,11 +85,13 @@ turn_stays horizon snapshots old v more rest up h t e =
 pub ended : (horizon : ℕ) (snapshots : List ℕ) (old items : List Version) (up : Option ℕ) → Turned horizon snapshots old items 0 up → (items ≡ swept horizon snapshots old) × (up ≡ last_number old)
 ended horizon snapshots old items up t = go t.before t.stand t.many t.left t.last
   where
-    go : (before : List Version) → items ≡ before ++ t.kept → length before ≡ 0 → t.kept ++ swept_from horizon snapshots up before ≡ swept horizon snapshots old → last_after up before ≡ last_number old → (items ≡ swept horizon snapshots old) × (up ≡ last_number old)
+    go : (before : List Version) → items ≡ before ++ t.kept → length before ≡ 0 → t.kept ++ swept_from horizon snapshots up before ≡ swept horizon snapshots old →
+        last_after up before ≡ last_number old → (items ≡ swept horizon snapshots old) × (up ≡ last_number old)
     go [] a b c d = (a ∙ sym (append_nil t.kept) ∙ c, d)
     go (w ∷ ws) a b c d = absurd (omega (arith, b))
 
-pub ended_length : (horizon : ℕ) (snapshots : List ℕ) (old items : List Version) (rest : ℕ) (up : Option ℕ) → rest ≤ 0 → Turned horizon snapshots old items rest up → length items + swept_away horizon snapshots old ≡ length old
+pub ended_length : (horizon : ℕ) (snapshots : List ℕ) (old items : List Version) (rest : ℕ) (up : Option ℕ) → rest ≤ 0 → Turned horizon snapshots old items rest up →
+    length items + swept_away horizon snapshots old ≡ length old
 ended_length horizon snapshots old items rest up none t =
     let same : rest ≡ 0 = omega (arith, none) in
     let e = ended horizon snapshots old items up (subst (λ r. Turned horizon snapshots old items r up) same t) in

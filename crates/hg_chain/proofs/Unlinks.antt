@@ -1,5 +1,6 @@
 -- A version behind another is taken out of a place's chain.
-use Rattle.std.proofs.Common.{◌≡◌, ◌≢◌, ℕ, zero, suc, ◌+◌, ◌-◌, ◌<◌, ◌≤◌, List, ◌∷◌, ◌++◌, length, take, drop, set, Bool, true, false, refl, sym, ap, ◌∙◌, subst, arith, get_or-set_same, get_or-set_other}
+use Rattle.std.proofs.Common.{◌≡◌, ◌≢◌, ℕ, zero, suc, ◌+◌, ◌-◌, ◌<◌, ◌≤◌, List, ◌∷◌, ◌++◌, length, take, drop, set, Bool, true, false, refl, sym, ap, ◌∙◌, subst, arith, get_or-set_same}
+use Rattle.std.proofs.Common.{get_or-set_other}
 use Rattle.std.proofs.lemmas.List.{length-set}
 use Rattle.hg_chain.specs.declared.node.Node.{Node}
 use Rattle.hg_chain.specs.declared.node.Strand.{Strand}
@@ -51,11 +52,13 @@ unlinked_length nodes last at free = length-set (relinked nodes last (node_at no
 pub unlinked_apart : (nodes : List Node) (last at free j : ℕ) → j ≢ last → j ≢ at → node_at (unlinked nodes last at free) j ≡ node_at nodes j
 unlinked_apart nodes last at free j a b = without_apart (relinked nodes last (node_at nodes at).next) at free j b ∙ get_or-set_other nodes last j _ blank a
 
-pub unlinked_last : (nodes : List Node) (last at free : ℕ) → last ≢ at → last < length nodes → node_at (unlinked nodes last at free) last ≡ record (node_at nodes last) { next = (node_at nodes at).next }
+pub unlinked_last : (nodes : List Node) (last at free : ℕ) → last ≢ at → last < length nodes →
+    node_at (unlinked nodes last at free) last ≡ record (node_at nodes last) { next = (node_at nodes at).next }
 unlinked_last nodes last at free a within = without_apart (relinked nodes last (node_at nodes at).next) at free last a ∙ get_or-set_same nodes last _ blank within
 
 pub unlinked_link : (nodes : List Node) (last at free : ℕ) → at < length nodes → (node_at (unlinked nodes last at free) at).next ≡ free
-unlinked_link nodes last at free within = without_link (relinked nodes last (node_at nodes at).next) at free (let e = length-set nodes last (record (node_at nodes last) { next = (node_at nodes at).next }) in omega (arith, e, within))
+unlinked_link nodes last at free within = without_link (relinked nodes last (node_at nodes at).next) at free
+    (let e = length-set nodes last (record (node_at nodes last) { next = (node_at nodes at).next }) in omega (arith, e, within))
 
 same_version : (begins : Bool) (n : Node) (next : ℕ) → version_in begins (record n { next = next }) ≡ version_in begins n
 same_version true n next = refl
@@ -72,9 +75,11 @@ pub record Shorter (nodes : List Node) (own rk : ℕ → ℕ) (who bound n i k a
 ranks_apart : (rk : ℕ → ℕ) (i j : ℕ) → rk j < rk i → i ≢ j
 ranks_apart rk i j h e = let k : rk i ≡ rk j = ap rk e in absurd (omega (arith, h, k))
 
-pub shorter : (nodes : List Node) (own rk : ℕ → ℕ) (who bound n i k last at free t : ℕ) → k < n → node_behind nodes k i ≡ last → (node_at nodes last).next ≡ at → IsStrand nodes own rk who bound (suc n) i → Shorter nodes own rk who bound n i k at free t (unlinked nodes last at free)
+pub shorter : (nodes : List Node) (own rk : ℕ → ℕ) (who bound n i k last at free t : ℕ) → k < n → node_behind nodes k i ≡ last → (node_at nodes last).next ≡ at →
+    IsStrand nodes own rk who bound (suc n) i → Shorter nodes own rk who bound n i k at free t (unlinked nodes last at free)
 shorter nodes own rk who bound zero i k last at free t less e f h = absurd (omega (arith, less))
-shorter nodes own rk who bound (suc n) i zero last at free t less e f h = subst (λ l. (node_at nodes l).next ≡ at → Shorter nodes own rk who bound (suc n) i zero at free t (unlinked nodes l at free)) e (λ g. subst (λ l. Shorter nodes own rk who bound (suc n) i zero l free t (unlinked nodes i l free)) g here) f
+shorter nodes own rk who bound (suc n) i zero last at free t less e f h = subst (λ l. (node_at nodes l).next ≡ at →
+    Shorter nodes own rk who bound (suc n) i zero at free t (unlinked nodes l at free)) e (λ g. subst (λ l. Shorter nodes own rk who bound (suc n) i zero l free t (unlinked nodes i l free)) g here) f
   where
     apart : i ≢ (node_at nodes i).next
     apart = ranks_apart rk i (node_at nodes i).next h.3.2
@@ -91,9 +96,11 @@ shorter nodes own rk who bound (suc n) i zero last at free t less e f h = subst 
     length_same : length nodes ≤ length (unlinked nodes i (node_at nodes i).next free)
     length_same = let e = unlinked_length nodes i (node_at nodes i).next free in omega (arith, e)
 
-    rest : IsStrand (unlinked nodes i (node_at nodes i).next free) (put own (node_at nodes i).next 0) (put rk (node_at nodes i).next t) who (rk (node_at nodes i).next) n (node_at nodes (node_at nodes i).next).next
+    rest : IsStrand (unlinked nodes i (node_at nodes i).next free) (put own (node_at nodes i).next 0) (put rk (node_at nodes i).next t) who (rk (node_at nodes i).next) n
+        (node_at nodes (node_at nodes i).next).next
     rest =
-        frame nodes own rk (unlinked nodes i (node_at nodes i).next free) (put own (node_at nodes i).next 0) (put rk (node_at nodes i).next t) length_same who (rk (node_at nodes i).next) n (node_at nodes (node_at nodes i).next).next
+        frame nodes own rk (unlinked nodes i (node_at nodes i).next free) (put own (node_at nodes i).next 0) (put rk (node_at nodes i).next t) length_same who
+        (rk (node_at nodes i).next) n (node_at nodes (node_at nodes i).next).next
         (λ j x y z. let other : j ≢ (node_at nodes i).next = λ k. ranks_apart rk (node_at nodes i).next j z (sym k) in
         record {
           next = ap (λ (m : Node). m.next) (others j x y z);
@@ -109,13 +116,16 @@ shorter nodes own rk who bound (suc n) i zero last at free t less e f h = subst 
             (let a : i < length nodes = h.0 in let b = length_same in omega (arith, a, b)),
             put_apart own (node_at nodes i).next 0 i apart ∙ h.1,
             (let a = put_apart rk (node_at nodes i).next t i apart in let b : rk i < bound = h.2 in omega (arith, a, b)),
-            subst (λ b. IsStrand (unlinked nodes i (node_at nodes i).next free) (put own (node_at nodes i).next 0) (put rk (node_at nodes i).next t) who b n (node_at (unlinked nodes i (node_at nodes i).next free) i).next) (sym (put_apart rk (node_at nodes i).next t i apart))
+            subst (λ b. IsStrand (unlinked nodes i (node_at nodes i).next free) (put own (node_at nodes i).next 0) (put rk (node_at nodes i).next t) who b n
+                (node_at (unlinked nodes i (node_at nodes i).next free) i).next) (sym (put_apart rk (node_at nodes i).next t i apart))
                 (subst (λ (m : Node). IsStrand (unlinked nodes i (node_at nodes i).next free) (put own (node_at nodes i).next 0) (put rk (node_at nodes i).next t) who (rk i) n m.next) (sym now)
-                (weaken (unlinked nodes i (node_at nodes i).next free) (put own (node_at nodes i).next 0) (put rk (node_at nodes i).next t) who (rk (node_at nodes i).next) (rk i) n (node_at nodes (node_at nodes i).next).next (let a : rk (node_at nodes i).next < rk i = h.3.2 in omega (arith, a)) rest)),
+                (weaken (unlinked nodes i (node_at nodes i).next free) (put own (node_at nodes i).next 0) (put rk (node_at nodes i).next t) who (rk (node_at nodes i).next) (rk i) n
+                (node_at nodes (node_at nodes i).next).next (let a : rk (node_at nodes i).next < rk i = h.3.2 in omega (arith, a)) rest)),
           );
           left = λ begins.
               (λ x. version_in begins (now x) ∷ versions (unlinked nodes i (node_at nodes i).next free) false n (now x).next)
-              ∙ (λ x. same_version begins (node_at nodes i) (node_at nodes (node_at nodes i).next).next x ∷ frame_versions nodes own rk (unlinked nodes i (node_at nodes i).next free) false who (rk (node_at nodes i).next) n (node_at nodes (node_at nodes i).next).next others h.3.3 x);
+              ∙ (λ x. same_version begins (node_at nodes i) (node_at nodes (node_at nodes i).next).next x ∷ frame_versions nodes own rk
+              (unlinked nodes i (node_at nodes i).next free) false who (rk (node_at nodes i).next) n (node_at nodes (node_at nodes i).next).next others h.3.3 x);
           here = refl;
           next = ap (λ (m : Node). m.next) now;
         }
@@ -125,7 +135,8 @@ shorter nodes own rk who bound (suc n) i (suc k) last at free t less e f h = mad
     last_stands = subst (Stands nodes own rk who (rk i)) e (behind_stands nodes own rk who (rk i) (suc n) (node_at nodes i).next k (omega (arith, less)) h.3)
 
     at_stands : Stands nodes own rk who (rk i) at
-    at_stands = subst (Stands nodes own rk who (rk i)) (sym (behind_next nodes k (node_at nodes i).next) ∙ ap (λ l. (node_at nodes l).next) e ∙ f) (behind_stands nodes own rk who (rk i) (suc n) (node_at nodes i).next (suc k) (omega (arith, less)) h.3)
+    at_stands = subst (Stands nodes own rk who (rk i)) (sym (behind_next nodes k (node_at nodes i).next) ∙ ap (λ l. (node_at nodes l).next) e ∙ f)
+        (behind_stands nodes own rk who (rk i) (suc n) (node_at nodes i).next (suc k) (omega (arith, less)) h.3)
 
     apart : i ≢ at
     apart = ranks_apart rk i at at_stands.low
@@ -157,19 +168,23 @@ pub record Unlinked (heads : List Head) (nodes : List Node) (free : Strand) (p k
   pub last_within : last < length nodes
   pub at_within : at < length nodes
   pub arena : AreStrands (set heads p (one_less heads p)) (unlinked nodes last at free.first) (record { first = at; count = free.count + 1 })
-  pub left : versions_of (unlinked nodes last at free.first) (head_at (set heads p (one_less heads p)) p) ≡ take kept (versions_of nodes (head_at heads p)) ++ drop (kept + 1) (versions_of nodes (head_at heads p))
+  pub left : versions_of (unlinked nodes last at free.first) (head_at (set heads p (one_less heads p)) p) ≡ take kept (versions_of nodes (head_at heads p)) ++ drop (kept + 1)
+      (versions_of nodes (head_at heads p))
   pub walk : node_behind (unlinked nodes last at free.first) kept (head_at (set heads p (one_less heads p)) p).strand.first ≡ (node_at nodes at).next
   pub behind : IsLast (unlinked nodes last at free.first) (head_at (set heads p (one_less heads p)) p).strand.first kept last
   pub others : (q : ℕ) → q ≢ p → versions_of (unlinked nodes last at free.first) (head_at (set heads p (one_less heads p)) q) ≡ versions_of nodes (head_at heads q)
 
-pub unlink : (heads : List Head) (nodes : List Node) (free : Strand) → AreStrands heads nodes free → (p kept last at : ℕ) → 0 < kept → kept < (head_at heads p).strand.count → node_behind nodes kept (head_at heads p).strand.first ≡ at → IsLast nodes (head_at heads p).strand.first kept last → Unlinked heads nodes free p kept last at
+pub unlink : (heads : List Head) (nodes : List Node) (free : Strand) → AreStrands heads nodes free → (p kept last at : ℕ) → 0 < kept → kept < (head_at heads p).strand.count →
+    node_behind nodes kept (head_at heads p).strand.first ≡ at → IsLast nodes (head_at heads p).strand.first kept last → Unlinked heads nodes free p kept last at
 unlink heads nodes free a p zero last at some less e f = absurd (omega (arith, some))
 unlink heads nodes free a p (suc k) last at some less e f =
     record {
       last_within = last_stands.within;
       at_within = at_stands.within;
       arena = gave heads nodes free a p at (unlinked nodes last at free.first) (one_less heads p) (a.top (suc p)) given;
-      left = ap (versions_of (unlinked nodes last at free.first)) same_head ∙ short.left (head_at heads p).is_open ∙ (λ i. take (suc k) (versions nodes (head_at heads p).is_open (sym many i) (head_at heads p).strand.first) ++ drop (next_kept i) (versions nodes (head_at heads p).is_open (sym many i) (head_at heads p).strand.first));
+      left = ap (versions_of (unlinked nodes last at free.first)) same_head ∙ short.left (head_at heads p).is_open ∙
+          (λ i. take (suc k) (versions nodes (head_at heads p).is_open (sym many i) (head_at heads p).strand.first) ++ drop (next_kept i)
+          (versions nodes (head_at heads p).is_open (sym many i) (head_at heads p).strand.first));
       walk = ap (λ (h : Head). node_behind (unlinked nodes last at free.first) (suc k) h.strand.first) same_head ∙ short.next;
       behind = ap (λ (h : Head). node_behind (unlinked nodes last at free.first) k h.strand.first) same_head ∙ short.here ∙ f;
       others = gave_others heads nodes free a p (unlinked nodes last at free.first) (one_less heads p) apart;
@@ -188,13 +203,16 @@ unlink heads nodes free a p (suc k) last at some less e f =
     linked = ap (λ l. (node_at nodes l).next) (sym f) ∙ behind_next nodes k (head_at heads p).strand.first ∙ e
 
     last_stands : Stands nodes a.owner a.rank (suc p) (a.top (suc p)) last
-    last_stands = subst (Stands nodes a.owner a.rank (suc p) (a.top (suc p))) f (behind_stands nodes a.owner a.rank (suc p) (a.top (suc p)) (head_at heads p).strand.count (head_at heads p).strand.first k (omega (arith, less)) (a.strands (suc p)))
+    last_stands = subst (Stands nodes a.owner a.rank (suc p) (a.top (suc p))) f (behind_stands nodes a.owner a.rank (suc p) (a.top (suc p)) (head_at heads p).strand.count
+        (head_at heads p).strand.first k (omega (arith, less)) (a.strands (suc p)))
 
     at_stands : Stands nodes a.owner a.rank (suc p) (a.top (suc p)) at
-    at_stands = subst (Stands nodes a.owner a.rank (suc p) (a.top (suc p))) e (behind_stands nodes a.owner a.rank (suc p) (a.top (suc p)) (head_at heads p).strand.count (head_at heads p).strand.first (suc k) less (a.strands (suc p)))
+    at_stands = subst (Stands nodes a.owner a.rank (suc p) (a.top (suc p))) e (behind_stands nodes a.owner a.rank (suc p) (a.top (suc p)) (head_at heads p).strand.count
+        (head_at heads p).strand.first (suc k) less (a.strands (suc p)))
 
     short : Shorter nodes a.owner a.rank (suc p) (a.top (suc p)) ((head_at heads p).strand.count - 1) (head_at heads p).strand.first k at free.first (a.top 0) (unlinked nodes last at free.first)
-    short = shorter nodes a.owner a.rank (suc p) (a.top (suc p)) ((head_at heads p).strand.count - 1) (head_at heads p).strand.first k last at free.first (a.top 0) (omega (arith, less)) f linked strand
+    short = shorter nodes a.owner a.rank (suc p) (a.top (suc p)) ((head_at heads p).strand.count - 1) (head_at heads p).strand.first k last at free.first (a.top 0)
+        (omega (arith, less)) f linked strand
 
     apart : (j : ℕ) → a.owner j ≢ suc p → node_at (unlinked nodes last at free.first) j ≡ node_at nodes j
     apart j other = unlinked_apart nodes last at free.first j (λ k. other (ap a.owner k ∙ last_stands.owned)) (λ k. other (ap a.owner k ∙ at_stands.owned))
@@ -215,6 +233,8 @@ unlink heads nodes free a p (suc k) last at some less e f =
         }
 
 -- the node before which a walk stands is there
-pub walk_within : (heads : List Head) (nodes : List Node) (free : Strand) → AreStrands heads nodes free → (p kept at : ℕ) → kept < (head_at heads p).strand.count → node_behind nodes kept (head_at heads p).strand.first ≡ at → at < length nodes
+pub walk_within : (heads : List Head) (nodes : List Node) (free : Strand) → AreStrands heads nodes free → (p kept at : ℕ) → kept < (head_at heads p).strand.count →
+    node_behind nodes kept (head_at heads p).strand.first ≡ at → at < length nodes
 walk_within heads nodes free a p kept at less e =
-    (subst (Stands nodes a.owner a.rank (suc p) (a.top (suc p))) e (behind_stands nodes a.owner a.rank (suc p) (a.top (suc p)) (head_at heads p).strand.count (head_at heads p).strand.first kept less (a.strands (suc p)))).within
+    (subst (Stands nodes a.owner a.rank (suc p) (a.top (suc p))) e (behind_stands nodes a.owner a.rank (suc p) (a.top (suc p)) (head_at heads p).strand.count
+    (head_at heads p).strand.first kept less (a.strands (suc p)))).within

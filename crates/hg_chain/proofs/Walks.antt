@@ -20,14 +20,17 @@ use Rattle.hg_chain.proofs.Unlinks.{behind_next, walk_within}
 not_first : (k : ℕ) (n : Node) {v : Version} → 0 < k → v ≡ version_in false n → v ≡ version_in (true && (k == 0)) n
 not_first k n some e = e ∙ sym (ap (λ b. version_in b n) (cases (k == 0) (λ same. absurd (let z : k ≡ 0 = (Decides-eqb k 0).0 same in omega (arith, z, some))) (λ other. other)))
 
-pub version_read : (nodes : List Node) (begins : Bool) (n i k : ℕ) (d : Version) → k < n → get_or (versions nodes begins n i) k d ≡ version_in (begins && (k == 0)) (node_at nodes (node_behind nodes k i))
+pub version_read : (nodes : List Node) (begins : Bool) (n i k : ℕ) (d : Version) → k < n →
+    get_or (versions nodes begins n i) k d ≡ version_in (begins && (k == 0)) (node_at nodes (node_behind nodes k i))
 version_read nodes begins zero i k d less = absurd (omega (arith, less))
 version_read nodes true (suc n) i zero d less = let e : (0 == 0) ≡ true = (Decides-eqb 0 0).1 refl in ap (λ b. version_in b (node_at nodes i)) (sym e)
 version_read nodes false (suc n) i zero d less = refl
-version_read nodes true (suc n) i (suc k) d less = not_first (suc k) (node_at nodes (node_behind nodes (suc k) i)) (omega arith) (version_read nodes false n (node_at nodes i).next k d (omega (arith, less)))
+version_read nodes true (suc n) i (suc k) d less = not_first (suc k) (node_at nodes (node_behind nodes (suc k) i)) (omega arith)
+    (version_read nodes false n (node_at nodes i).next k d (omega (arith, less)))
 version_read nodes false (suc n) i (suc k) d less = version_read nodes false n (node_at nodes i).next k d (omega (arith, less))
 
-pub newer_many : (bound : ℕ) (vs : List Version) (kept : ℕ) (d : Version) → IsChain vs → kept ≤ length vs → Each (λ v. is_at_most bound v ≡ false) (take kept vs) → (kept < length vs → is_at_most bound (get_or vs kept d) ≡ true) → kept ≡ length (left_by bound vs)
+pub newer_many : (bound : ℕ) (vs : List Version) (kept : ℕ) (d : Version) → IsChain vs → kept ≤ length vs → Each (λ v. is_at_most bound v ≡ false) (take kept vs) →
+    (kept < length vs → is_at_most bound (get_or vs kept d) ≡ true) → kept ≡ length (left_by bound vs)
 newer_many bound [] zero d h less e f = refl
 newer_many bound [] (suc k) d h less e f = absurd (omega (arith, less))
 newer_many bound (v ∷ vs) zero d h less e f =
@@ -43,7 +46,8 @@ pub next_at : (a : Arena) (place : ℕ) (cursor : Cursor) → IsAt a place curso
 next_at a place cursor h =
     let more : suc cursor.kept ≡ cursor.kept + 1 = omega arith in
     record {
-      at = ap (λ k. node_behind a.nodes.items k (head_in a place).strand.first) (sym more) ∙ sym (behind_next a.nodes.items cursor.kept (head_in a place).strand.first) ∙ ap (λ i. (node_at a.nodes.items i).next) h.at;
+      at = ap (λ k. node_behind a.nodes.items k (head_in a place).strand.first) (sym more) ∙ sym (behind_next a.nodes.items cursor.kept (head_in a place).strand.first) ∙
+          ap (λ i. (node_at a.nodes.items i).next) h.at;
       last = subst (λ k. IsLast a.nodes.items (head_in a place).strand.first k cursor.at) more h.at;
     }
 
@@ -51,7 +55,8 @@ pub at_there : (a : Arena) (place : ℕ) (cursor : Cursor) → IsArena a → IsA
 at_there a place cursor s h less = walk_within a.heads.items a.nodes.items a.free s place cursor.kept cursor.at less h.at
 
 -- the version before which the walk stands
-pub version_here : (a : Arena) (place : ℕ) (cursor : Cursor) (d : Version) → IsAt a place cursor → cursor.kept < (head_in a place).strand.count → get_or (list_in a place) cursor.kept d ≡ version_in ((head_in a place).is_open && (cursor.kept == 0)) (node_at a.nodes.items cursor.at)
+pub version_here : (a : Arena) (place : ℕ) (cursor : Cursor) (d : Version) → IsAt a place cursor → cursor.kept < (head_in a place).strand.count →
+    get_or (list_in a place) cursor.kept d ≡ version_in ((head_in a place).is_open && (cursor.kept == 0)) (node_at a.nodes.items cursor.at)
 version_here a place cursor d h less =
     version_read a.nodes.items (head_in a place).is_open (head_in a place).strand.count (head_in a place).strand.first cursor.kept d less
     ∙ ap (λ i. version_in ((head_in a place).is_open && (cursor.kept == 0)) (node_at a.nodes.items i)) h.at
@@ -59,12 +64,15 @@ version_here a place cursor d h less =
 pub list_many : (a : Arena) (place : ℕ) → length (list_in a place) ≡ (head_in a place).strand.count
 list_many a place = versions_many a.nodes.items (head_in a place).is_open (head_in a place).strand.count (head_in a place).strand.first
 
-pub newer_more : (a : Arena) (place bound : ℕ) (cursor : Cursor) → IsAt a place cursor → cursor.kept < (head_in a place).strand.count → is_at_most bound (version_in ((head_in a place).is_open && (cursor.kept == 0)) (node_at a.nodes.items cursor.at)) ≡ false → Each (λ v. is_at_most bound v ≡ false) (take cursor.kept (list_in a place)) → Each (λ v. is_at_most bound v ≡ false) (take (cursor.kept + 1) (list_in a place))
+pub newer_more : (a : Arena) (place bound : ℕ) (cursor : Cursor) → IsAt a place cursor → cursor.kept < (head_in a place).strand.count →
+    is_at_most bound (version_in ((head_in a place).is_open && (cursor.kept == 0)) (node_at a.nodes.items cursor.at)) ≡ false →
+    Each (λ v. is_at_most bound v ≡ false) (take cursor.kept (list_in a place)) → Each (λ v. is_at_most bound v ≡ false) (take (cursor.kept + 1) (list_in a place))
 newer_more a place bound cursor h less newer each =
     let d = version_in false blank in
     let within : cursor.kept < length (list_in a place) = (let e = list_many a place in omega (arith, e, less)) in
     subst (Each (λ v. is_at_most bound v ≡ false)) (sym (take_more (list_in a place) cursor.kept d within))
-    (each_snoc (λ v. is_at_most bound v ≡ false) (take cursor.kept (list_in a place)) (get_or (list_in a place) cursor.kept d) each (ap (is_at_most bound) (version_here a place cursor d h less) ∙ newer))
+    (each_snoc (λ v. is_at_most bound v ≡ false) (take cursor.kept (list_in a place)) (get_or (list_in a place) cursor.kept d) each
+    (ap (is_at_most bound) (version_here a place cursor d h less) ∙ newer))
 
 -- whether the version of a node, behind so many, is at the bound
 abbrev pub at_most : ℕ → Head → ℕ → Node → Bool
@@ -78,8 +86,12 @@ pub not_both : (k n : ℕ) (b : Bool) → (nat_lt k n && not b) ≡ false → k 
 not_both k n true e less = refl
 not_both k n false e less = grind (arith, nat_tests)
 
-pub passed_many : (a : Arena) (place bound : ℕ) (cursor : Cursor) → IsChain (list_in a place) → IsAt a place cursor → cursor.kept ≤ (head_in a place).strand.count → Each (λ v. is_at_most bound v ≡ false) (take cursor.kept (list_in a place)) → (cursor.kept < (head_in a place).strand.count → is_at_most bound (version_in ((head_in a place).is_open && (cursor.kept == 0)) (node_at a.nodes.items cursor.at)) ≡ true) → cursor.kept ≡ length (left_by bound (list_in a place))
+pub passed_many : (a : Arena) (place bound : ℕ) (cursor : Cursor) → IsChain (list_in a place) → IsAt a place cursor → cursor.kept ≤ (head_in a place).strand.count →
+    Each (λ v. is_at_most bound v ≡ false) (take cursor.kept (list_in a place)) →
+    (cursor.kept < (head_in a place).strand.count → is_at_most bound (version_in ((head_in a place).is_open && (cursor.kept == 0)) (node_at a.nodes.items cursor.at)) ≡ true) →
+    cursor.kept ≡ length (left_by bound (list_in a place))
 passed_many a place bound cursor chain h within each old =
     let d = version_in false blank in
     let e = list_many a place in
-    newer_many bound (list_in a place) cursor.kept d chain (omega (arith, e, within)) each (λ l. let less : cursor.kept < (head_in a place).strand.count = omega (arith, e, l) in ap (is_at_most bound) (version_here a place cursor d h less) ∙ old less)
+    newer_many bound (list_in a place) cursor.kept d chain (omega (arith, e, within)) each (λ l. let less : cursor.kept < (head_in a place).strand.count = omega (arith, e, l) in
+    ap (is_at_most bound) (version_here a place cursor d h less) ∙ old less)

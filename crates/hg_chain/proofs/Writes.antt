@@ -1,5 +1,6 @@
 -- A version is put in front of a place's chain, or the first one is written over.
-use Rattle.std.proofs.Common.{◌≡◌, ◌≢◌, ℕ, zero, suc, ◌+◌, ◌-◌, ◌<◌, ◌≤◌, ◌^◌, List, ◌∷◌, length, drop, set, Bool, true, false, refl, sym, ap, ◌∙◌, subst, arith, get_or-set_same, get_or-set_other, inl, inr}
+use Rattle.std.proofs.Common.{◌≡◌, ◌≢◌, ℕ, zero, suc, ◌+◌, ◌-◌, ◌<◌, ◌≤◌, ◌^◌, List, ◌∷◌, length, drop, set, Bool, true, false, refl, sym, ap, ◌∙◌, subst, arith, get_or-set_same}
+use Rattle.std.proofs.Common.{get_or-set_other, inl, inr}
 use Rattle.std.specs.Prelude.{IsTrue, ◌⊎◌, if◌then◌else◌}
 use Rattle.std.proofs.lemmas.List.{length-set}
 use Rattle.std.proofs.lemmas.Bool.{cases_eq}
@@ -35,7 +36,10 @@ pub record Loose (heads : List Head) (nodes : List Node) (free : Strand) (a : Ar
   pub count : length nodes' + free.count ≡ length nodes + free'.count + 1
   pub fits : length nodes' < 2 ^ 32
 
-pub loose : (heads : List Head) (nodes : List Node) (free : Strand) (a : AreStrands heads nodes free) (i : ℕ) (nodes' : List Node) (free' : Strand) → (free.count ≡ 0 → (i ≡ length nodes) × (length nodes' ≡ length nodes + 1) × (free' ≡ free)) → (0 < free.count → (i ≡ free.first) × (length nodes' ≡ length nodes) × (free'.first ≡ (node_at nodes free.first).next) × (free'.count + 1 ≡ free.count)) → (free.count ≡ 0 → length nodes + 1 < 2 ^ 32) → Loose heads nodes free a i nodes' free'
+pub loose : (heads : List Head) (nodes : List Node) (free : Strand) (a : AreStrands heads nodes free) (i : ℕ) (nodes' : List Node) (free' : Strand) →
+    (free.count ≡ 0 → (i ≡ length nodes) × (length nodes' ≡ length nodes + 1) × (free' ≡ free)) →
+    (0 < free.count → (i ≡ free.first) × (length nodes' ≡ length nodes) × (free'.first ≡ (node_at nodes free.first).next) × (free'.count + 1 ≡ free.count)) →
+    (free.count ≡ 0 → length nodes + 1 < 2 ^ 32) → Loose heads nodes free a i nodes' free'
 loose heads nodes free a i nodes' free' grown reused room = go free.count refl
   where
     go : (n : ℕ) → free.count ≡ n → Loose heads nodes free a i nodes' free'
@@ -80,7 +84,8 @@ pub record Pushed (heads : List Head) (nodes : List Node) (p : ℕ) (x : Node) (
   pub here : versions_of nodes' (head_at (set heads p (with_front heads p i)) p) ≡ version_in true x ∷ versions nodes false (head_at heads p).strand.count (head_at heads p).strand.first
   pub others : (q : ℕ) → q ≢ p → versions_of nodes' (head_at (set heads p (with_front heads p i)) q) ≡ versions_of nodes (head_at heads q)
 
-pub pushed : (heads : List Head) (nodes : List Node) (free : Strand) (a : AreStrands heads nodes free) (p : ℕ) (x : Node) (i : ℕ) (nodes' : List Node) (free' : Strand) → p < length heads → x.next ≡ (head_at heads p).strand.first → Took nodes free x i nodes' free' → Loose heads nodes free a i nodes' free' → Pushed heads nodes p x i nodes' free'
+pub pushed : (heads : List Head) (nodes : List Node) (free : Strand) (a : AreStrands heads nodes free) (p : ℕ) (x : Node) (i : ℕ) (nodes' : List Node) (free' : Strand) →
+    p < length heads → x.next ≡ (head_at heads p).strand.first → Took nodes free x i nodes' free' → Loose heads nodes free a i nodes' free' → Pushed heads nodes p x i nodes' free'
 pushed heads nodes free a p x i nodes' free' within link t l =
     record {
       arena = record {
@@ -91,8 +96,12 @@ pushed heads nodes free a p x i nodes' free' within link t l =
         all = (let e = recount heads p (with_front heads p i) within in let c = l.count in let all = a.all in omega (arith, e, c, all));
         fits = l.fits;
       };
-      here = ap (versions_of nodes') (head_here heads p (with_front heads p i) within) ∙ ap (λ n. versions nodes' true n i) next_count ∙ (λ k. version_in true (t.here k) ∷ versions nodes' false (head_at heads p).strand.count (t.here k).next) ∙ ap (λ j. version_in true x ∷ versions nodes' false (head_at heads p).strand.count j) link ∙ ap (λ vs. version_in true x ∷ vs) (same_versions (suc p) (suc_zero p) (a.top (suc p)) false (head_at heads p).strand.count (head_at heads p).strand.first (a.strands (suc p)));
-      others = λ q apart. ap (versions_of nodes') (head_apart heads p q (with_front heads p i) apart) ∙ same_versions (suc q) (suc_zero q) (a.top (suc q)) (head_at heads q).is_open (head_at heads q).strand.count (head_at heads q).strand.first (a.strands (suc q));
+      here = ap (versions_of nodes') (head_here heads p (with_front heads p i) within) ∙ ap (λ n. versions nodes' true n i) next_count ∙
+          (λ k. version_in true (t.here k) ∷ versions nodes' false (head_at heads p).strand.count (t.here k).next) ∙
+          ap (λ j. version_in true x ∷ versions nodes' false (head_at heads p).strand.count j) link ∙
+          ap (λ vs. version_in true x ∷ vs) (same_versions (suc p) (suc_zero p) (a.top (suc p)) false (head_at heads p).strand.count (head_at heads p).strand.first (a.strands (suc p)));
+      others = λ q apart. ap (versions_of nodes') (head_apart heads p q (with_front heads p i) apart) ∙
+          same_versions (suc q) (suc_zero q) (a.top (suc q)) (head_at heads q).is_open (head_at heads q).strand.count (head_at heads q).strand.first (a.strands (suc q));
     }
   where
     next_count : (head_at heads p).strand.count + 1 ≡ suc (head_at heads p).strand.count
@@ -131,25 +140,35 @@ pushed heads nodes free a p x i nodes' free' within link t l =
       (let k = put_here a.rank i (a.top (suc p)) in omega (arith, k)),
       subst (λ b. IsStrand nodes' (put a.owner i (suc p)) (put a.rank i (a.top (suc p))) (suc p) b n (node_at nodes' i).next) (sym (put_here a.rank i (a.top (suc p))))
           (subst (IsStrand nodes' (put a.owner i (suc p)) (put a.rank i (a.top (suc p))) (suc p) (a.top (suc p)) n) (sym (ap (λ (m : Node). m.next) t.here ∙ link))
-          (subst (λ m. IsStrand nodes' (put a.owner i (suc p)) (put a.rank i (a.top (suc p))) (suc p) (a.top (suc p)) m (head_at heads p).strand.first) (let k : (head_at heads p).strand.count ≡ n = omega (arith, e) in k) (kept (suc p) (suc_zero p) (a.top (suc p)) (head_at heads p).strand.count (head_at heads p).strand.first (a.strands (suc p))))),
+          (subst (λ m. IsStrand nodes' (put a.owner i (suc p)) (put a.rank i (a.top (suc p))) (suc p) (a.top (suc p)) m (head_at heads p).strand.first)
+          (let k : (head_at heads p).strand.count ≡ n = omega (arith, e) in
+          k) (kept (suc p) (suc_zero p) (a.top (suc p)) (head_at heads p).strand.count (head_at heads p).strand.first (a.strands (suc p))))),
     )
 
-    strands : (who : ℕ) → IsStrand nodes' (put a.owner i (suc p)) (put a.rank i (a.top (suc p))) who (tops a.top l.bound p (suc (a.top (suc p))) who) (strand_of (set heads p (with_front heads p i)) free' who).count (strand_of (set heads p (with_front heads p i)) free' who).first
+    strands : (who : ℕ) → IsStrand nodes' (put a.owner i (suc p)) (put a.rank i (a.top (suc p))) who (tops a.top l.bound p (suc (a.top (suc p))) who)
+        (strand_of (set heads p (with_front heads p i)) free' who).count (strand_of (set heads p (with_front heads p i)) free' who).first
     strands zero = free_strand
     strands (suc q) = go (cases_eq q p)
       where
-        go : (q ≡ p) ⊎ (q ≡ p → ⊥) → IsStrand nodes' (put a.owner i (suc p)) (put a.rank i (a.top (suc p))) (suc q) (put (λ q. a.top (suc q)) p (suc (a.top (suc p))) q) (head_at (set heads p (with_front heads p i)) q).strand.count (head_at (set heads p (with_front heads p i)) q).strand.first
+        go : (q ≡ p) ⊎ (q ≡ p → ⊥) → IsStrand nodes' (put a.owner i (suc p)) (put a.rank i (a.top (suc p))) (suc q) (put (λ q. a.top (suc q)) p (suc (a.top (suc p))) q)
+            (head_at (set heads p (with_front heads p i)) q).strand.count (head_at (set heads p (with_front heads p i)) q).strand.first
         go (inl e) =
-            subst (λ r. IsStrand nodes' (put a.owner i (suc p)) (put a.rank i (a.top (suc p))) (suc r) (put (λ q. a.top (suc q)) p (suc (a.top (suc p))) r) (head_at (set heads p (with_front heads p i)) r).strand.count (head_at (set heads p (with_front heads p i)) r).strand.first) (sym e)
-            (subst (λ (h : Head). IsStrand nodes' (put a.owner i (suc p)) (put a.rank i (a.top (suc p))) (suc p) (put (λ q. a.top (suc q)) p (suc (a.top (suc p))) p) h.strand.count h.strand.first) (sym (head_here heads p (with_front heads p i) within))
-            (subst (λ b. IsStrand nodes' (put a.owner i (suc p)) (put a.rank i (a.top (suc p))) (suc p) b ((head_at heads p).strand.count + 1) i) (sym (put_here (λ q. a.top (suc q)) p (suc (a.top (suc p))))) (front ((head_at heads p).strand.count + 1) next_count)))
+            subst (λ r. IsStrand nodes' (put a.owner i (suc p)) (put a.rank i (a.top (suc p))) (suc r) (put (λ q. a.top (suc q)) p (suc (a.top (suc p))) r)
+            (head_at (set heads p (with_front heads p i)) r).strand.count (head_at (set heads p (with_front heads p i)) r).strand.first) (sym e)
+            (subst (λ (h : Head). IsStrand nodes' (put a.owner i (suc p)) (put a.rank i (a.top (suc p))) (suc p)
+            (put (λ q. a.top (suc q)) p (suc (a.top (suc p))) p) h.strand.count h.strand.first) (sym (head_here heads p (with_front heads p i) within))
+            (subst (λ b. IsStrand nodes' (put a.owner i (suc p)) (put a.rank i (a.top (suc p))) (suc p) b ((head_at heads p).strand.count + 1) i)
+            (sym (put_here (λ q. a.top (suc q)) p (suc (a.top (suc p))))) (front ((head_at heads p).strand.count + 1) next_count)))
         go (inr apart) =
-            subst (λ (h : Head). IsStrand nodes' (put a.owner i (suc p)) (put a.rank i (a.top (suc p))) (suc q) (put (λ q. a.top (suc q)) p (suc (a.top (suc p))) q) h.strand.count h.strand.first) (sym (head_apart heads p q (with_front heads p i) apart))
-            (subst (λ b. IsStrand nodes' (put a.owner i (suc p)) (put a.rank i (a.top (suc p))) (suc q) b (head_at heads q).strand.count (head_at heads q).strand.first) (sym (put_apart (λ q. a.top (suc q)) p (suc (a.top (suc p))) q apart))
+            subst (λ (h : Head). IsStrand nodes' (put a.owner i (suc p)) (put a.rank i (a.top (suc p))) (suc q)
+            (put (λ q. a.top (suc q)) p (suc (a.top (suc p))) q) h.strand.count h.strand.first) (sym (head_apart heads p q (with_front heads p i) apart))
+            (subst (λ b. IsStrand nodes' (put a.owner i (suc p)) (put a.rank i (a.top (suc p))) (suc q) b (head_at heads q).strand.count (head_at heads q).strand.first)
+            (sym (put_apart (λ q. a.top (suc q)) p (suc (a.top (suc p))) q apart))
             (kept (suc q) (suc_zero q) (a.top (suc q)) (head_at heads q).strand.count (head_at heads q).strand.first (a.strands (suc q))))
 
 -- where no version is an open write, the first isn't one
-pub unopened : (by : Writer) (nodes : List Node) (begins : Bool) (n i : ℕ) → NoOther by (versions nodes begins n i) → is_open_by by (versions nodes begins n i) ≡ false → versions nodes false n i ≡ versions nodes begins n i
+pub unopened : (by : Writer) (nodes : List Node) (begins : Bool) (n i : ℕ) → NoOther by (versions nodes begins n i) → is_open_by by (versions nodes begins n i) ≡ false →
+    versions nodes false n i ≡ versions nodes begins n i
 unopened by nodes begins zero i h e = refl
 unopened by nodes false (suc n) i h e = refl
 unopened by nodes true (suc n) i h e = absurd (let k = h.0 in let l = e in let m : has_writer by (Written (writer_in (node_at nodes i))) ≡ true = k in cc)
@@ -164,7 +183,8 @@ pub record Rewritten (heads : List Head) (nodes : List Node) (free : Strand) (p 
   pub here : versions_of (set nodes (head_at heads p).strand.first x) (head_at (set heads p (begun heads p begins)) p) ≡ version_in begins x ∷ drop 1 (versions_of nodes (head_at heads p))
   pub others : (q : ℕ) → q ≢ p → versions_of (set nodes (head_at heads p).strand.first x) (head_at (set heads p (begun heads p begins)) q) ≡ versions_of nodes (head_at heads q)
 
-pub rewritten : (heads : List Head) (nodes : List Node) (free : Strand) → AreStrands heads nodes free → (p : ℕ) (x : Node) (begins : Bool) → 0 < (head_at heads p).strand.count → x.next ≡ (node_at nodes (head_at heads p).strand.first).next → Rewritten heads nodes free p x begins
+pub rewritten : (heads : List Head) (nodes : List Node) (free : Strand) → AreStrands heads nodes free → (p : ℕ) (x : Node) (begins : Bool) → 0 < (head_at heads p).strand.count →
+    x.next ≡ (node_at nodes (head_at heads p).strand.first).next → Rewritten heads nodes free p x begins
 rewritten heads nodes free a p x begins some link =
     record {
       arena = record {
@@ -175,11 +195,17 @@ rewritten heads nodes free a p x begins some link =
         all = (let e = recount heads p (begun heads p begins) within in let all = a.all in let s = same in omega (arith, e, all, s));
         fits = (let f = a.fits in let s = same in omega (arith, s, f));
       };
-      here = ap (versions_of (set nodes (head_at heads p).strand.first x)) (head_here heads p (begun heads p begins) within) ∙ ap (λ n. versions (set nodes (head_at heads p).strand.first x) begins n (head_at heads p).strand.first) many ∙ (λ k. version_in begins (now k) ∷ versions (set nodes (head_at heads p).strand.first x) false ((head_at heads p).strand.count - 1) (now k).next)
+      here = ap (versions_of (set nodes (head_at heads p).strand.first x)) (head_here heads p (begun heads p begins) within) ∙
+          ap (λ n. versions (set nodes (head_at heads p).strand.first x) begins n (head_at heads p).strand.first) many ∙
+          (λ k. version_in begins (now k) ∷ versions (set nodes (head_at heads p).strand.first x) false ((head_at heads p).strand.count - 1) (now k).next)
           ∙ ap (λ j. version_in begins x ∷ versions (set nodes (head_at heads p).strand.first x) false ((head_at heads p).strand.count - 1) j) link
-          ∙ ap (λ vs. version_in begins x ∷ vs) (frame_versions nodes a.owner a.rank (set nodes (head_at heads p).strand.first x) false (suc p) (a.rank (head_at heads p).strand.first) ((head_at heads p).strand.count - 1) (node_at nodes (head_at heads p).strand.first).next (λ j u v w. apart j (λ e. absurd (let l : a.rank j ≡ a.rank (head_at heads p).strand.first = ap a.rank e in omega (arith, l, w)))) f.rest)
+          ∙ ap (λ vs. version_in begins x ∷ vs) (frame_versions nodes a.owner a.rank (set nodes (head_at heads p).strand.first x) false (suc p)
+          (a.rank (head_at heads p).strand.first) ((head_at heads p).strand.count - 1) (node_at nodes (head_at heads p).strand.first).next
+          (λ j u v w. apart j (λ e. absurd (let l : a.rank j ≡ a.rank (head_at heads p).strand.first = ap a.rank e in omega (arith, l, w)))) f.rest)
           ∙ sym (ap (λ n. version_in begins x ∷ drop 1 (versions nodes (head_at heads p).is_open n (head_at heads p).strand.first)) many);
-      others = λ q other. ap (versions_of (set nodes (head_at heads p).strand.first x)) (head_apart heads p q (begun heads p begins) other) ∙ frame_versions nodes a.owner a.rank (set nodes (head_at heads p).strand.first x) (head_at heads q).is_open (suc q) (a.top (suc q)) (head_at heads q).strand.count (head_at heads q).strand.first (λ j u v w. apart j (λ e. other (let k : suc q ≡ suc p = sym v ∙ ap a.owner e ∙ f.owned in let l : q ≡ p = omega (arith, k) in l))) (a.strands (suc q));
+      others = λ q other. ap (versions_of (set nodes (head_at heads p).strand.first x)) (head_apart heads p q (begun heads p begins) other) ∙
+          frame_versions nodes a.owner a.rank (set nodes (head_at heads p).strand.first x) (head_at heads q).is_open (suc q) (a.top (suc q)) (head_at heads q).strand.count
+          (head_at heads q).strand.first (λ j u v w. apart j (λ e. other (let k : suc q ≡ suc p = sym v ∙ ap a.owner e ∙ f.owned in let l : q ≡ p = omega (arith, k) in l))) (a.strands (suc q));
     }
   where
     within : p < length heads
@@ -217,15 +243,21 @@ rewritten heads nodes free a p x begins some link =
         })
         s
 
-    strands : (who : ℕ) → IsStrand (set nodes (head_at heads p).strand.first x) a.owner a.rank who (a.top who) (strand_of (set heads p (begun heads p begins)) free who).count (strand_of (set heads p (begun heads p begins)) free who).first
+    strands : (who : ℕ) → IsStrand (set nodes (head_at heads p).strand.first x) a.owner a.rank who (a.top who) (strand_of (set heads p (begun heads p begins)) free who).count
+        (strand_of (set heads p (begun heads p begins)) free who).first
     strands zero = kept 0 (a.top 0) free.count free.first (a.strands 0)
     strands (suc q) = go (cases_eq q p)
       where
-        same_strand : (q : ℕ) → (head_at (set heads p (begun heads p begins)) q).strand ≡ (head_at heads q).strand → IsStrand (set nodes (head_at heads p).strand.first x) a.owner a.rank (suc q) (a.top (suc q)) (head_at (set heads p (begun heads p begins)) q).strand.count (head_at (set heads p (begun heads p begins)) q).strand.first
-        same_strand q e = subst (λ (s : Strand). IsStrand (set nodes (head_at heads p).strand.first x) a.owner a.rank (suc q) (a.top (suc q)) s.count s.first) (sym e) (kept (suc q) (a.top (suc q)) (head_at heads q).strand.count (head_at heads q).strand.first (a.strands (suc q)))
+        same_strand : (q : ℕ) → (head_at (set heads p (begun heads p begins)) q).strand ≡ (head_at heads q).strand →
+            IsStrand (set nodes (head_at heads p).strand.first x) a.owner a.rank (suc q) (a.top (suc q)) (head_at (set heads p (begun heads p begins)) q).strand.count
+            (head_at (set heads p (begun heads p begins)) q).strand.first
+        same_strand q e = subst (λ (s : Strand). IsStrand (set nodes (head_at heads p).strand.first x) a.owner a.rank (suc q) (a.top (suc q)) s.count s.first) (sym e)
+            (kept (suc q) (a.top (suc q)) (head_at heads q).strand.count (head_at heads q).strand.first (a.strands (suc q)))
 
-        go : (q ≡ p) ⊎ (q ≡ p → ⊥) → IsStrand (set nodes (head_at heads p).strand.first x) a.owner a.rank (suc q) (a.top (suc q)) (head_at (set heads p (begun heads p begins)) q).strand.count (head_at (set heads p (begun heads p begins)) q).strand.first
-        go (inl e) = same_strand q (ap (λ r. (head_at (set heads p (begun heads p begins)) r).strand) e ∙ ap (λ (h : Head). h.strand) (head_here heads p (begun heads p begins) within) ∙ sym (ap (λ r. (head_at heads r).strand) e))
+        go : (q ≡ p) ⊎ (q ≡ p → ⊥) → IsStrand (set nodes (head_at heads p).strand.first x) a.owner a.rank (suc q) (a.top (suc q))
+            (head_at (set heads p (begun heads p begins)) q).strand.count (head_at (set heads p (begun heads p begins)) q).strand.first
+        go (inl e) = same_strand q (ap (λ r. (head_at (set heads p (begun heads p begins)) r).strand) e ∙
+            ap (λ (h : Head). h.strand) (head_here heads p (begun heads p begins) within) ∙ sym (ap (λ r. (head_at heads r).strand) e))
         go (inr other) = same_strand q (ap (λ (h : Head). h.strand) (head_apart heads p q (begun heads p begins) other))
 
 -- ---- an open write of a transaction
@@ -258,7 +290,8 @@ some_open by nodes begins zero i h = absurd (let k = h in cc)
 some_open by nodes begins (suc n) i h = omega arith
 
 -- the version that was first, with another image
-pub reimaged : (by : Writer) (image : Image) (nodes : List Node) (begins : Bool) (n i : ℕ) → IsTrue (is_open_by by (versions nodes begins n i)) → version_in begins (record (node_at nodes i) { image = image }) ∷ drop 1 (versions nodes begins n i) ≡ installed by image (versions nodes begins n i)
+pub reimaged : (by : Writer) (image : Image) (nodes : List Node) (begins : Bool) (n i : ℕ) → IsTrue (is_open_by by (versions nodes begins n i)) →
+    version_in begins (record (node_at nodes i) { image = image }) ∷ drop 1 (versions nodes begins n i) ≡ installed by image (versions nodes begins n i)
 reimaged by image nodes begins n i h =
     let o = opened by nodes begins n i h in
     let vs = drop 1 (versions nodes begins n i) in
@@ -267,7 +300,8 @@ reimaged by image nodes begins n i h =
     ∙ sym (ap (λ b. open_write by image ∷ (if b then vs else versions nodes begins n i)) h)
 
 -- and with a number
-pub renumbered : (by : Writer) (number : ℕ) (nodes : List Node) (begins : Bool) (n i : ℕ) → IsTrue (is_open_by by (versions nodes begins n i)) → version_in false (record (node_at nodes i) { number = number }) ∷ drop 1 (versions nodes begins n i) ≡ stamped by number (versions nodes begins n i)
+pub renumbered : (by : Writer) (number : ℕ) (nodes : List Node) (begins : Bool) (n i : ℕ) → IsTrue (is_open_by by (versions nodes begins n i)) →
+    version_in false (record (node_at nodes i) { number = number }) ∷ drop 1 (versions nodes begins n i) ≡ stamped by number (versions nodes begins n i)
 renumbered by number nodes begins zero i h = absurd (let k = h in cc)
 renumbered by number nodes begins (suc n) i h =
     let o = opened by nodes begins (suc n) i h in

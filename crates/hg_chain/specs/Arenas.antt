@@ -21,6 +21,10 @@ list_in a p = versions_of a.nodes.items (head_in a p)
 abbrev pub OthersStayIn : ℕ → Arena → Arena → Type 0
 OthersStayIn place old new = (q : ℕ) → q ≢ place → list_in new q ≡ list_in old q
 
+-- a node leaves its chain and is free; none is added
+abbrev pub FreesNode : Arena → Arena → Type 0
+FreesNode old new = (length new.nodes.items ≡ length old.nodes.items) × (new.free.count ≡ old.free.count + 1)
+
 -- what callers see of it
 abbrev pub places_in : Arena → Places
 places_in a = record { lists = lists_in a.heads.items a.nodes.items; free = a.free.count }

@@ -1,5 +1,5 @@
 -- The versions of all records of a bucket, by their places.
-use Rattle.std.specs.Prelude.{◌≡◌, ◌≢◌, ℕ, ◌+◌, List, [], length, sum_by, slice_index_or}
+use Rattle.std.specs.Prelude.{◌≡◌, ◌≢◌, ℕ, ◌+◌, ◌-◌, ◌==◌, ◌&&◌, Bool, if◌then◌else◌, List, [], length, sum_by, slice_index_or}
 use Rattle.hg_chain.specs.declared.version.Version.{Version}
 
 -- a list of versions for each place, newest first, and how many nodes are free
@@ -18,3 +18,8 @@ nodes_of held = held.free + sum_by length held.lists
 -- each other place has the versions that it had
 abbrev pub OthersStay : ℕ → Places → Places → Type 0
 OthersStay place old new = (q : ℕ) → q ≢ place → list_at new q ≡ list_at old q
+
+-- a version that is added takes a free node, and a node is added only where none is free
+abbrev pub TakesNode : Bool → Places → Places → Type 0
+TakesNode added old new =
+    (nodes_of new ≡ nodes_of old + (if added && (old.free == 0) then 1 else 0)) × (new.free ≡ old.free - (if added then 1 else 0))

@@ -1,5 +1,6 @@
 -- Lists of versions of one record, newest first.
-use Rattle.std.specs.Prelude.{ℕ, ◌<◌, List, [], ◌∷◌, filter, find, count_by, drop, Bool, false, not, ◌&&◌, ◌==◌, nat_le, if◌then◌else◌, IsTrue, Option, Some, None, option_map, option_and_then, IsSome, ⊤, ◌-◌}
+use Rattle.std.specs.Prelude.{ℕ, ◌<◌, List, [], ◌∷◌, filter, find, count_by, drop, Bool, false, not, ◌&&◌, ◌==◌, nat_le, if◌then◌else◌, IsTrue, Option, Some, None, option_map}
+use Rattle.std.specs.Prelude.{option_and_then, IsSome, ⊤, ◌-◌}
 use Rattle.hg_base.specs.declared.writer.Writer.{Writer}
 use Rattle.hg_base.specs.declared.image.Image.{Image}
 use Rattle.hg_base.specs.Lists.{Each}

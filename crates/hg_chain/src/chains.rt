@@ -1,22 +1,19 @@
 //! The versions of all records of a bucket.
 
-ghost use Rattle.std.specs.Prelude.{◌≡◌, ◌+◌, ◌-◌, ◌<◌, ◌≤◌, ◌^◌, ◌==◌, ◌&&◌, ℕ, [], drop, not, length, if◌then◌else◌, take, IsTrue, IsSome, IfOk, IfErr, IsOk, OnOk, OnErr, option_to_list};
+ghost use Rattle.std.specs.Prelude.{◌≡◌, ◌+◌, ◌<◌, ◌≤◌, ◌^◌, ◌==◌, ℕ, [], drop, not, length, IsTrue, IsSome, IfOk, IfErr, IsOk, OnOk, OnErr, option_to_list};
 ghost use Rattle.std.specs.Bool.{OnFalse};
 ghost use Rattle.std.specs.Option.{option_copied};
 ghost use Rattle.hg_base.specs.Lists.{Each};
 ghost use Rattle.hg_chain.specs.Sweeps.{Rises, swept, swept_away, last_number, IsClean};
 ghost use Rattle.hg_base.specs.Lifetimes.{goes, MayStay, IsGuarded};
-ghost use Rattle.hg_chain.specs.Versions.{IsChain, NoOther, IsBelow, number_in, is_open_by, image_at, image_by, installed, stamped, left_by, newest, oldest_at, others_at};
-ghost use Rattle.hg_chain.specs.Strands.{node_at};
-ghost use Rattle.hg_chain.specs.Arenas.{IsArena, IsAt, OthersStayIn, head_in, list_in};
-ghost use Rattle.hg_chain.specs.Places.{OthersStay, list_at, nodes_of};
+ghost use Rattle.hg_chain.specs.Versions.{NoOther, IsBelow, number_in, is_open_by, image_at, image_by, installed, stamped, left_by, newest, oldest_at, others_at};
+ghost use Rattle.hg_chain.specs.Places.{OthersStay, TakesNode, list_at, nodes_of};
 
 use crate::arena::Arena;
 use crate::chain::{Cut, Swept};
-use crate::cursor::Cursor;
-use crate::merge::Merge;
 use crate::node::Head;
 use crate::version::Stamp;
+use crate::walk::{remove_behind, sweep_all};
 use hg_base::{Image, NoMemory, Steps, Writer};
 use std::alloc::Global;
 use std::marker::Model;
@@ -143,13 +140,7 @@ impl Chains {
         ensures ok { OnOk result
             (list_at self.new place ≡ installed by image (list_at self.old place)) }
         ensures others { OthersStay place self.old self.new }
-
-        // A node is added only where none is free.
-        ensures nodes { IfOk result (λ added.
-            nodes_of self.new ≡
-            nodes_of self.old + (if added && (self.old.free == 0) then 1 else 0)) }
-        ensures free { IfOk result
-            (λ added. self.new.free ≡ self.old.free - (if added then 1 else 0)) }
+        ensures taken { IfOk result (λ added. TakesNode added self.old self.new) }
         ensures refused { IfErr result (λ e. e.0 ≡ image) }
         ensures same { OnErr result (self.new ≡ self.old) }
         ensures replaced { IsTrue (is_open_by by (list_at self.old place)) → IsOk result }
@@ -246,67 +237,5 @@ impl Chains {
         ensures nodes { nodes_of self.new ≡ nodes_of self.old }
     {
         sweep_all(&mut self.arena, place, base, horizon, snapshots, steps)
-    }
-}
-
-// Removes the version before which the walk stands, and so many others behind it, and hands out the first.
-fn remove_behind(arena: &mut Arena, place: u64, cursor: Cursor, others: u32) -> (u64, Image)
-    requires arena { IsArena arena.old }
-    requires at { IsAt arena.old place cursor }
-    requires others { cursor.kept + others + 1 ≡ (head_in arena.old place).strand.count }
-    ensures arena { IsArena arena.new }
-    ensures left { list_in arena.new place ≡ take cursor.kept (list_in arena.old place) }
-    ensures others { OthersStayIn place arena.old arena.new }
-    ensures nodes { length arena.new.nodes.items ≡ length arena.old.nodes.items }
-    ensures held { result ≡ (
-      (node_at arena.old.nodes.items cursor.at).number,
-      (node_at arena.old.nodes.items cursor.at).image,
-    ) }
-{
-    let mut cursor = cursor;
-    let first = arena.remove(place, &mut cursor);
-    for _other in 0..others {
-        let _ = arena.remove(place, &mut cursor);
-    }
-    first
-}
-
-// The walk passes each version that stays, and removes the others.
-fn sweep_all<L: Ledger>(
-    arena: &mut Arena,
-    place: u64,
-    base: Option<u64>,
-    horizon: u64,
-    snapshots: &[u64],
-    steps: &mut Steps<L>,
-) -> Swept
-    requires arena { IsArena arena.old }
-    requires chain { IsChain (list_in arena.old place) }
-    requires rises { Rises snapshots.now }
-    ensures arena { IsArena arena.new }
-    ensures left { list_in arena.new place ≡ swept horizon snapshots.now (list_in arena.old place) }
-    ensures others { OthersStayIn place arena.old arena.new }
-    ensures nodes { length arena.new.nodes.items ≡ length arena.old.nodes.items }
-    ensures gone { result.gone ≡ swept_away horizon snapshots.now (list_in arena.old place) }
-    ensures base_gone { result.base_gone ≡
-        goes horizon snapshots.now (last_number (list_in arena.old place)) base }
-    ensures cost { steps.new ≤
-        steps.old + length (list_in arena.old place) + length (option_to_list base) +
-        length snapshots.now }
-{
-    let all = arena.head(place).strand.count;
-    let mut merge = Merge {
-        left: snapshots.len(),
-        successor: None,
-    };
-    let mut cursor = arena.start(place);
-    for _turn in 0..all {
-        let number = arena.number(arena.head(place), cursor);
-        let goes = merge.settle(horizon, snapshots, number, steps);
-        arena.remove_or_pass(place, &mut cursor, goes);
-    }
-    Swept {
-        gone: u64::from(all - cursor.kept),
-        base_gone: base.is_some() && merge.settle(horizon, snapshots, base, steps),
     }
 }

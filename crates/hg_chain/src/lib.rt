@@ -58,7 +58,10 @@ mod chains;
 mod cursor;
 mod merge;
 mod node;
+mod removal;
 mod version;
+mod walk;
+mod write;
 
 pub use chain::{Chain, Cut, Swept};
 pub use chains::Chains;

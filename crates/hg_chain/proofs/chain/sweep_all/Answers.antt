@@ -24,7 +24,8 @@ loop-rest-preserved-then-not-settle g c =
     let stays : goes c.args.horizon c.args.snapshots.now up (number_in c.in-Some.version.stamp) ≡ false =
     subst (λ n. goes c.args.horizon c.args.snapshots.now up n ≡ false) c.number.ensures (sym c.settle.ensures.goes ∙ c.if-not-settle.true) in
     let next = turn_stays c.args.horizon c.args.snapshots.now c.args.versions.now.items c.in-Some.version c.pop_front.new.self.items c.loop-rest.rest up some before stays in
-    let follows = subst (Follows up) (sym c.number.ensures) (follows c.args.horizon c.args.snapshots.now c.args.versions.now.items c.in-Some.version c.pop_front.new.self.items c.loop-rest.rest up some before) in
+    let follows = subst (Follows up) (sym c.number.ensures) (follows c.args.horizon c.args.snapshots.now c.args.versions.now.items c.in-Some.version c.pop_front.new.self.items
+    c.loop-rest.rest up some before) in
     record {
       turned = rw (c.push_back_reserved.ensures.items, c.settle.ensures.successor, c.number.ensures) next;
       passed = rw c.settle.ensures.successor (c.settle.ensures.passed follows);
@@ -34,15 +35,18 @@ loop-rest-preserved-then-not-settle g c =
 
 pub overflow_sub-result : goal.overflow_sub-result
 overflow_sub-result g c =
-    let e = ended_length c.args.horizon c.args.snapshots.now c.args.versions.now.items c.loop-rest.versions.items c.loop-rest.rest c.loop-rest.merge.successor c.loop-rest-test.false c.loop-rest.invariant.turned in
+    let e = ended_length c.args.horizon c.args.snapshots.now c.args.versions.now.items c.loop-rest.versions.items c.loop-rest.rest c.loop-rest.merge.successor
+    c.loop-rest-test.false c.loop-rest.invariant.turned in
     omega (arith, e, c.len.ensures, c.len-all.ensures)
 
 pub returns-then-is_some-clause-gone : goal.returns-then-is_some-clause-gone
 returns-then-is_some-clause-gone g c =
-    let e = ended_length c.args.horizon c.args.snapshots.now c.args.versions.now.items c.loop-rest.versions.items c.loop-rest.rest c.loop-rest.merge.successor c.loop-rest-test.false c.loop-rest.invariant.turned in
+    let e = ended_length c.args.horizon c.args.snapshots.now c.args.versions.now.items c.loop-rest.versions.items c.loop-rest.rest c.loop-rest.merge.successor
+    c.loop-rest-test.false c.loop-rest.invariant.turned in
     omega (arith, e, c.len.ensures, c.len-all.ensures)
 
 pub returns-else-is_some-clause-gone : goal.returns-else-is_some-clause-gone
 returns-else-is_some-clause-gone g c =
-    let e = ended_length c.args.horizon c.args.snapshots.now c.args.versions.now.items c.loop-rest.versions.items c.loop-rest.rest c.loop-rest.merge.successor c.loop-rest-test.false c.loop-rest.invariant.turned in
+    let e = ended_length c.args.horizon c.args.snapshots.now c.args.versions.now.items c.loop-rest.versions.items c.loop-rest.rest c.loop-rest.merge.successor
+    c.loop-rest-test.false c.loop-rest.invariant.turned in
     omega (arith, e, c.len.ensures, c.len-all.ensures)

@@ -25,8 +25,10 @@ took c =
 
 all : (c : goal.After-set_head) → Pushed c.args.self.now.heads.items c.args.self.now.nodes.items c.args.place (node c) c.take-at.result c.take-at.new.self.nodes.items c.take-at.new.self.free
 all c =
-    pushed c.args.self.now.heads.items c.args.self.now.nodes.items c.args.self.now.free c.requires.arena c.args.place (node c) c.take-at.result c.take-at.new.self.nodes.items c.take-at.new.self.free c.requires.room.head (ap (λ (h : Head). h.strand.first) c.head-first.ensures) (took c)
-    (loose c.args.self.now.heads.items c.args.self.now.nodes.items c.args.self.now.free c.requires.arena c.take-at.result c.take-at.new.self.nodes.items c.take-at.new.self.free c.take-at.ensures.grown c.take-at.ensures.reused (λ e. let k = c.requires.room.node e in let l = k.1 in omega (arith, l)))
+    pushed c.args.self.now.heads.items c.args.self.now.nodes.items c.args.self.now.free c.requires.arena c.args.place
+    (node c) c.take-at.result c.take-at.new.self.nodes.items c.take-at.new.self.free c.requires.room.head (ap (λ (h : Head). h.strand.first) c.head-first.ensures) (took c)
+    (loose c.args.self.now.heads.items c.args.self.now.nodes.items c.args.self.now.free c.requires.arena c.take-at.result c.take-at.new.self.nodes.items c.take-at.new.self.free
+    c.take-at.ensures.grown c.take-at.ensures.reused (λ e. let k = c.requires.room.node e in let l = k.1 in omega (arith, l)))
 
 new_heads : (c : goal.After-set_head) → c.set_head.new.self.heads.items ≡ set c.args.self.now.heads.items c.args.place (with_front c.args.self.now.heads.items c.args.place c.take-at.result)
 new_heads c = cc
@@ -38,7 +40,8 @@ pub returns-clause-here : goal.returns-clause-here
 returns-clause-here c =
     let k = all c in
     let h = head_at c.args.self.now.heads.items c.args.place in
-    rw (new_heads c, c.set_head.ensures.nodes) (k.here ∙ ap (λ vs. open_write c.args.by c.args.image ∷ vs) (unopened c.args.by c.args.self.now.nodes.items h.is_open h.strand.count h.strand.first c.requires.no_other c.requires.not_open))
+    rw (new_heads c, c.set_head.ensures.nodes) (k.here ∙ ap (λ vs. open_write c.args.by c.args.image ∷ vs)
+    (unopened c.args.by c.args.self.now.nodes.items h.is_open h.strand.count h.strand.first c.requires.no_other c.requires.not_open))
 
 pub returns-clause-others : goal.returns-clause-others
 returns-clause-others c = λ q apart. let k = all c in rw (new_heads c, c.set_head.ensures.nodes) (k.others q apart)

@@ -12,7 +12,8 @@ use Rattle.hg_chain.proofs.Covers.{Covered, covered, laid, loosened}
 use Rattle.hg_chain.proofs.arena.Arena.cover.Goals as goal
 
 pub replace-covered-requires : goal.replace-covered-requires
-replace-covered-requires c = let k = first_within c.args.self.now.heads.items c.args.self.now.nodes.items c.args.self.now.free c.requires.arena c.args.place c.requires.some in let e = ap (λ (h : Head). h.strand.first) c.head-first.ensures in omega (arith, e, k)
+replace-covered-requires c = let k = first_within c.args.self.now.heads.items c.args.self.now.nodes.items c.args.self.now.free c.requires.arena c.args.place c.requires.some in
+    let e = ap (λ (h : Head). h.strand.first) c.head-first.ensures in omega (arith, e, k)
 
 pub take-at-requires-clause-free : goal.take-at-requires-clause-free
 take-at-requires-clause-free c =
@@ -46,9 +47,11 @@ count c = (head_at c.args.self.now.heads.items c.args.place).strand.count - 1
 begins : (c : goal.After-set_head) → First c.args.self.now.heads.items c.args.self.now.nodes.items c.args.self.now.free c.requires.arena c.args.place c.head-first.result.strand.first (count c)
 begins c =
     let some = c.requires.some in
-    subst (λ (h : Head). First c.args.self.now.heads.items c.args.self.now.nodes.items c.args.self.now.free c.requires.arena c.args.place h.strand.first (count c)) (sym c.head-first.ensures) (first c.args.self.now.heads.items c.args.self.now.nodes.items c.args.self.now.free c.requires.arena c.args.place (count c) (omega (arith, some)))
+    subst (λ (h : Head). First c.args.self.now.heads.items c.args.self.now.nodes.items c.args.self.now.free c.requires.arena c.args.place h.strand.first (count c))
+    (sym c.head-first.ensures) (first c.args.self.now.heads.items c.args.self.now.nodes.items c.args.self.now.free c.requires.arena c.args.place (count c) (omega (arith, some)))
 
-took : (c : goal.After-set_head) → Took (set c.args.self.now.nodes.items c.head-first.result.strand.first (node c)) c.args.self.now.free (node_at c.args.self.now.nodes.items c.head-first.result.strand.first) c.take-at.result c.take-at.new.self.nodes.items c.take-at.new.self.free
+took : (c : goal.After-set_head) → Took (set c.args.self.now.nodes.items c.head-first.result.strand.first (node c)) c.args.self.now.free
+    (node_at c.args.self.now.nodes.items c.head-first.result.strand.first) c.take-at.result c.take-at.new.self.nodes.items c.take-at.new.self.free
 took c =
     let told : Took c.replace-covered.new.self.nodes.items c.replace-covered.new.self.free c.replace-covered.result c.take-at.result c.take-at.new.self.nodes.items c.take-at.new.self.free =
     record {
@@ -59,17 +62,25 @@ took c =
       reused = c.take-at.ensures.reused;
     } in
     let e = c.replace-covered.ensures in
-    subst (λ (ns : List Node). Took ns c.args.self.now.free (node_at c.args.self.now.nodes.items c.head-first.result.strand.first) c.take-at.result c.take-at.new.self.nodes.items c.take-at.new.self.free) e.nodes
-    (subst (λ (s : Strand). Took c.replace-covered.new.self.nodes.items s (node_at c.args.self.now.nodes.items c.head-first.result.strand.first) c.take-at.result c.take-at.new.self.nodes.items c.take-at.new.self.free) e.free
+    subst (λ (ns : List Node). Took ns c.args.self.now.free (node_at c.args.self.now.nodes.items c.head-first.result.strand.first) c.take-at.result c.take-at.new.self.nodes.items
+    c.take-at.new.self.free) e.nodes
+    (subst (λ (s : Strand). Took c.replace-covered.new.self.nodes.items s (node_at c.args.self.now.nodes.items c.head-first.result.strand.first) c.take-at.result
+    c.take-at.new.self.nodes.items c.take-at.new.self.free) e.free
     (subst (λ (n : Node). Took c.replace-covered.new.self.nodes.items c.replace-covered.new.self.free n c.take-at.result c.take-at.new.self.nodes.items c.take-at.new.self.free) e.held told))
 
-all : (c : goal.After-set_head) → Covered c.args.self.now.heads.items c.args.self.now.nodes.items c.args.place c.head-first.result.strand.first (node c) (relinked c.take-at.new.self.nodes.items c.head-first.result.strand.first c.take-at.result) c.take-at.new.self.free
+all : (c : goal.After-set_head) → Covered c.args.self.now.heads.items c.args.self.now.nodes.items c.args.place c.head-first.result.strand.first (node c)
+    (relinked c.take-at.new.self.nodes.items c.head-first.result.strand.first c.take-at.result) c.take-at.new.self.free
 all c =
-    let l = loosened c.args.self.now.heads.items c.args.self.now.nodes.items c.args.self.now.free c.requires.arena c.args.place c.head-first.result.strand.first (count c) (node c) c.take-at.result c.take-at.new.self.nodes.items c.take-at.new.self.free (begins c) (took c) (λ e. let k = c.requires.room.node e in let l = k.1 in omega (arith, l)) in
-    let t = laid c.args.self.now.heads.items c.args.self.now.nodes.items c.args.self.now.free c.requires.arena c.args.place c.head-first.result.strand.first (count c) (node c) c.take-at.result c.take-at.new.self.nodes.items c.take-at.new.self.free (begins c) (took c) l in
-    covered c.args.self.now.heads.items c.args.self.now.nodes.items c.args.self.now.free c.requires.arena c.args.place c.head-first.result.strand.first (count c) (node c) c.take-at.result (relinked c.take-at.new.self.nodes.items c.head-first.result.strand.first c.take-at.result) c.take-at.new.self.free (let some = c.requires.some in omega (arith, some)) (begins c) t l
+    let l = loosened c.args.self.now.heads.items c.args.self.now.nodes.items c.args.self.now.free c.requires.arena c.args.place c.head-first.result.strand.first (count c)
+    (node c) c.take-at.result c.take-at.new.self.nodes.items c.take-at.new.self.free (begins c) (took c) (λ e. let k = c.requires.room.node e in let l = k.1 in omega (arith, l)) in
+    let t = laid c.args.self.now.heads.items c.args.self.now.nodes.items c.args.self.now.free c.requires.arena c.args.place c.head-first.result.strand.first (count c)
+    (node c) c.take-at.result c.take-at.new.self.nodes.items c.take-at.new.self.free (begins c) (took c) l in
+    covered c.args.self.now.heads.items c.args.self.now.nodes.items c.args.self.now.free c.requires.arena c.args.place c.head-first.result.strand.first (count c)
+    (node c) c.take-at.result (relinked c.take-at.new.self.nodes.items c.head-first.result.strand.first c.take-at.result) c.take-at.new.self.free (let some = c.requires.some in
+    omega (arith, some)) (begins c) t l
 
-new_heads : (c : goal.After-set_head) → c.set_head.new.self.heads.items ≡ set c.args.self.now.heads.items c.args.place (with_front c.args.self.now.heads.items c.args.place c.head-first.result.strand.first)
+new_heads : (c : goal.After-set_head) → c.set_head.new.self.heads.items ≡ set c.args.self.now.heads.items c.args.place
+    (with_front c.args.self.now.heads.items c.args.place c.head-first.result.strand.first)
 new_heads c = cc
 
 new_nodes : (c : goal.After-set_head) → c.set_head.new.self.nodes.items ≡ relinked c.take-at.new.self.nodes.items c.head-first.result.strand.first c.take-at.result

@@ -6,7 +6,8 @@ use Rattle.hg_chain.proofs.Walks.{next_at, at_there, newer_more, both, not_both,
 use Rattle.hg_chain.proofs.arena.Arena.passed.Goals as goal
 
 pub is_newer-requires : goal.is_newer-requires
-is_newer-requires c = λ less. at_there c.args.self.now c.args.place c.loop-head.cursor c.requires.arena c.loop-head.invariant.at (let e = ap (λ (h : Head). h.strand.count) c.head-head.ensures in omega (arith, e, less))
+is_newer-requires c = λ less. at_there c.args.self.now c.args.place c.loop-head.cursor c.requires.arena c.loop-head.invariant.at
+    (let e = ap (λ (h : Head). h.strand.count) c.head-head.ensures in omega (arith, e, less))
 
 pub pass-cursor-requires-clause-there : goal.pass-cursor-requires-clause-there
 pass-cursor-requires-clause-there c =
@@ -23,10 +24,14 @@ loop-head-preserved c =
     (record {
       at = next_at c.args.self.now c.args.place c.loop-head.cursor c.loop-head.invariant.at;
       within = omega (arith, less);
-      newer = newer_more c.args.self.now c.args.place c.args.bound c.loop-head.cursor c.loop-head.invariant.at now (ap (λ (h : Head). at_most c.args.bound h c.loop-head.cursor.kept (node_at c.args.self.now.nodes.items c.loop-head.cursor.at)) (sym c.head-head.ensures) ∙ b.1) c.loop-head.invariant.newer;
+      newer = newer_more c.args.self.now c.args.place c.args.bound c.loop-head.cursor c.loop-head.invariant.at now
+          (ap (λ (h : Head). at_most c.args.bound h c.loop-head.cursor.kept (node_at c.args.self.now.nodes.items c.loop-head.cursor.at)) (sym c.head-head.ensures) ∙ b.1) c.loop-head.invariant.newer;
     })
 
 pub returns-clause-kept : goal.returns-clause-kept
 returns-clause-kept c =
-    passed_many c.args.self.now c.args.place c.args.bound c.loop-head.cursor c.requires.chain c.loop-head.invariant.at (let e = ap (λ (h : Head). h.strand.count) c.head-head.ensures in let w = c.loop-head.invariant.within in omega (arith, e, w)) c.loop-head.invariant.newer
-    (λ less. ap (λ (h : Head). at_most c.args.bound h c.loop-head.cursor.kept (node_at c.args.self.now.nodes.items c.loop-head.cursor.at)) (sym c.head-head.ensures) ∙ not_both c.loop-head.cursor.kept c.head-head.result.strand.count _ (sym c.is_newer.ensures ∙ c.loop-head-test.false) (let e = ap (λ (h : Head). h.strand.count) c.head-head.ensures in omega (arith, e, less)))
+    passed_many c.args.self.now c.args.place c.args.bound c.loop-head.cursor c.requires.chain c.loop-head.invariant.at
+    (let e = ap (λ (h : Head). h.strand.count) c.head-head.ensures in let w = c.loop-head.invariant.within in omega (arith, e, w)) c.loop-head.invariant.newer
+    (λ less. ap (λ (h : Head). at_most c.args.bound h c.loop-head.cursor.kept (node_at c.args.self.now.nodes.items c.loop-head.cursor.at)) (sym c.head-head.ensures) ∙
+    not_both c.loop-head.cursor.kept c.head-head.result.strand.count _ (sym c.is_newer.ensures ∙ c.loop-head-test.false)
+    (let e = ap (λ (h : Head). h.strand.count) c.head-head.ensures in omega (arith, e, less)))

@@ -8,22 +8,27 @@ pub next-requires : goal.next-requires
 next-requires c = let k = first_within c.args.self.now.heads.items c.args.self.now.nodes.items c.args.self.now.free c.requires.arena c.args.place c.requires.some in rw c.head.ensures k
 
 pub give-requires-clause-there : goal.give-requires-clause-there
-give-requires-clause-there c = let k = first_within c.args.self.now.heads.items c.args.self.now.nodes.items c.args.self.now.free c.requires.arena c.args.place c.requires.some in rw (c.set_head.ensures.nodes, c.head.ensures) k
+give-requires-clause-there c = let k = first_within c.args.self.now.heads.items c.args.self.now.nodes.items c.args.self.now.free c.requires.arena c.args.place c.requires.some in
+    rw (c.set_head.ensures.nodes, c.head.ensures) k
 
-new_heads : (c : goal.After-give) → c.give.new.self.heads.items ≡ set c.args.self.now.heads.items c.args.place (behind_first c.args.self.now.heads.items c.args.self.now.nodes.items c.args.place ((head_at c.args.self.now.heads.items c.args.place).strand.count - 1))
+new_heads : (c : goal.After-give) → c.give.new.self.heads.items ≡ set c.args.self.now.heads.items c.args.place
+    (behind_first c.args.self.now.heads.items c.args.self.now.nodes.items c.args.place ((head_at c.args.self.now.heads.items c.args.place).strand.count - 1))
 new_heads c = cc
 
 new_nodes : (c : goal.After-give) → c.give.new.self.nodes.items ≡ without c.args.self.now.nodes.items (head_at c.args.self.now.heads.items c.args.place).strand.first c.args.self.now.free.first
 new_nodes c = cc
 
-new_free : (c : goal.After-give) → let k : Strand = record { first = (head_at c.args.self.now.heads.items c.args.place).strand.first; count = c.args.self.now.free.count + 1 } in c.give.new.self.free ≡ k
+new_free : (c : goal.After-give) → let k : Strand = record { first = (head_at c.args.self.now.heads.items c.args.place).strand.first; count = c.args.self.now.free.count + 1 } in
+    c.give.new.self.free ≡ k
 new_free c = cc
 
 pub returns-clause-arena : goal.returns-clause-arena
-returns-clause-arena c = rw (new_heads c, new_nodes c, new_free c) (popped_arena c.args.self.now.heads.items c.args.self.now.nodes.items c.args.self.now.free c.requires.arena c.args.place c.requires.some)
+returns-clause-arena c = rw (new_heads c, new_nodes c, new_free c)
+    (popped_arena c.args.self.now.heads.items c.args.self.now.nodes.items c.args.self.now.free c.requires.arena c.args.place c.requires.some)
 
 pub returns-clause-here : goal.returns-clause-here
 returns-clause-here c = rw (new_heads c, new_nodes c) (popped_here c.args.self.now.heads.items c.args.self.now.nodes.items c.args.self.now.free c.requires.arena c.args.place c.requires.some)
 
 pub returns-clause-others : goal.returns-clause-others
-returns-clause-others c = λ q apart. rw (new_heads c, new_nodes c) (popped_others c.args.self.now.heads.items c.args.self.now.nodes.items c.args.self.now.free c.requires.arena c.args.place c.requires.some q apart)
+returns-clause-others c = λ q apart. rw (new_heads c, new_nodes c)
+    (popped_others c.args.self.now.heads.items c.args.self.now.nodes.items c.args.self.now.free c.requires.arena c.args.place c.requires.some q apart)

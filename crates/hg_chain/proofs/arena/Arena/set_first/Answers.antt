@@ -7,13 +7,21 @@ use Rattle.hg_chain.proofs.Writes.{Rewritten, rewritten, begun}
 use Rattle.hg_chain.proofs.arena.Arena.set_first.Goals as goal
 
 pub next-next-requires : goal.next-next-requires
-next-next-requires c = let k = first_within c.args.self.now.heads.items c.args.self.now.nodes.items c.args.self.now.free c.requires.arena c.args.place c.requires.some in let e = ap (λ (h : Head). h.strand.first) c.head.ensures in omega (arith, e, k)
+next-next-requires c = let k = first_within c.args.self.now.heads.items c.args.self.now.nodes.items c.args.self.now.free c.requires.arena c.args.place c.requires.some in
+    let e = ap (λ (h : Head). h.strand.first) c.head.ensures in omega (arith, e, k)
 
 pub index_mut-requires : goal.index_mut-requires
-index_mut-requires c = let k = first_within c.args.self.now.heads.items c.args.self.now.nodes.items c.args.self.now.free c.requires.arena c.args.place c.requires.some in let e = ap (λ (h : Head). h.strand.first) c.head.ensures in omega (arith, e, k)
+index_mut-requires c = let k = first_within c.args.self.now.heads.items c.args.self.now.nodes.items c.args.self.now.free c.requires.arena c.args.place c.requires.some in
+    let e = ap (λ (h : Head). h.strand.first) c.head.ensures in omega (arith, e, k)
 
 abbrev node : goal.After-set_head → Node
-node c = record { next = (node_at c.args.self.now.nodes.items (head_at c.args.self.now.heads.items c.args.place).strand.first).next; session = c.args.by.session; transaction = c.args.by.transaction; number = c.args.number; image = c.args.image }
+node c = record {
+  next = (node_at c.args.self.now.nodes.items (head_at c.args.self.now.heads.items c.args.place).strand.first).next;
+  session = c.args.by.session;
+  transaction = c.args.by.transaction;
+  number = c.args.number;
+  image = c.args.image;
+}
 
 all : (c : goal.After-set_head) → Rewritten c.args.self.now.heads.items c.args.self.now.nodes.items c.args.self.now.free c.args.place (node c) false
 all c = rewritten c.args.self.now.heads.items c.args.self.now.nodes.items c.args.self.now.free c.requires.arena c.args.place (node c) false c.requires.some refl

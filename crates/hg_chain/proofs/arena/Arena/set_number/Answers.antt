@@ -8,7 +8,8 @@ use Rattle.hg_chain.proofs.Writes.{Rewritten, rewritten, renumbered, begun}
 use Rattle.hg_chain.proofs.arena.Arena.set_number.Goals as goal
 
 pub index_mut-requires : goal.index_mut-requires
-index_mut-requires c = let k = first_within c.args.self.now.heads.items c.args.self.now.nodes.items c.args.self.now.free c.requires.arena c.args.place c.requires.some in let e = ap (λ (h : Head). h.strand.first) c.head.ensures in omega (arith, e, k)
+index_mut-requires c = let k = first_within c.args.self.now.heads.items c.args.self.now.nodes.items c.args.self.now.free c.requires.arena c.args.place c.requires.some in
+    let e = ap (λ (h : Head). h.strand.first) c.head.ensures in omega (arith, e, k)
 
 abbrev node : goal.After-set_head → Node
 node c = record (node_at c.args.self.now.nodes.items (head_at c.args.self.now.heads.items c.args.place).strand.first) { number = c.args.number }

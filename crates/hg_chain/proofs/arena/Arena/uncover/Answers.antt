@@ -10,13 +10,15 @@ use Rattle.hg_chain.proofs.arena.Arena.uncover.Goals as goal
 pub pass-second-requires-clause-there : goal.pass-second-requires-clause-there
 pass-second-requires-clause-there c =
     let a = c.args.self.now in
-    walk_within a.heads.items a.nodes.items a.free c.requires.arena c.args.place c.start-first.result.kept c.start-first.result.at (let some = c.requires.some in let k = c.start-first.ensures.kept in omega (arith, some, k)) c.start-first.ensures.at.at
+    walk_within a.heads.items a.nodes.items a.free c.requires.arena c.args.place c.start-first.result.kept c.start-first.result.at (let some = c.requires.some in
+    let k = c.start-first.ensures.kept in omega (arith, some, k)) c.start-first.ensures.at.at
 
 pub writer-by-requires : goal.writer-by-requires
 writer-by-requires c =
     let a = c.args.self.now in
     let f = (head_in a c.args.place).strand.first in
-    walk_within a.heads.items a.nodes.items a.free c.requires.arena c.args.place 1 c.pass-second.result.at c.requires.some (sym (behind_one a.nodes.items f c.start-first.result c.pass-second.result c.start-first.ensures.at.at c.start-first.ensures.kept c.pass-second.ensures))
+    walk_within a.heads.items a.nodes.items a.free c.requires.arena c.args.place 1 c.pass-second.result.at c.requires.some
+    (sym (behind_one a.nodes.items f c.start-first.result c.pass-second.result c.start-first.ensures.at.at c.start-first.ensures.kept c.pass-second.ensures))
 
 pub returns-clause-here : goal.returns-clause-here
 returns-clause-here c =

@@ -6,23 +6,27 @@ use Rattle.hg_chain.proofs.arena.Arena.unlink.Goals as goal
 
 pub next-next-requires : goal.next-next-requires
 next-next-requires c =
-    let k = unlink c.args.self.now.heads.items c.args.self.now.nodes.items c.args.self.now.free c.requires.arena c.args.place c.args.cursor.kept c.args.cursor.last c.args.cursor.at c.requires.behind c.requires.some c.requires.at.at c.requires.at.last in
+    let k = unlink c.args.self.now.heads.items c.args.self.now.nodes.items c.args.self.now.free c.requires.arena c.args.place c.args.cursor.kept c.args.cursor.last c.args.cursor.at
+    c.requires.behind c.requires.some c.requires.at.at c.requires.at.last in
     rw c.set_head.ensures.nodes k.at_within
 
 pub set_next-requires : goal.set_next-requires
 set_next-requires c =
-    let k = unlink c.args.self.now.heads.items c.args.self.now.nodes.items c.args.self.now.free c.requires.arena c.args.place c.args.cursor.kept c.args.cursor.last c.args.cursor.at c.requires.behind c.requires.some c.requires.at.at c.requires.at.last in
+    let k = unlink c.args.self.now.heads.items c.args.self.now.nodes.items c.args.self.now.free c.requires.arena c.args.place c.args.cursor.kept c.args.cursor.last c.args.cursor.at
+    c.requires.behind c.requires.some c.requires.at.at c.requires.at.last in
     rw c.set_head.ensures.nodes k.last_within
 
 pub give-requires-clause-there : goal.give-requires-clause-there
 give-requires-clause-there c =
-    let k = unlink c.args.self.now.heads.items c.args.self.now.nodes.items c.args.self.now.free c.requires.arena c.args.place c.args.cursor.kept c.args.cursor.last c.args.cursor.at c.requires.behind c.requires.some c.requires.at.at c.requires.at.last in
+    let k = unlink c.args.self.now.heads.items c.args.self.now.nodes.items c.args.self.now.free c.requires.arena c.args.place c.args.cursor.kept c.args.cursor.last c.args.cursor.at
+    c.requires.behind c.requires.some c.requires.at.at c.requires.at.last in
     let within = k.at_within in
     let e : length c.set_next.new.self.nodes.items ≡ length c.args.self.now.nodes.items = ap length c.set_next.ensures.nodes ∙ length-set _ _ _ ∙ ap length c.set_head.ensures.nodes in
     omega (arith, e, within)
 
 all : (c : goal.After-give) → Unlinked c.args.self.now.heads.items c.args.self.now.nodes.items c.args.self.now.free c.args.place c.args.cursor.kept c.args.cursor.last c.args.cursor.at
-all c = unlink c.args.self.now.heads.items c.args.self.now.nodes.items c.args.self.now.free c.requires.arena c.args.place c.args.cursor.kept c.args.cursor.last c.args.cursor.at c.requires.behind c.requires.some c.requires.at.at c.requires.at.last
+all c = unlink c.args.self.now.heads.items c.args.self.now.nodes.items c.args.self.now.free c.requires.arena c.args.place c.args.cursor.kept c.args.cursor.last c.args.cursor.at
+    c.requires.behind c.requires.some c.requires.at.at c.requires.at.last
 
 new_heads : (c : goal.After-give) → c.give.new.self.heads.items ≡ set c.args.self.now.heads.items c.args.place (one_less c.args.self.now.heads.items c.args.place)
 new_heads c = cc

@@ -10,7 +10,8 @@ pub invariant_of-self : goal.invariant_of-self
 invariant_of-self g c = subst IsChain (sym c.sweep_all.ensures.left) (swept_is_chain c.args.horizon c.args.snapshots.now None c.self.inside.versions.items c.self.invariant)
 
 pub returns-clause-clean : goal.returns-clause-clean
-returns-clause-clean g c = subst (IsClean c.args.horizon c.args.snapshots.now) (sym c.sweep_all.ensures.left) (all_clean c.args.horizon c.args.snapshots.now c.self.inside.versions.items c.self.invariant)
+returns-clause-clean g c = subst (IsClean c.args.horizon c.args.snapshots.now) (sym c.sweep_all.ensures.left)
+    (all_clean c.args.horizon c.args.snapshots.now c.self.inside.versions.items c.self.invariant)
 
 pub returns-clause-base_clean : goal.returns-clause-base_clean
 returns-clause-base_clean g c =

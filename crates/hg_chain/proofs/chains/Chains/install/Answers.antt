@@ -10,26 +10,31 @@ use Rattle.hg_chain.proofs.chains.Chains.install.Goals as goal
 -- the open write is replaced
 
 replaced : (c : goal.After-set_image) → list_in c.set_image.new.self c.args.place ≡ installed c.args.by c.args.image (list_in c.self.inside.arena c.args.place)
-replaced c = c.set_image.ensures.here c.args.by (ap (is_open_by c.args.by) (sym (list_was c.self.inside.arena c.args.self.now c.args.place c.self.view_is)) ∙ sym c.is_open_by.ensures ∙ c.if-is_open_by.true)
+replaced c = c.set_image.ensures.here c.args.by (ap (is_open_by c.args.by) (sym (list_was c.self.inside.arena c.args.self.now c.args.place c.self.view_is)) ∙
+    sym c.is_open_by.ensures ∙ c.if-is_open_by.true)
 
 pub invariant_of-self : goal.invariant_of-self
 invariant_of-self c =
     let a = c.self.inside.arena in
     let others = subst (NoOther c.args.by) (list_was a c.args.self.now c.args.place c.self.view_is) c.requires.own in
-    holds_after a c.set_image.new.self c.args.place c.self.invariant c.set_image.ensures.arena (subst IsChain (sym (replaced c)) (chain_installed c.args.by c.args.image _ (c.self.invariant.chains c.args.place) others)) c.set_image.ensures.others
+    holds_after a c.set_image.new.self c.args.place c.self.invariant c.set_image.ensures.arena
+    (subst IsChain (sym (replaced c)) (chain_installed c.args.by c.args.image _ (c.self.invariant.chains c.args.place) others)) c.set_image.ensures.others
 
 pub returns-then-is_open_by-clause-ok : goal.returns-then-is_open_by-clause-ok
-returns-then-is_open_by-clause-ok c = list_seen c.set_image.new.self c.args.place ∙ replaced c ∙ sym (ap (installed c.args.by c.args.image) (list_was c.self.inside.arena c.args.self.now c.args.place c.self.view_is))
+returns-then-is_open_by-clause-ok c = list_seen c.set_image.new.self c.args.place ∙ replaced c ∙
+    sym (ap (installed c.args.by c.args.image) (list_was c.self.inside.arena c.args.self.now c.args.place c.self.view_is))
 
 pub returns-then-is_open_by-clause-others : goal.returns-then-is_open_by-clause-others
 returns-then-is_open_by-clause-others c = others_seen c.self.inside.arena c.set_image.new.self c.args.self.now c.args.place c.self.view_is c.set_image.ensures.others
 
-pub returns-then-is_open_by-clause-nodes : goal.returns-then-is_open_by-clause-nodes
-returns-then-is_open_by-clause-nodes c =
+pub returns-then-is_open_by-clause-taken : goal.returns-then-is_open_by-clause-taken
+returns-then-is_open_by-clause-taken c =
     let n = nodes_seen c.set_image.new.self c.set_image.ensures.arena in
     let s = c.set_image.ensures.nodes in
     let w = nodes_were c.self.inside.arena c.args.self.now c.self.view_is c.self.invariant.strands in
-    omega (arith, n, s, w)
+    let free = ap (λ (s : Strand). s.count) c.set_image.ensures.free in
+    let was = ap (λ (p : Places). p.free) c.self.view_is in
+    (omega (arith, n, s, w), omega (arith, free, was))
 
 -- one more stands in front
 
@@ -42,18 +47,24 @@ invariant_of-self-in-Ok c =
     let was = list_was a c.args.self.now c.args.place c.self.view_is in
     let others = subst (NoOther c.args.by) was c.requires.own in
     let closed : is_open_by c.args.by (list_in a c.args.place) ≡ false = ap (is_open_by c.args.by) (sym was) ∙ sym c.is_open_by.ensures ∙ c.if-is_open_by.false in
-    let front : installed c.args.by c.args.image (list_in a c.args.place) ≡ open_write c.args.by c.args.image ∷ list_in a c.args.place = ap (λ b. open_write c.args.by c.args.image ∷ (if b then drop 1 (list_in a c.args.place) else list_in a c.args.place)) closed in
-    let now : list_in c.push.new.self c.args.place ≡ installed c.args.by c.args.image (list_in a c.args.place) = c.push.ensures.here ∙ ap (λ vs. open_write c.args.by c.args.image ∷ vs) (c.in-Ok.ensures.lists c.args.place) ∙ sym front in
-    holds_after a c.push.new.self c.args.place c.self.invariant c.push.ensures.arena (subst IsChain (sym now) (chain_installed c.args.by c.args.image _ (c.self.invariant.chains c.args.place) others)) (λ q apart. c.push.ensures.others q apart ∙ c.in-Ok.ensures.lists q)
+    let front : installed c.args.by c.args.image (list_in a c.args.place) ≡ open_write c.args.by c.args.image ∷ list_in a c.args.place = ap
+    (λ b. open_write c.args.by c.args.image ∷ (if b then drop 1 (list_in a c.args.place) else list_in a c.args.place)) closed in
+    let now : list_in c.push.new.self c.args.place ≡ installed c.args.by c.args.image (list_in a c.args.place) = c.push.ensures.here ∙
+    ap (λ vs. open_write c.args.by c.args.image ∷ vs) (c.in-Ok.ensures.lists c.args.place) ∙ sym front in
+    holds_after a c.push.new.self c.args.place c.self.invariant c.push.ensures.arena
+    (subst IsChain (sym now) (chain_installed c.args.by c.args.image _ (c.self.invariant.chains c.args.place) others)) (λ q apart. c.push.ensures.others q apart ∙ c.in-Ok.ensures.lists q)
 
 pub returns-in-Ok-clause-others : goal.returns-in-Ok-clause-others
 returns-in-Ok-clause-others c = others_seen c.self.inside.arena c.push.new.self c.args.self.now c.args.place c.self.view_is (λ q apart. c.push.ensures.others q apart ∙ c.in-Ok.ensures.lists q)
 
-pub returns-in-Ok-clause-nodes : goal.returns-in-Ok-clause-nodes
-returns-in-Ok-clause-nodes c =
+pub returns-in-Ok-clause-taken : goal.returns-in-Ok-clause-taken
+returns-in-Ok-clause-taken c =
     let n = nodes_seen c.push.new.self c.push.ensures.arena in
     let s = c.push.ensures.nodes in
     let same = ap length c.in-Ok.ensures.nodes in
     let grown = ap {B = ℕ} (λ k. if k == 0 then 1 else 0) (ap (λ (s : Strand). s.count) c.in-Ok.ensures.free ∙ ap (λ (p : Places). p.free) c.self.view_is) in
     let w = nodes_were c.self.inside.arena c.args.self.now c.self.view_is c.self.invariant.strands in
-    omega (arith, n, s, same, grown, w)
+    let push = c.push.ensures.free in
+    let free = ap (λ (s : Strand). s.count) c.in-Ok.ensures.free in
+    let was = ap (λ (p : Places). p.free) c.self.view_is in
+    (omega (arith, n, s, same, grown, w), omega (arith, push, free, was))

@@ -6,4 +6,5 @@ use Rattle.hg_chain.proofs.Walks.{list_many}
 use Rattle.hg_chain.proofs.chains.Chains.is_empty.Goals as goal
 
 pub returns : goal.returns
-returns c = ap (λ n. n == 0) (ap (λ (h : Head). h.strand.count) c.head.ensures ∙ sym (ap length (list_was c.self.inside.arena c.args.self.now c.args.place c.self.view_is) ∙ list_many c.self.inside.arena c.args.place))
+returns c = ap (λ n. n == 0) (ap (λ (h : Head). h.strand.count) c.head.ensures ∙ sym (ap length (list_was c.self.inside.arena c.args.self.now c.args.place c.self.view_is) ∙
+    list_many c.self.inside.arena c.args.place))

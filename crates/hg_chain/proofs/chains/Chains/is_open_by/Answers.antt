@@ -17,4 +17,5 @@ returns-then-not-head c =
     let a = c.self.inside.arena in
     let h = head_in a c.args.place in
     let numbered : h.is_open ≡ false = sym (ap (λ (h : Head). h.is_open) c.head.ensures) ∙ is_false c.head.result.is_open c.if-not-head.true in
-    sym (ap (is_open_by c.args.by) (list_was a c.args.self.now c.args.place c.self.view_is) ∙ ap (λ b. is_open_by c.args.by (versions a.nodes.items b h.strand.count h.strand.first)) numbered ∙ closed c.args.by a.nodes.items h.strand.count h.strand.first)
+    sym (ap (is_open_by c.args.by) (list_was a c.args.self.now c.args.place c.self.view_is) ∙
+    ap (λ b. is_open_by c.args.by (versions a.nodes.items b h.strand.count h.strand.first)) numbered ∙ closed c.args.by a.nodes.items h.strand.count h.strand.first)

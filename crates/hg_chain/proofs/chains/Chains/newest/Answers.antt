@@ -27,8 +27,11 @@ returns-clause-newest c =
     let f = ap (λ (h : Head). h.strand.first) c.head-is_open.ensures in
     let some = c.if-strand-eq0.false in
     let k = first_within a.heads.items a.nodes.items a.free c.self.invariant.strands c.args.place (omega (arith, e, some)) in
-    let read : c.index.result.now ≡ node_at a.nodes.items h.strand.first = get_or_read a.nodes.items c.head-is_open.result.strand.first c.index.result.now (omega (arith, f, k)) c.index.ensures blank ∙ ap (node_at a.nodes.items) f in
-    sym (ap newest (list_was a c.args.self.now c.args.place c.self.view_is) ∙ newest_of a.nodes.items h.is_open h.strand.count h.strand.first (λ none. some (e ∙ none)) ∙ sym (ap Some c.stamp.ensures ∙ (λ i. Some (stamp_in (c.head-is_open.ensures i).is_open (read i)))))
+    let read : c.index.result.now ≡ node_at a.nodes.items h.strand.first = get_or_read a.nodes.items c.head-is_open.result.strand.first c.index.result.now
+    (omega (arith, f, k)) c.index.ensures blank ∙ ap (node_at a.nodes.items) f in
+    sym (ap newest (list_was a c.args.self.now c.args.place c.self.view_is) ∙ newest_of a.nodes.items h.is_open h.strand.count h.strand.first (λ none. some (e ∙ none)) ∙
+    sym (ap Some c.stamp.ensures ∙ (λ i. Some (stamp_in (c.head-is_open.ensures i).is_open (read i)))))
 
 pub returns-clause-others : goal.returns-clause-others
-returns-clause-others c = subst (λ vs. Each (λ v. IsSome (number_in v.stamp)) (drop 1 vs)) (sym (list_was c.self.inside.arena c.args.self.now c.args.place c.self.view_is)) (others_numbered _ (c.self.invariant.chains c.args.place))
+returns-clause-others c = subst (λ vs. Each (λ v. IsSome (number_in v.stamp)) (drop 1 vs)) (sym (list_was c.self.inside.arena c.args.self.now c.args.place c.self.view_is))
+    (others_numbered _ (c.self.invariant.chains c.args.place))

@@ -15,7 +15,8 @@ pub index-requires : goal.index-requires
 index-requires c =
     let a = c.self.inside.arena in
     let h = head_in a c.args.place in
-    let e : is_open_by c.args.by (list_in a c.args.place) ≡ true = ap (is_open_by c.args.by) (sym (list_was a c.args.self.now c.args.place c.self.view_is)) ∙ sym c.is_open_by.ensures ∙ c.if-not-is_open_by.false in
+    let e : is_open_by c.args.by (list_in a c.args.place) ≡ true = ap (is_open_by c.args.by) (sym (list_was a c.args.self.now c.args.place c.self.view_is)) ∙
+    sym c.is_open_by.ensures ∙ c.if-not-is_open_by.false in
     let some = some_open c.args.by a.nodes.items h.is_open h.strand.count h.strand.first e in
     let f = ap (λ (h : Head). h.strand.first) c.head-at.ensures in
     let k = first_within a.heads.items a.nodes.items a.free c.self.invariant.strands c.args.place some in
@@ -32,9 +33,12 @@ pub returns : goal.returns
 returns c =
     let a = c.self.inside.arena in
     let h = head_in a c.args.place in
-    let e : is_open_by c.args.by (list_in a c.args.place) ≡ true = ap (is_open_by c.args.by) (sym (list_was a c.args.self.now c.args.place c.self.view_is)) ∙ sym c.is_open_by.ensures ∙ c.if-not-is_open_by.false in
+    let e : is_open_by c.args.by (list_in a c.args.place) ≡ true = ap (is_open_by c.args.by) (sym (list_was a c.args.self.now c.args.place c.self.view_is)) ∙
+    sym c.is_open_by.ensures ∙ c.if-not-is_open_by.false in
     let some = some_open c.args.by a.nodes.items h.is_open h.strand.count h.strand.first e in
     let f = ap (λ (h : Head). h.strand.first) c.head-at.ensures in
     let k = first_within a.heads.items a.nodes.items a.free c.self.invariant.strands c.args.place some in
-    let read : c.index.result.now ≡ node_at a.nodes.items h.strand.first = get_or_read a.nodes.items c.head-at.result.strand.first c.index.result.now (omega (arith, f, k)) c.index.ensures blank ∙ ap (node_at a.nodes.items) f in
-    sym (ap (image_by c.args.by) (list_was a c.args.self.now c.args.place c.self.view_is) ∙ own_of c.args.by a.nodes.items h.is_open h.strand.count h.strand.first e ∙ sym (ap (λ (n : Node). Some n.image) read))
+    let read : c.index.result.now ≡ node_at a.nodes.items h.strand.first = get_or_read a.nodes.items c.head-at.result.strand.first c.index.result.now
+    (omega (arith, f, k)) c.index.ensures blank ∙ ap (node_at a.nodes.items) f in
+    sym (ap (image_by c.args.by) (list_was a c.args.self.now c.args.place c.self.view_is) ∙ own_of c.args.by a.nodes.items h.is_open h.strand.count h.strand.first e ∙
+    sym (ap (λ (n : Node). Some n.image) read))

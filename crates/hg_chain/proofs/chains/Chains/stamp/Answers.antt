@@ -11,7 +11,8 @@ pub set_number-requires-clause-some : goal.set_number-requires-clause-some
 set_number-requires-clause-some c =
     let a = c.self.inside.arena in
     let h = head_in a c.args.place in
-    some_open c.args.by a.nodes.items h.is_open h.strand.count h.strand.first (subst (λ vs. IsTrue (is_open_by c.args.by vs)) (list_was a c.args.self.now c.args.place c.self.view_is) c.requires.open_write)
+    some_open c.args.by a.nodes.items h.is_open h.strand.count h.strand.first
+    (subst (λ vs. IsTrue (is_open_by c.args.by vs)) (list_was a c.args.self.now c.args.place c.self.view_is) c.requires.open_write)
 
 written : (c : goal.After-set_number) → list_in c.set_number.new.self c.args.place ≡ stamped c.args.by c.args.number (list_in c.self.inside.arena c.args.place)
 written c = c.set_number.ensures.here c.args.by (subst (λ vs. IsTrue (is_open_by c.args.by vs)) (list_was c.self.inside.arena c.args.self.now c.args.place c.self.view_is) c.requires.open_write)
@@ -20,7 +21,8 @@ pub invariant_of-self : goal.invariant_of-self
 invariant_of-self c =
     let a = c.self.inside.arena in
     let below = subst (λ vs. Each (IsBelow c.args.number) (drop 1 vs)) (list_was a c.args.self.now c.args.place c.self.view_is) c.requires.over in
-    holds_after a c.set_number.new.self c.args.place c.self.invariant c.set_number.ensures.arena (subst IsChain (sym (written c)) (chain_stamped c.args.by c.args.number _ (c.self.invariant.chains c.args.place) below)) c.set_number.ensures.others
+    holds_after a c.set_number.new.self c.args.place c.self.invariant c.set_number.ensures.arena
+    (subst IsChain (sym (written c)) (chain_stamped c.args.by c.args.number _ (c.self.invariant.chains c.args.place) below)) c.set_number.ensures.others
 
 pub returns-clause-here : goal.returns-clause-here
 returns-clause-here c = list_seen c.set_number.new.self c.args.place ∙ written c ∙ sym (ap (stamped c.args.by c.args.number) (list_was c.self.inside.arena c.args.self.now c.args.place c.self.view_is))
@@ -29,4 +31,5 @@ pub returns-clause-others : goal.returns-clause-others
 returns-clause-others c = others_seen c.self.inside.arena c.set_number.new.self c.args.self.now c.args.place c.self.view_is c.set_number.ensures.others
 
 pub returns-clause-nodes : goal.returns-clause-nodes
-returns-clause-nodes c = nodes_seen c.set_number.new.self c.set_number.ensures.arena ∙ c.set_number.ensures.nodes ∙ sym (nodes_were c.self.inside.arena c.args.self.now c.self.view_is c.self.invariant.strands)
+returns-clause-nodes c = nodes_seen c.set_number.new.self c.set_number.ensures.arena ∙ c.set_number.ensures.nodes ∙
+    sym (nodes_were c.self.inside.arena c.args.self.now c.self.view_is c.self.invariant.strands)

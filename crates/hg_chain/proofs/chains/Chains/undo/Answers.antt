@@ -15,7 +15,8 @@ undo-requires-clause-some c =
 pub invariant_of-self : goal.invariant_of-self
 invariant_of-self c =
     let a = c.self.inside.arena in
-    holds_after a c.undo.new.self c.args.place c.self.invariant c.undo.ensures.arena (subst IsChain (sym c.undo.ensures.here) (chain_behind _ (c.self.invariant.chains c.args.place))) c.undo.ensures.others
+    holds_after a c.undo.new.self c.args.place c.self.invariant c.undo.ensures.arena
+    (subst IsChain (sym c.undo.ensures.here) (chain_behind _ (c.self.invariant.chains c.args.place))) c.undo.ensures.others
 
 pub returns-clause-here : goal.returns-clause-here
 returns-clause-here c = list_seen c.undo.new.self c.args.place ∙ c.undo.ensures.here ∙ sym (ap (drop 1) (list_was c.self.inside.arena c.args.self.now c.args.place c.self.view_is))
@@ -24,4 +25,4 @@ pub returns-clause-others : goal.returns-clause-others
 returns-clause-others c = others_seen c.self.inside.arena c.undo.new.self c.args.self.now c.args.place c.self.view_is c.undo.ensures.others
 
 pub returns-clause-nodes : goal.returns-clause-nodes
-returns-clause-nodes c = nodes_seen c.undo.new.self c.undo.ensures.arena ∙ c.undo.ensures.nodes ∙ sym (nodes_were c.self.inside.arena c.args.self.now c.self.view_is c.self.invariant.strands)
+returns-clause-nodes c = nodes_seen c.undo.new.self c.undo.ensures.arena ∙ c.undo.ensures.freed.0 ∙ sym (nodes_were c.self.inside.arena c.args.self.now c.self.view_is c.self.invariant.strands)

@@ -14,7 +14,9 @@ pub returns-then-cursor-head : goal.returns-then-cursor-head
 returns-then-cursor-head c =
     let a = c.self.inside.arena in
     let e = ap (λ (h : Head). h.strand.count) c.head.ensures in
-    sym (ap (image_at c.args.at) (list_was a c.args.self.now c.args.place c.self.view_is) ∙ ap (option_map (λ (v : Version). v.image)) (none_found a c.args.place c.args.at c.passed-cursor.result (c.self.invariant.chains c.args.place) c.passed-cursor.ensures.kept (c.if-cursor-head.true ∙ e)))
+    sym (ap (image_at c.args.at) (list_was a c.args.self.now c.args.place c.self.view_is) ∙
+    ap (option_map (λ (v : Version). v.image)) (none_found a c.args.place c.args.at c.passed-cursor.result (c.self.invariant.chains c.args.place) c.passed-cursor.ensures.kept
+    (c.if-cursor-head.true ∙ e)))
 
 pub index-requires : goal.index-requires
 index-requires c =

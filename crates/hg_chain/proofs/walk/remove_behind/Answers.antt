@@ -4,7 +4,7 @@ use Rattle.hg_chain.specs.declared.version.Version.{Version}
 use Rattle.hg_chain.specs.Arenas.{list_in}
 use Rattle.hg_chain.proofs.Walks.{list_many}
 use Rattle.hg_chain.proofs.Settling.{one_more, none_behind}
-use Rattle.hg_chain.proofs.chains.remove_behind.Goals as goal
+use Rattle.hg_chain.proofs.walk.remove_behind.Goals as goal
 
 -- how many are left of those that were there
 many_left : (xs ys : List Version) (kept m : ℕ) → ys ≡ take kept xs ++ drop m xs → kept ≤ length xs → length ys ≡ kept + (length xs - m)
@@ -22,7 +22,8 @@ remove-requires-clause-some c =
     let k = c.loop-other.invariant.kept in
     let r = c.requires.others in
     let more = c.loop-other-test.true in
-    let left = many_left (list_in c.args.arena.now c.args.place) (list_in c.loop-other.arena c.args.place) c.loop-other.cursor.kept (c.loop-other.cursor.kept + 1 + c.loop-other._other) c.loop-other.invariant.left (omega (arith, all, k, r)) in
+    let left = many_left (list_in c.args.arena.now c.args.place) (list_in c.loop-other.arena c.args.place) c.loop-other.cursor.kept
+    (c.loop-other.cursor.kept + 1 + c.loop-other._other) c.loop-other.invariant.left (omega (arith, all, k, r)) in
     omega (arith, all, now, k, r, more, left)
 
 pub loop-other-preserved : goal.loop-other-preserved

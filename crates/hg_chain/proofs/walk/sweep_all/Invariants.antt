@@ -2,7 +2,7 @@ use Rattle.std.proofs.Common.{◌≡◌, ◌+◌, ◌-◌, ◌≤◌, length}
 use Rattle.hg_chain.specs.Merging.{HasPassed}
 use Rattle.hg_chain.specs.Arenas.{IsArena, IsAt, OthersStayIn, list_in}
 use Rattle.hg_chain.proofs.Settling.{Settled}
-use Rattle.hg_chain.proofs.chains.sweep_all.Given as goal
+use Rattle.hg_chain.proofs.walk.sweep_all.Given as goal
 
 abbrev pub invariant-loop-turn : goal.invariant-loop-turn
 invariant-loop-turn g l = record {

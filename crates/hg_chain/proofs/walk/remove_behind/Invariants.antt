@@ -1,6 +1,6 @@
 use Rattle.std.proofs.Common.{◌≡◌, ◌+◌, ◌++◌, length, take, drop}
 use Rattle.hg_chain.specs.Arenas.{IsArena, IsAt, OthersStayIn, list_in}
-use Rattle.hg_chain.proofs.chains.remove_behind.Given as goal
+use Rattle.hg_chain.proofs.walk.remove_behind.Given as goal
 
 abbrev pub invariant-loop-other : goal.invariant-loop-other
 invariant-loop-other l = record {

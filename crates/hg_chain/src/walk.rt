@@ -1,0 +1,82 @@
+//! Walks along a chain that remove what they meet: all of it, or what no snapshot sees.
+
+ghost use Rattle.std.specs.Prelude.{◌≡◌, ◌+◌, ◌≤◌, length, take, option_to_list};
+ghost use Rattle.hg_base.specs.Lifetimes.{goes};
+ghost use Rattle.hg_chain.specs.Versions.{IsChain};
+ghost use Rattle.hg_chain.specs.Sweeps.{Rises, swept, swept_away, last_number};
+ghost use Rattle.hg_chain.specs.Strands.{node_at};
+ghost use Rattle.hg_chain.specs.Arenas.{IsArena, IsAt, OthersStayIn, head_in, list_in};
+
+use crate::arena::Arena;
+use crate::chain::Swept;
+use crate::cursor::Cursor;
+use crate::merge::Merge;
+use hg_base::{Image, Steps};
+use std::sync::ledger::Ledger;
+
+/// Removes the version before which the walk stands, and so many others behind it, and hands out the first.
+pub(crate) fn remove_behind(
+    arena: &mut Arena,
+    place: u64,
+    cursor: Cursor,
+    others: u32,
+) -> (u64, Image)
+    requires arena { IsArena arena.old }
+    requires at { IsAt arena.old place cursor }
+    requires others { cursor.kept + others + 1 ≡ (head_in arena.old place).strand.count }
+    ensures arena { IsArena arena.new }
+    ensures left { list_in arena.new place ≡ take cursor.kept (list_in arena.old place) }
+    ensures others { OthersStayIn place arena.old arena.new }
+    ensures nodes { length arena.new.nodes.items ≡ length arena.old.nodes.items }
+    ensures held { result ≡ (
+      (node_at arena.old.nodes.items cursor.at).number,
+      (node_at arena.old.nodes.items cursor.at).image,
+    ) }
+{
+    let mut cursor = cursor;
+    let first = arena.remove(place, &mut cursor);
+    for _other in 0..others {
+        let _ = arena.remove(place, &mut cursor);
+    }
+    first
+}
+
+/// The walk passes each version that stays, and removes the others.
+pub(crate) fn sweep_all<L: Ledger>(
+    arena: &mut Arena,
+    place: u64,
+    base: Option<u64>,
+    horizon: u64,
+    snapshots: &[u64],
+    steps: &mut Steps<L>,
+) -> Swept
+    requires arena { IsArena arena.old }
+    requires chain { IsChain (list_in arena.old place) }
+    requires rises { Rises snapshots.now }
+    ensures arena { IsArena arena.new }
+    ensures left { list_in arena.new place ≡ swept horizon snapshots.now (list_in arena.old place) }
+    ensures others { OthersStayIn place arena.old arena.new }
+    ensures nodes { length arena.new.nodes.items ≡ length arena.old.nodes.items }
+    ensures gone { result.gone ≡ swept_away horizon snapshots.now (list_in arena.old place) }
+    ensures base_gone { result.base_gone ≡
+        goes horizon snapshots.now (last_number (list_in arena.old place)) base }
+    ensures cost { steps.new ≤
+        steps.old + length (list_in arena.old place) + length (option_to_list base) +
+        length snapshots.now }
+{
+    let all = arena.head(place).strand.count;
+    let mut merge = Merge {
+        left: snapshots.len(),
+        successor: None,
+    };
+    let mut cursor = arena.start(place);
+    for _turn in 0..all {
+        let number = arena.number(arena.head(place), cursor);
+        let goes = merge.settle(horizon, snapshots, number, steps);
+        arena.remove_or_pass(place, &mut cursor, goes);
+    }
+    Swept {
+        gone: u64::from(all - cursor.kept),
+        base_gone: base.is_some() && merge.settle(horizon, snapshots, base, steps),
+    }
+}
