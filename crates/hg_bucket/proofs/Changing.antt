@@ -42,7 +42,8 @@ below_all n (v ∷ vs) im h = let rest = below_all n vs im h.1 in ((one v.stamp 
     one (Written w) image k = k
     one (Numbered m w) image k = k
 
-pub below_behind : (by : Writer) (n : ℕ) (vs : List Version) (im : Oldest) → IsTrue (chain.is_open_by by vs) → Each (IsBelow n) (drop 1 (whole vs im)) → Each (chain.IsBelow n) (drop 1 vs) × OldestBelow n im
+pub below_behind : (by : Writer) (n : ℕ) (vs : List Version) (im : Oldest) → IsTrue (chain.is_open_by by vs) → Each (IsBelow n) (drop 1 (whole vs im)) →
+    Each (chain.IsBelow n) (drop 1 vs) × OldestBelow n im
 below_behind by n [] im o h = absurd (let j = o in cc)
 below_behind by n (v ∷ vs) im o h = below_all n vs im h
 

@@ -41,13 +41,15 @@ all_paid t xs (e ∷ records) = sum_by-cons (cost_at t 0 (length xs)) e records 
         either true = refl
         either false = refl
 
-    go : (a : Bool) → (e.0.table.0 == t.0) ≡ a → (b : Bool) → is_long e.1 ≡ b → cost_from t 0 (length xs) records ≡ sweep_steps t xs records → cost_at t 0 (length xs) e + cost_from t 0 (length xs) records ≡ sweep_steps t xs (e ∷ records)
+    go : (a : Bool) → (e.0.table.0 == t.0) ≡ a → (b : Bool) → is_long e.1 ≡ b → cost_from t 0 (length xs) records ≡ sweep_steps t xs records →
+        cost_at t 0 (length xs) e + cost_from t 0 (length xs) records ≡ sweep_steps t xs (e ∷ records)
     go a h b k rest =
         (λ i. cond ((come ∙ h) i) (cond (k i) (length e.1 + length xs) 0) 0 + rest i)
         ∙ each a b
         ∙ sym (λ i. sum_by (λ f. length f.1 + length xs) (cond (h i && k i) (e ∷ filter (is_looked_at t) records) (filter (is_looked_at t) records)))
       where
-        each : (a b : Bool) → cond a (cond b (length e.1 + length xs) 0) 0 + sweep_steps t xs records ≡ sum_by (λ f. length f.1 + length xs) (cond (a && b) (e ∷ filter (is_looked_at t) records) (filter (is_looked_at t) records))
+        each : (a b : Bool) → cond a (cond b (length e.1 + length xs) 0) 0 + sweep_steps t xs records ≡ sum_by (λ f. length f.1 + length xs)
+            (cond (a && b) (e ∷ filter (is_looked_at t) records) (filter (is_looked_at t) records))
         each true true = sym (sum_by-cons (λ f. length f.1 + length xs) e (filter (is_looked_at t) records))
         each true false = omega arith
         each false true = omega arith
@@ -65,7 +67,8 @@ whole_long v [] (Some p) = refl
 whole_long v (w ∷ vs) im = refl
 
 -- a record that has a chain costs its versions and the snapshots
-pub record_paid : (n before after : ℕ) (vs : List Version) (im : Oldest) → 0 < length vs → after ≤ before + length vs + length (option_to_list (option_map (λ p. p.0) im)) + n → after ≤ before + cost_of n (whole vs im)
+pub record_paid : (n before after : ℕ) (vs : List Version) (im : Oldest) → 0 < length vs → after ≤ before + length vs + length (option_to_list (option_map (λ p. p.0) im)) + n →
+    after ≤ before + cost_of n (whole vs im)
 record_paid n before after [] im long some = absurd (omega (arith, long))
 record_paid n before after (v ∷ vs) im long some =
     let cost : cost_of n (whole (v ∷ vs) im) ≡ length (whole (v ∷ vs) im) + n = ap (λ b. cond b (length (whole (v ∷ vs) im) + n) 0) (whole_long v vs im) in

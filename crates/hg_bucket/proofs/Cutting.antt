@@ -29,17 +29,21 @@ pub filter_behind : (bound : ℕ) (vs : List Version) (im : Oldest) → filter (
 filter_behind bound [] im = refl
 filter_behind bound (v ∷ vs) im = go (is_at_most bound (kept v)) (chain.is_at_most bound v) (at_most_kept bound v.stamp v.image) (filter_behind bound vs im)
   where
-    go : (a b : Bool) → a ≡ b → filter (over bound) (whole vs im) ≡ map kept (chain.left_by bound vs) ++ filter (over bound) (behind im) → cond (not a) (kept v ∷ filter (over bound) (whole vs im)) (filter (over bound) (whole vs im)) ≡ map kept (cond (not b) (v ∷ chain.left_by bound vs) (chain.left_by bound vs)) ++ filter (over bound) (behind im)
+    go : (a b : Bool) → a ≡ b → filter (over bound) (whole vs im) ≡ map kept (chain.left_by bound vs) ++ filter (over bound) (behind im) →
+        cond (not a) (kept v ∷ filter (over bound) (whole vs im)) (filter (over bound) (whole vs im)) ≡ map kept
+        (cond (not b) (v ∷ chain.left_by bound vs) (chain.left_by bound vs)) ++ filter (over bound) (behind im)
     go true true e rest = rest
     go false false e rest = ap (λ ws. kept v ∷ ws) rest
     go true false e rest = absurd cc
     go false true e rest = absurd cc
 
-pub find_behind : (bound : ℕ) (vs : List Version) (im : Oldest) → find (is_at_most bound) (whole vs im) ≡ option_or (option_map kept (find (chain.is_at_most bound) vs)) (find (is_at_most bound) (behind im))
+pub find_behind : (bound : ℕ) (vs : List Version) (im : Oldest) → find (is_at_most bound) (whole vs im) ≡ option_or (option_map kept (find (chain.is_at_most bound) vs))
+    (find (is_at_most bound) (behind im))
 find_behind bound [] im = refl
 find_behind bound (v ∷ vs) im = go (is_at_most bound (kept v)) (chain.is_at_most bound v) (at_most_kept bound v.stamp v.image) (find_behind bound vs im)
   where
-    go : (a b : Bool) → a ≡ b → find (is_at_most bound) (whole vs im) ≡ option_or (option_map kept (find (chain.is_at_most bound) vs)) (find (is_at_most bound) (behind im)) → cond a (Some (kept v)) (find (is_at_most bound) (whole vs im)) ≡ option_or (option_map kept (cond b (Some v) (find (chain.is_at_most bound) vs))) (find (is_at_most bound) (behind im))
+    go : (a b : Bool) → a ≡ b → find (is_at_most bound) (whole vs im) ≡ option_or (option_map kept (find (chain.is_at_most bound) vs)) (find (is_at_most bound) (behind im)) →
+        cond a (Some (kept v)) (find (is_at_most bound) (whole vs im)) ≡ option_or (option_map kept (cond b (Some v) (find (chain.is_at_most bound) vs))) (find (is_at_most bound) (behind im))
     go true true e rest = refl
     go false false e rest = rest
     go true false e rest = absurd cc
@@ -93,17 +97,20 @@ CutIs bound vs im = cut_at bound (whole vs im) ≡ whole (chain.left_by bound vs
 pub cut_is : (bound : ℕ) (vs : List Version) (im : Oldest) → Each (λ v. IsOver v.stamp im) vs → IsRow im → CutIs bound vs im
 cut_is bound vs im overs row =
     (λ i. filter_behind bound vs im i ++ survivor (find_behind bound vs im i))
-    ∙ append_assoc (map kept (chain.left_by bound vs)) (filter (over bound) (behind im)) (survivor (option_or (option_map kept (find (chain.is_at_most bound) vs)) (find (is_at_most bound) (behind im))))
+    ∙ append_assoc (map kept (chain.left_by bound vs)) (filter (over bound) (behind im))
+    (survivor (option_or (option_map kept (find (chain.is_at_most bound) vs)) (find (is_at_most bound) (behind im))))
     ∙ ap (λ ws. map kept (chain.left_by bound vs) ++ ws) (go (find (chain.is_at_most bound) vs) refl)
   where
-    one : (s : Stamp) (image : Image) → IsOver s im → chain.has_at_most bound s ≡ true → filter (over bound) (behind im) ++ survivor (Some (kept_as s image)) ≡ behind (settled (option_map (λ n. (n, image)) (chain.number_in s)) im)
+    one : (s : Stamp) (image : Image) → IsOver s im → chain.has_at_most bound s ≡ true →
+        filter (over bound) (behind im) ++ survivor (Some (kept_as s image)) ≡ behind (settled (option_map (λ n. (n, image)) (chain.number_in s)) im)
     one (Written w) image o at = absurd (let k = at in cc)
     one (Numbered n w) image o at = (λ i. below_goes bound n im image at below i ++ survivor (Some (record { number = Some n; by = None; image = image }))) ∙ survives n image
       where
         below : (p : ℕ × Image) → im ≡ Some p → p.0 < n
         below p e = subst (IsOver (Numbered n w)) e o
 
-    go : (o : Option Version) → find (chain.is_at_most bound) vs ≡ o → filter (over bound) (behind im) ++ survivor (option_or (option_map kept o) (find (is_at_most bound) (behind im))) ≡ behind (settled (option_and_then chain.numbered_image o) im)
+    go : (o : Option Version) → find (chain.is_at_most bound) vs ≡ o →
+        filter (over bound) (behind im) ++ survivor (option_or (option_map kept o) (find (is_at_most bound) (behind im))) ≡ behind (settled (option_and_then chain.numbered_image o) im)
     go None e = oldest_stays bound im row
     go (Some v) e = let f = found_is (λ v. IsOver v.stamp im) (chain.is_at_most bound) vs v overs e in one v.stamp v.image f.0 f.1
 
@@ -156,7 +163,8 @@ pub split_count : (p : Version → Bool) (vs : List Version) → length (filter 
 split_count p [] = refl
 split_count p (v ∷ vs) = go (p v) refl (split_count p vs)
   where
-    go : (b : Bool) → p v ≡ b → length (filter (λ v. not (p v)) vs) + count_by p vs ≡ length vs → length (cond (not b) (v ∷ filter (λ v. not (p v)) vs) (filter (λ v. not (p v)) vs)) + count_by p (v ∷ vs) ≡ length (v ∷ vs)
+    go : (b : Bool) → p v ≡ b → length (filter (λ v. not (p v)) vs) + count_by p vs ≡ length vs →
+        length (cond (not b) (v ∷ filter (λ v. not (p v)) vs) (filter (λ v. not (p v)) vs)) + count_by p (v ∷ vs) ≡ length (v ∷ vs)
     go true k rest = let one : Path ℕ (cond (p v) 1 0) 1 = ap (λ b. cond {A = ℕ} b 1 0) k in omega (arith, sum_by-cons (λ x. cond {A = ℕ} (p x) 1 0) v vs, one, rest)
     go false k rest = let none : Path ℕ (cond (p v) 1 0) 0 = ap (λ b. cond {A = ℕ} b 1 0) k in omega (arith, sum_by-cons (λ x. cond {A = ℕ} (p x) 1 0) v vs, none, rest)
 
@@ -211,5 +219,17 @@ settled_one newest im = go (is_some newest.1.row)
     go false = refl
 
 -- so many versions go
-pub cut_gone : (bound : ℕ) (vs : List Version) (im : Oldest) (newest : ℕ × Image) (gone more : ℕ) → chain.oldest_at bound vs ≡ Some newest → gone ≡ chain.others_at bound vs → more ≡ cond {A = ℕ} (is_some im) 1 0 + cond {A = ℕ} (is_some newest.1.row) 0 1 → length (whole (chain.left_by bound vs) (settled (Some newest) im)) + (gone + more) ≡ length (whole vs im)
-cut_gone bound vs im newest gone more h g m = omega (arith, g, m, some_at bound vs newest h, split_count (chain.is_at_most bound) vs, whole_sum (chain.left_by bound vs) (settled (Some newest) im), whole_sum vs im, one_image im, settled_one newest im)
+pub cut_gone : (bound : ℕ) (vs : List Version) (im : Oldest) (newest : ℕ × Image) (gone more : ℕ) → chain.oldest_at bound vs ≡ Some newest → gone ≡ chain.others_at bound vs →
+    more ≡ cond {A = ℕ} (is_some im) 1 0 + cond {A = ℕ} (is_some newest.1.row) 0 1 → length (whole (chain.left_by bound vs) (settled (Some newest) im)) + (gone + more) ≡ length (whole vs im)
+cut_gone bound vs im newest gone more h g m = omega (
+  arith,
+  g,
+  m,
+  some_at bound vs newest h,
+  split_count (chain.is_at_most bound) vs,
+  whole_sum (chain.left_by bound vs)
+      (settled (Some newest) im),
+  whole_sum vs im,
+  one_image im,
+  settled_one newest im,
+)

@@ -35,7 +35,8 @@ apart_of r es fs cs places seats p h q n k = go (same_rid r q) refl
     go false apart = refl
 
 -- the places of those that are left are other places
-seat_apart_of : (r : Rid) (es fs : List (Rid × ℕ)) (cs : Places) (places seats : List Seat) (p : ℕ) → Goes r es fs cs places seats p → (q : Rid) (n : ℕ) → place_of es q ≡ Some n → same_rid r q ≡ false → n ≢ p
+seat_apart_of : (r : Rid) (es fs : List (Rid × ℕ)) (cs : Places) (places seats : List Seat) (p : ℕ) → Goes r es fs cs places seats p → (q : Rid) (n : ℕ) → place_of es q ≡ Some n →
+    same_rid r q ≡ false → n ≢ p
 seat_apart_of r es fs cs places seats p h q n k apart = place_apart es r q p n h.index h.has k apart
 
 pub gone_whole : (r : Rid) (es fs : List (Rid × ℕ)) (cs : Places) (places seats : List Seat) (p : ℕ) → MayBeBare p es cs places → Goes r es fs cs places seats p → AreWhole fs cs seats
@@ -68,14 +69,16 @@ gone_whole r es fs cs places seats p old h =
         go false e = refl
         go true e = absurd (other n t (same_Some n p (sym k ∙ alike es r q e ∙ h.has)))
 
-pub gone_here : (r : Rid) (es fs : List (Rid × ℕ)) (cs : Places) (places seats : List Seat) (p : ℕ) → Goes r es fs cs places seats p → versions_of (records_of fs cs seats) r ≡ versions_of (records_of es cs places) r
+pub gone_here : (r : Rid) (es fs : List (Rid × ℕ)) (cs : Places) (places seats : List Seat) (p : ℕ) → Goes r es fs cs places seats p →
+    versions_of (records_of fs cs seats) r ≡ versions_of (records_of es cs places) r
 gone_here r es fs cs places seats p h =
     no_versions fs cs seats r h.gone
     ∙ (λ i. whole (sym h.chain i) (sym h.image i))
     ∙ sym (versions_there es cs places r p h.has)
 
 pub gone_others : (r : Rid) (es fs : List (Rid × ℕ)) (cs : Places) (places seats : List Seat) (p : ℕ) → Goes r es fs cs places seats p → OthersStay (records_of es cs places) (records_of fs cs seats) r
-gone_others r es fs cs places seats p h q apart = ap (λ o. unwrap_or o []) (found fs cs seats q ∙ ap (option_map (versions_at cs seats)) (h.others q apart) ∙ go (place_of es q) refl ∙ sym (found es cs places q))
+gone_others r es fs cs places seats p h q apart = ap (λ o. unwrap_or o []) (found fs cs seats q ∙ ap (option_map (versions_at cs seats)) (h.others q apart) ∙
+    go (place_of es q) refl ∙ sym (found es cs places q))
   where
     go : (o : Option ℕ) → place_of es q ≡ o → option_map (versions_at cs seats) o ≡ option_map (versions_at cs places) o
     go None k = refl
@@ -87,7 +90,8 @@ gone_left r es fs cs places seats p h =
     let d = distinct es h.index in
     let rest = remove_entry (same_rid r) es in
     let gone = one_removed (how_many cs places) es r p h.has in
-    let stay = sums_alike (how_many cs seats) (how_many cs places) rest (each_removed r (λ e. how_many cs seats e ≡ how_many cs places e) es d (each_entry (λ e. same_rid r e.0 ≡ false → how_many cs seats e ≡ how_many cs places e) es d stays)) in
+    let stay = sums_alike (how_many cs seats) (how_many cs places) rest
+    (each_removed r (λ e. how_many cs seats e ≡ how_many cs places e) es d (each_entry (λ e. same_rid r e.0 ≡ false → how_many cs seats e ≡ how_many cs places e) es d stays)) in
     let none : length (versions_at cs places p) ≡ 0 = (λ i. length (whole (h.chain i) (h.image i))) in
     ap (λ gs. left (records_of gs cs seats)) h.list ∙ omega (arith, left_is rest cs seats, left_is es cs places, gone, stay, none)
   where

@@ -58,11 +58,13 @@ each_removed r Q (e ∷ es) d h = go (same_rid r e.0) refl (each_removed r Q es 
     go false apart rest = (h.0 apart, rest)
 
 -- the terms of all entries but one stay
-pub one_changed : (f g : Rid × ℕ → ℕ) (es : List (Rid × ℕ)) (r : Rid) (p : ℕ) → IsDistinct same_rid (keys_of es) → place_of es r ≡ Some p → Each (λ e. same_rid r e.0 ≡ false → f e ≡ g e) es → sum_by f es + g (r, p) ≡ sum_by g es + f (r, p)
+pub one_changed : (f g : Rid × ℕ → ℕ) (es : List (Rid × ℕ)) (r : Rid) (p : ℕ) → IsDistinct same_rid (keys_of es) → place_of es r ≡ Some p →
+    Each (λ e. same_rid r e.0 ≡ false → f e ≡ g e) es → sum_by f es + g (r, p) ≡ sum_by g es + f (r, p)
 one_changed f g [] r p d h others = absurd (none-some p h)
 one_changed f g (e ∷ es) r p d h others = go (same_rid r e.0) refl h (λ k. one_changed f g es r p (IsDistinct-tail same_rid e.0 (keys_of es) d) k others.1)
   where
-    go : (b : Bool) → same_rid r e.0 ≡ b → cond b (Some e.1) (place_of es r) ≡ Some p → (place_of es r ≡ Some p → sum_by f es + g (r, p) ≡ sum_by g es + f (r, p)) → sum_by f (e ∷ es) + g (r, p) ≡ sum_by g (e ∷ es) + f (r, p)
+    go : (b : Bool) → same_rid r e.0 ≡ b → cond b (Some e.1) (place_of es r) ≡ Some p → (place_of es r ≡ Some p → sum_by f es + g (r, p) ≡ sum_by g es + f (r, p)) →
+        sum_by f (e ∷ es) + g (r, p) ≡ sum_by g (e ∷ es) + f (r, p)
     go true same k rest =
         let at : e ≡ (r, p) = (λ i. (sym (same_rid_equal r e.0 same) i, same_Some e.1 p k i)) in
         let tail = sums_alike f g es (all_apart r (λ e. f e ≡ g e) es (none_past_head rids_equiv r e es d same) others.1) in
@@ -76,7 +78,8 @@ pub one_removed : (f : Rid × ℕ → ℕ) (es : List (Rid × ℕ)) (r : Rid) (p
 one_removed f [] r p h = absurd (none-some p h)
 one_removed f (e ∷ es) r p h = go (same_rid r e.0) refl h (one_removed f es r p)
   where
-    go : (b : Bool) → same_rid r e.0 ≡ b → cond b (Some e.1) (place_of es r) ≡ Some p → (place_of es r ≡ Some p → sum_by f es ≡ f (r, p) + sum_by f (remove_entry (same_rid r) es)) → sum_by f (e ∷ es) ≡ f (r, p) + sum_by f (cond b es (e ∷ remove_entry (same_rid r) es))
+    go : (b : Bool) → same_rid r e.0 ≡ b → cond b (Some e.1) (place_of es r) ≡ Some p → (place_of es r ≡ Some p → sum_by f es ≡ f (r, p) + sum_by f (remove_entry (same_rid r) es))
+        → sum_by f (e ∷ es) ≡ f (r, p) + sum_by f (cond b es (e ∷ remove_entry (same_rid r) es))
     go true same k rest = sum_by-cons f e es ∙ ap (λ x. f x + sum_by f es) (λ i. (sym (same_rid_equal r e.0 same) i, same_Some e.1 p k i))
     go false apart k rest =
         let more = rest k in
@@ -87,7 +90,9 @@ pub one_added : (f : Rid × ℕ → ℕ) (es : List (Rid × ℕ)) (r : Rid) (p :
 one_added f [] r p h = sum_by-cons f (r, p) []
 one_added f (e ∷ es) r p h = go (rid_cmp r e.0) (ap is_some h) (sym (at_rid r e.0)) (one_added f es r p)
   where
-    go : (o : Ordering) → is_some (cond (same_rid r e.0) (Some e.1) (place_of es r)) ≡ false → same_rid r e.0 ≡ is_eq o → (place_of es r ≡ None → sum_by f (insert_entry rid_cmp es r p) ≡ f (r, p) + sum_by f es) → sum_by f (match_ordering o ((r, p) ∷ e ∷ es) ((e.0, p) ∷ es) (e ∷ insert_entry rid_cmp es r p)) ≡ f (r, p) + sum_by f (e ∷ es)
+    go : (o : Ordering) → is_some (cond (same_rid r e.0) (Some e.1) (place_of es r)) ≡ false → same_rid r e.0 ≡ is_eq o →
+        (place_of es r ≡ None → sum_by f (insert_entry rid_cmp es r p) ≡ f (r, p) + sum_by f es) →
+        sum_by f (match_ordering o ((r, p) ∷ e ∷ es) ((e.0, p) ∷ es) (e ∷ insert_entry rid_cmp es r p)) ≡ f (r, p) + sum_by f (e ∷ es)
     go Less k same rest = sum_by-cons f (r, p) (e ∷ es)
     go Equal k same rest = absurd (let j = ap (λ b. is_some (cond b (Some e.1) (place_of es r))) (sym same) ∙ k in cc)
     go Greater k same rest =

@@ -27,7 +27,8 @@ use Rattle.hg_bucket.proofs.Bare.{whole_sum}
 
 -- ---- conflicts
 
-pub conflict_of_chain : (by : Writer) (snapshot mark : ℕ) (x : Option WriteRefusal) (vs : List Version) (im : Oldest) (stamp : Stamp) → Some stamp ≡ chain.newest vs → ((image : Image) → x ≡ conflict by snapshot mark (kept_as stamp image ∷ [])) → x ≡ conflict by snapshot mark (whole vs im)
+pub conflict_of_chain : (by : Writer) (snapshot mark : ℕ) (x : Option WriteRefusal) (vs : List Version) (im : Oldest) (stamp : Stamp) → Some stamp ≡ chain.newest vs →
+    ((image : Image) → x ≡ conflict by snapshot mark (kept_as stamp image ∷ [])) → x ≡ conflict by snapshot mark (whole vs im)
 conflict_of_chain by snapshot mark x [] im stamp e h = absurd (none-some stamp (sym e))
 conflict_of_chain by snapshot mark x (v ∷ vs) im stamp e h = h v.image ∙ ap (λ s. conflict by snapshot mark (kept_as s v.image ∷ [])) (same_Some stamp v.stamp e)
 
@@ -46,7 +47,8 @@ conflict_of_oldest by snapshot mark [] (Some p) e = go (is_unpublished by mark (
     go false false = refl
 
 -- where nothing is in conflict, no version is an open write of another
-pub head_free : (by : Writer) (snapshot mark : ℕ) (s : Stamp) (image : Image) (more : List Kept) → conflict by snapshot mark (kept_as s image ∷ more) ≡ None → IsTrue (is_some (kept_as s image).number || is_open_by by (kept_as s image))
+pub head_free : (by : Writer) (snapshot mark : ℕ) (s : Stamp) (image : Image) (more : List Kept) → conflict by snapshot mark (kept_as s image ∷ more) ≡ None →
+    IsTrue (is_some (kept_as s image).number || is_open_by by (kept_as s image))
 head_free by snapshot mark (Numbered n w) image more h = refl
 head_free by snapshot mark (Written w) image more h = go (same_writer w by) h
   where
@@ -66,7 +68,8 @@ rest_free by (v ∷ vs) im h = (one v.stamp v.image h.0, rest_free by vs im h.1)
     one (Numbered n w) image k = refl
     one (Written w) image k = absurd (let j = k in cc)
 
-pub all_free : (by : Writer) (snapshot mark : ℕ) (vs : List Version) (im : Oldest) → Each (λ v. IsSome (chain.number_in v.stamp)) (drop 1 vs) → conflict by snapshot mark (whole vs im) ≡ None → NoOther by (whole vs im)
+pub all_free : (by : Writer) (snapshot mark : ℕ) (vs : List Version) (im : Oldest) → Each (λ v. IsSome (chain.number_in v.stamp)) (drop 1 vs) →
+    conflict by snapshot mark (whole vs im) ≡ None → NoOther by (whole vs im)
 all_free by snapshot mark [] im rest h = oldest_free by im
 all_free by snapshot mark (v ∷ vs) im rest h = (head_free by snapshot mark v.stamp v.image (whole vs im) h, rest_free by vs im rest)
 
@@ -118,7 +121,8 @@ pub record Installs (es fs : List (Rid × ℕ)) (cs ds : Places) (places seats :
   pub left : left (records_of fs ds seats) ≡ left (records_of es cs places) + cond (not (begins_open by (versions_of (records_of es cs places) r))) 1 0
 
 -- where the record has a place, index and places stay
-pub extends : (es : List (Rid × ℕ)) (cs ds : Places) (places : List Seat) (r : Rid) (p : ℕ) (by : Writer) (image : Image) → IsIndex es → AreWhole es cs places → place_of es r ≡ Some p → list_at ds p ≡ chain.installed by image (list_at cs p) → ListsStay p cs ds → Installs es es cs ds places places r by image
+pub extends : (es : List (Rid × ℕ)) (cs ds : Places) (places : List Seat) (r : Rid) (p : ℕ) (by : Writer) (image : Image) → IsIndex es → AreWhole es cs places →
+    place_of es r ≡ Some p → list_at ds p ≡ chain.installed by image (list_at cs p) → ListsStay p cs ds → Installs es es cs ds places places r by image
 extends es cs ds places r p by image index old has is lists =
     let vs = list_at cs p in
     let ws = chain.installed by image vs in

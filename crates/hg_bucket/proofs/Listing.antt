@@ -1,5 +1,6 @@
 -- The lists of records that have a chain: where a record enters, and where one leaves.
-use Rattle.std.proofs.Common.{◌-◌, length-append, zero, set, ◌≡◌, ℕ, suc, ◌<◌, List, [], ◌∷◌, ◌++◌, length, take, map, slice_get, Bool, true, false, Option, Some, None, refl, sym, ap, ◌∙◌, subst, arith, ◌⊎◌, inl, inr}
+use Rattle.std.proofs.Common.{◌-◌, length-append, zero, set, ◌≡◌, ℕ, suc, ◌<◌, List, [], ◌∷◌, ◌++◌, length, take, map, slice_get, Bool, true, false, Option, Some, None, refl, sym, ap, ◌∙◌}
+use Rattle.std.proofs.Common.{subst, arith, ◌⊎◌, inl, inr}
 use Rattle.std.specs.Prelude.{◌≢◌, ◌↔◌, ◌==◌, IsTrue, IsFalse, option_map, slice_index_or}
 use Rattle.std.specs.Bool.{OnTrue, OnFalse}
 use Rattle.std.specs.List.{swap_remove}
@@ -33,7 +34,8 @@ use Rattle.hg_bucket.proofs.Settling.{bare_short, absent_short, chained_long}
 -- ---- which records a list has
 
 -- a record of a table's list, read as a record and its place
-pub of_list : (es : List (Rid × ℕ)) (cs : Places) (ls : List (List Listed)) (t : TableId) (e : Listed) → AreListed es cs ls → Has (list_of ls t.0) e → (place_of es (record_at t e.key) ≡ Some e.place) × (0 < length (list_at cs e.place))
+pub of_list : (es : List (Rid × ℕ)) (cs : Places) (ls : List (List Listed)) (t : TableId) (e : Listed) → AreListed es cs ls → Has (list_of ls t.0) e →
+    (place_of es (record_at t e.key) ≡ Some e.place) × (0 < length (list_at cs e.place))
 of_list es cs ls t e h has = (h (record_at t e.key) e.place).0 has
 
 -- a place without a chain stands in no list
@@ -51,7 +53,8 @@ on_bare es cs ls p h = go (length (list_at cs p) == 0) refl
     go false e = tt
 
 -- and one with a chain stands in its table's
-pub stands : (es : List (Rid × ℕ)) (cs : Places) (ls : List (List Listed)) (r : Rid) (p : ℕ) → AreListed es cs ls → place_of es r ≡ Some p → 0 < length (list_at cs p) → StandsIn (list_of ls r.table.0) p
+pub stands : (es : List (Rid × ℕ)) (cs : Places) (ls : List (List Listed)) (r : Rid) (p : ℕ) → AreListed es cs ls → place_of es r ≡ Some p → 0 < length (list_at cs p) →
+    StandsIn (list_of ls r.table.0) p
 stands es cs ls r p h has long = (listed r p, ((h r p).1 (has, long), refl))
 
 same_records : (es : List (Rid × ℕ)) (q r : Rid) (p : ℕ) → IsIndex es → place_of es q ≡ Some p → place_of es r ≡ Some p → q ≡ r
@@ -67,7 +70,8 @@ pub chains_alike : (es : List (Rid × ℕ)) (cs ds : Places) (ls : List (List Li
 chains_alike es cs ds ls h same = chains_stay es cs ds ls h (λ q. (λ k. subst (λ vs. 0 < length vs) (sym (same q)) k, λ k. subst (λ vs. 0 < length vs) (same q) k))
 
 -- one that had a chain still has one
-pub chain_stays : (es : List (Rid × ℕ)) (cs ds : Places) (ls : List (List Listed)) (p : ℕ) → AreListed es cs ls → ListsStay p cs ds → 0 < length (list_at cs p) → 0 < length (list_at ds p) → AreListed es ds ls
+pub chain_stays : (es : List (Rid × ℕ)) (cs ds : Places) (ls : List (List Listed)) (p : ℕ) → AreListed es cs ls → ListsStay p cs ds → 0 < length (list_at cs p) →
+    0 < length (list_at ds p) → AreListed es ds ls
 chain_stays es cs ds ls p h stay was is = chains_stay es cs ds ls h (λ q. go q (q == p) refl)
   where
     go : (q : ℕ) (b : Bool) → (q == p) ≡ b → (0 < length (list_at cs q)) ↔ (0 < length (list_at ds q))
@@ -106,8 +110,11 @@ in_before ls ms r p t e h has = go (t == r.table.0) refl
   where
     go : (b : Bool) → (t == r.table.0) ≡ b → Has (list_of ms t) e
     go true k =
-        let at : t ≡ r.table.0 = grind (arith, nat_tests, k) in
-        (has.0, ap (λ n. slice_get (list_of ms n) has.0) at ∙ ap (λ xs. slice_get xs has.0) h.last ∙ get_more (list_of ls r.table.0) (listed r p) e has.0 (ap (λ n. slice_get (list_of ls n) has.0) (sym at) ∙ has.1))
+        let at : t ≡ r.table.0 = grind (arith, nat_tests, k) in (
+          has.0,
+          ap (λ n. slice_get (list_of ms n) has.0) at ∙ ap (λ xs. slice_get xs has.0) h.last ∙
+              get_more (list_of ls r.table.0) (listed r p) e has.0 (ap (λ n. slice_get (list_of ls n) has.0) (sym at) ∙ has.1),
+        )
     go false k = (has.0, ap (λ xs. slice_get xs has.0) (h.others t (λ at. grind (arith, nat_tests, k, at))) ∙ has.1)
 
 in_after : (ls ms : List (List Listed)) (r : Rid) (p : ℕ) (t : ℕ) (e : Listed) → Enters ls ms r p → Has (list_of ms t) e → Has (list_of ls t) e ⊎ ((t ≡ r.table.0) × (e ≡ listed r p))
@@ -118,7 +125,8 @@ in_after ls ms r p t e h has = go (t == r.table.0) refl
         let at : t ≡ r.table.0 = grind (arith, nat_tests, k) in
         by at (get_push (list_of ls r.table.0) (listed r p) e has.0 (ap (λ xs. slice_get xs has.0) (sym h.last) ∙ ap (λ n. slice_get (list_of ms n) has.0) (sym at) ∙ has.1))
       where
-        by : t ≡ r.table.0 → (slice_get (list_of ls r.table.0) has.0 ≡ Some e) ⊎ ((has.0 ≡ length (list_of ls r.table.0)) × (e ≡ listed r p)) → Has (list_of ls t) e ⊎ ((t ≡ r.table.0) × (e ≡ listed r p))
+        by : t ≡ r.table.0 → (slice_get (list_of ls r.table.0) has.0 ≡ Some e) ⊎ ((has.0 ≡ length (list_of ls r.table.0)) × (e ≡ listed r p)) →
+            Has (list_of ls t) e ⊎ ((t ≡ r.table.0) × (e ≡ listed r p))
         by at (inl there) = inl (has.0, ap (λ n. slice_get (list_of ls n) has.0) at ∙ there)
         by at (inr last) = inr (at, last.1)
     go false k = inl (has.0, ap (λ xs. slice_get xs has.0) (sym (h.others t (λ at. grind (arith, nat_tests, k, at)))) ∙ has.1)
@@ -170,7 +178,8 @@ begun es fs cs ds ls ms r p old h enters q n = (λ has. into (in_after ls ms r p
         false-true k = absurd cc
 
 -- where the record has that place before, too
-pub begun_again : (es : List (Rid × ℕ)) (cs ds : Places) (ls ms : List (List Listed)) (r : Rid) (p : ℕ) → IsIndex es → AreListed es cs ls → place_of es r ≡ Some p → length (list_at cs p) ≡ 0 → 0 < length (list_at ds p) → ListsStay p cs ds → Enters ls ms r p → AreListed es ds ms
+pub begun_again : (es : List (Rid × ℕ)) (cs ds : Places) (ls ms : List (List Listed)) (r : Rid) (p : ℕ) → IsIndex es → AreListed es cs ls → place_of es r ≡ Some p →
+    length (list_at cs p) ≡ 0 → 0 < length (list_at ds p) → ListsStay p cs ds → Enters ls ms r p → AreListed es ds ms
 begun_again es cs ds ls ms r p index old has was now stay enters = begun es es cs ds ls ms r p old (record {
   has = has;
   others = λ q apart. refl;
@@ -182,14 +191,16 @@ begun_again es cs ds ls ms r p index old has was now stay enters = begun es es c
 }) enters
 
 -- where its chain was empty, or else nothing
-pub may_enter : (es : List (Rid × ℕ)) (cs ds : Places) (ls ms : List (List Listed)) (r : Rid) (p : ℕ) → IsIndex es → AreListed es cs ls → place_of es r ≡ Some p → 0 < length (list_at ds p) → ListsStay p cs ds → OnTrue (length (list_at cs p) == 0) (Enters ls ms r p) → OnFalse (length (list_at cs p) == 0) (ms ≡ ls) → AreListed es ds ms
+pub may_enter : (es : List (Rid × ℕ)) (cs ds : Places) (ls ms : List (List Listed)) (r : Rid) (p : ℕ) → IsIndex es → AreListed es cs ls → place_of es r ≡ Some p →
+    0 < length (list_at ds p) → ListsStay p cs ds → OnTrue (length (list_at cs p) == 0) (Enters ls ms r p) → OnFalse (length (list_at cs p) == 0) (ms ≡ ls) → AreListed es ds ms
 may_enter es cs ds ls ms r p index old has now stay enters listed = go (length (list_at cs p) == 0) refl enters listed
   where
     go : (b : Bool) → (length (list_at cs p) == 0) ≡ b → OnTrue b (Enters ls ms r p) → OnFalse b (ms ≡ ls) → AreListed es ds ms
     go true e h k = begun_again es cs ds ls ms r p index old has (grind (arith, nat_tests, e)) now stay h
     go false e h k = subst (AreListed es ds) (sym k) (chain_stays es cs ds ls p old stay (grind (arith, nat_tests, e)) now)
 
-pub come_listed : (es fs : List (Rid × ℕ)) (cs ds : Places) (places seats : List Seat) (ls ms : List (List Listed)) (r : Rid) (p : ℕ) (w : Version) → AreListed es cs ls → Comes es fs cs ds places seats r p w → Enters ls ms r p → AreListed fs ds ms
+pub come_listed : (es fs : List (Rid × ℕ)) (cs ds : Places) (places seats : List Seat) (ls ms : List (List Listed)) (r : Rid) (p : ℕ) (w : Version) → AreListed es cs ls →
+    Comes es fs cs ds places seats r p w → Enters ls ms r p → AreListed fs ds ms
 come_listed es fs cs ds places seats ls ms r p w old h enters = begun es fs cs ds ls ms r p old (record {
   has = h.here;
   others = h.others;
@@ -206,7 +217,8 @@ has_entered ls ms r p vs bare h = subst (λ us. OnTrue (length us == 0) (Enters 
 
 -- ---- one leaves
 
-pub left_lists : (es : List (Rid × ℕ)) (cs ds : Places) (ls ms : List (List Listed)) (r : Rid) (p : ℕ) → IsIndex es → AreListed es cs ls → place_of es r ≡ Some p → length (list_at ds p) ≡ 0 → ListsStay p cs ds → Leaves ls ms r p → AreListed es ds ms
+pub left_lists : (es : List (Rid × ℕ)) (cs ds : Places) (ls ms : List (List Listed)) (r : Rid) (p : ℕ) → IsIndex es → AreListed es cs ls → place_of es r ≡ Some p →
+    length (list_at ds p) ≡ 0 → ListsStay p cs ds → Leaves ls ms r p → AreListed es ds ms
 left_lists es cs ds ls ms r p index old has bare stay h q n = (λ k. into (q.table.0 == r.table.0) refl k, λ k. out k (q.table.0 == r.table.0) refl)
   where
     there : Has (list_of ls q.table.0) (listed q n) → n ≢ p → (place_of es q ≡ Some n) × (0 < length (list_at ds n))
@@ -235,7 +247,8 @@ left_lists es cs ds ls ms r p index old has bare stay h q n = (λ k. into (q.tab
         by false e was = subst (λ xs. Has xs (listed q n)) (sym (h.others q.table.0 (λ at. grind (arith, nat_tests, e, at)))) was
 
 -- where its chain is empty, or else nothing
-pub may_leave : (es : List (Rid × ℕ)) (cs ds : Places) (ls ms : List (List Listed)) (r : Rid) (p : ℕ) → IsIndex es → AreListed es cs ls → place_of es r ≡ Some p → 0 < length (list_at cs p) → ListsStay p cs ds → OnTrue (length (list_at ds p) == 0) (Leaves ls ms r p) → OnFalse (length (list_at ds p) == 0) (ms ≡ ls) → AreListed es ds ms
+pub may_leave : (es : List (Rid × ℕ)) (cs ds : Places) (ls ms : List (List Listed)) (r : Rid) (p : ℕ) → IsIndex es → AreListed es cs ls → place_of es r ≡ Some p →
+    0 < length (list_at cs p) → ListsStay p cs ds → OnTrue (length (list_at ds p) == 0) (Leaves ls ms r p) → OnFalse (length (list_at ds p) == 0) (ms ≡ ls) → AreListed es ds ms
 may_leave es cs ds ls ms r p index old has was stay leaves listed = go (length (list_at ds p) == 0) refl leaves listed
   where
     go : (b : Bool) → (length (list_at ds p) == 0) ≡ b → OnTrue b (Leaves ls ms r p) → OnFalse b (ms ≡ ls) → AreListed es ds ms
@@ -243,7 +256,8 @@ may_leave es cs ds ls ms r p index old has was stay leaves listed = go (length (
     go false e h k = subst (AreListed es ds) (sym k) (chain_stays es cs ds ls p old stay was (grind (arith, nat_tests, e)))
 
 -- a record without a chain leaves the index
-pub unnamed_lists : (es fs : List (Rid × ℕ)) (cs : Places) (ls : List (List Listed)) (r : Rid) (p : ℕ) → AreListed es cs ls → place_of es r ≡ Some p → length (list_at cs p) ≡ 0 → place_of fs r ≡ None → ((q : Rid) → IsFalse (same_rid r q) → place_of fs q ≡ place_of es q) → AreListed fs cs ls
+pub unnamed_lists : (es fs : List (Rid × ℕ)) (cs : Places) (ls : List (List Listed)) (r : Rid) (p : ℕ) → AreListed es cs ls → place_of es r ≡ Some p → length (list_at cs p) ≡ 0 →
+    place_of fs r ≡ None → ((q : Rid) → IsFalse (same_rid r q) → place_of fs q ≡ place_of es q) → AreListed fs cs ls
 unnamed_lists es fs cs ls r p old has bare gone others q n = (λ k. into ((old q n).0 k) (same_rid r q) refl, λ k. (old q n).1 (was k.0 (same_rid r q) refl, k.1))
   where
     into : (place_of es q ≡ Some n) × (0 < length (list_at cs n)) → (b : Bool) → same_rid r q ≡ b → (place_of fs q ≡ Some n) × (0 < length (list_at cs n))
@@ -286,7 +300,8 @@ left_again ls ms bs r p h moved others t = go (t == r.table.0) refl
     xs = list_of ls r.table.0
 
     here : list_of bs r.table.0 ≡ list_of ls r.table.0
-    here = moved (length xs) (listed r p) (ap (λ ys. slice_get ys (length xs)) h.last ∙ get_last xs (listed r p)) refl ∙ ap (λ ys. swap_remove ys (length xs) (listed r p)) h.last ∙ swapped_last xs (listed r p)
+    here = moved (length xs) (listed r p) (ap (λ ys. slice_get ys (length xs)) h.last ∙ get_last xs (listed r p)) refl ∙ ap (λ ys. swap_remove ys (length xs) (listed r p)) h.last ∙
+        swapped_last xs (listed r p)
 
     go : (b : Bool) → (t == r.table.0) ≡ b → list_of bs t ≡ list_of ls t
     go true k = let at : t ≡ r.table.0 = grind (arith, nat_tests, k) in subst (λ n. list_of bs n ≡ list_of ls n) (sym at) here
@@ -329,7 +344,8 @@ pub seen_alike : (ls ms : List (List Listed)) → ((t : ℕ) → list_of ms t �
 seen_alike ls ms same = trimmed_same (map keys_of ms) (map keys_of ls) (λ t. keys_mapped ms t ∙ ap keys_of (same t) ∙ sym (keys_mapped ls t))
 
 -- the keys of a table's list are those of its records that have a chain
-pub all_long : (es : List (Rid × ℕ)) (cs : Places) (places : List Seat) (ls : List (List Listed)) (t : TableId) → AreWhole es cs places → AreListed es cs ls → StandOnce ls → AreLong (keys_in (longs_of ls) t) t (records_of es cs places)
+pub all_long : (es : List (Rid × ℕ)) (cs : Places) (places : List Seat) (ls : List (List Listed)) (t : TableId) → AreWhole es cs places → AreListed es cs ls → StandOnce ls →
+    AreLong (keys_in (longs_of ls) t) t (records_of es cs places)
 all_long es cs places ls t whole h once = subst (λ ks. AreLong ks t (records_of es cs places)) (sym (keys_seen ls t)) (record {
   once = λ i j k here there. both i j k (key_of (list_of ls t.0) i k here) (key_of (list_of ls t.0) j k there);
   long = λ at k there. let e = key_of (list_of ls t.0) at k there in let is = at_key e.0 k at e.1.0 e.1.1 in chained_long es cs places (record_at t k) e.0.place is.0 is.1;
@@ -345,7 +361,8 @@ all_long es cs places ls t whole h once = subst (λ ks. AreLong ks t (records_of
         let b = (at_key f.0 k j f.1.0 f.1.1).0 in
         (once t.0 t.0 i j e.0 f.0 e.1.0 f.1.0 (same_Some e.0.place f.0.place (sym a ∙ b))).1
 
-    short : (k : ℕ) → ((at : ℕ) → slice_get (keys_of (list_of ls t.0)) at ≡ Some k → ⊥) → (o : Option ℕ) → place_of es (record_at t k) ≡ o → IsShort (versions_of (records_of es cs places) (record_at t k))
+    short : (k : ℕ) → ((at : ℕ) → slice_get (keys_of (list_of ls t.0)) at ≡ Some k → ⊥) → (o : Option ℕ) → place_of es (record_at t k) ≡ o →
+        IsShort (versions_of (records_of es cs places) (record_at t k))
     short k none None e = absent_short es cs places (record_at t k) e
     short k none (Some p) e = bare_short es cs places (record_at t k) p whole e (bare (list_at cs p) refl)
       where
@@ -356,7 +373,9 @@ all_long es cs places ls t whole h once = subst (λ ks. AreLong ks t (records_of
             absurd (none has.0 (has_key (list_of ls t.0) has.0 (listed (record_at t k) p) has.1))
 
 -- where a record leaves its list, those in front of it stay
-pub front_keys : (es : List (Rid × ℕ)) (cs ds : Places) (ls ms : List (List Listed)) (r : Rid) (p : ℕ) → AreListed es cs ls → place_of es r ≡ Some p → OnTrue (length (list_at ds p) == 0) (Leaves ls ms r p) → OnFalse (length (list_at ds p) == 0) (ms ≡ ls) → (at : ℕ) → slice_get (keys_in (longs_of ls) r.table) at ≡ Some r.key → take at (keys_in (longs_of ms) r.table) ≡ take at (keys_in (longs_of ls) r.table)
+pub front_keys : (es : List (Rid × ℕ)) (cs ds : Places) (ls ms : List (List Listed)) (r : Rid) (p : ℕ) → AreListed es cs ls → place_of es r ≡ Some p →
+    OnTrue (length (list_at ds p) == 0) (Leaves ls ms r p) → OnFalse (length (list_at ds p) == 0) (ms ≡ ls) → (at : ℕ) → slice_get (keys_in (longs_of ls) r.table) at ≡ Some r.key →
+    take at (keys_in (longs_of ms) r.table) ≡ take at (keys_in (longs_of ls) r.table)
 front_keys es cs ds ls ms r p old has leaves listed at there = go (length (list_at ds p) == 0) leaves listed
   where
     e : (e : Listed) × ((slice_get (list_of ls r.table.0) at ≡ Some e) × (e.key ≡ r.key))
@@ -366,11 +385,13 @@ front_keys es cs ds ls ms r p old has leaves listed at there = go (length (list_
     is = same_Some e.0.place p (sym (of_list es cs ls r.table e.0 old (at, e.1.0)).0 ∙ ap (λ k. place_of es (record_at r.table k)) e.1.1 ∙ has)
 
     go : (b : Bool) → OnTrue b (Leaves ls ms r p) → OnFalse b (ms ≡ ls) → take at (keys_in (longs_of ms) r.table) ≡ take at (keys_in (longs_of ls) r.table)
-    go true h k = ap (take at) (keys_seen ms r.table) ∙ take_keys at (list_of ms r.table.0) ∙ ap keys_of (h.front at e.0 e.1.0 is) ∙ sym (take_keys at (list_of ls r.table.0)) ∙ ap (take at) (sym (keys_seen ls r.table))
+    go true h k = ap (take at) (keys_seen ms r.table) ∙ take_keys at (list_of ms r.table.0) ∙ ap keys_of (h.front at e.0 e.1.0 is) ∙ sym (take_keys at (list_of ls r.table.0)) ∙
+        ap (take at) (sym (keys_seen ls r.table))
     go false h k = ap (λ xs. take at (keys_in (longs_of xs) r.table)) k
 
 -- a record that a list has is found without the index: its place, and that it has a chain
-pub listed_at : (es : List (Rid × ℕ)) (cs : Places) (ls : List (List Listed)) (r : Rid) (p at : ℕ) → AreListed es cs ls → slice_get (keys_in (longs_of ls) r.table) at ≡ Some r.key → option_map (λ e. e.place) (slice_get (list_of ls r.table.0) at) ≡ Some p → (place_of es r ≡ Some p) × (0 < length (list_at cs p))
+pub listed_at : (es : List (Rid × ℕ)) (cs : Places) (ls : List (List Listed)) (r : Rid) (p at : ℕ) → AreListed es cs ls → slice_get (keys_in (longs_of ls) r.table) at ≡ Some r.key
+    → option_map (λ e. e.place) (slice_get (list_of ls r.table.0) at) ≡ Some p → (place_of es r ≡ Some p) × (0 < length (list_at cs p))
 listed_at es cs ls r p at h key place =
     let e = key_of (list_of ls r.table.0) at r.key (ap (λ ks. slice_get ks at) (sym (keys_seen ls r.table)) ∙ key) in
     let is : e.0.place ≡ p = same_Some e.0.place p (ap (λ (o : Option Listed). option_map (λ (e : Listed). e.place) o) (sym e.1.0) ∙ place) in

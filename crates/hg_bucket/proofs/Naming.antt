@@ -58,23 +58,29 @@ pub record Comes (es fs : List (Rid × ℕ)) (cs ds : Places) (places seats : Li
 come_at : (es fs : List (Rid × ℕ)) (cs ds : Places) (places seats : List Seat) (r : Rid) (p : ℕ) (w : Version) → Comes es fs cs ds places seats r p w → versions_at ds seats p ≡ kept w ∷ []
 come_at es fs cs ds places seats r p w h = λ i. whole (h.chain i) (ap (λ seat. image_at (seat ∷ []) 0) h.given.now i)
 
-come_apart : (es fs : List (Rid × ℕ)) (cs ds : Places) (places seats : List Seat) (r : Rid) (p : ℕ) (w : Version) → Comes es fs cs ds places seats r p w → (q : Rid) (n : ℕ) → place_of es q ≡ Some n → versions_at ds seats n ≡ versions_at cs places n
+come_apart : (es fs : List (Rid × ℕ)) (cs ds : Places) (places seats : List Seat) (r : Rid) (p : ℕ) (w : Version) → Comes es fs cs ds places seats r p w → (q : Rid) (n : ℕ) →
+    place_of es q ≡ Some n → versions_at ds seats n ≡ versions_at cs places n
 come_apart es fs cs ds places seats r p w h q n k = versions_stay cs ds places seats p n h.lists h.given.others (unnamed es cs places q n p h.old h.given.was k)
 
-pub come_here : (es fs : List (Rid × ℕ)) (cs ds : Places) (places seats : List Seat) (r : Rid) (p : ℕ) (w : Version) → Comes es fs cs ds places seats r p w → versions_of (records_of fs ds seats) r ≡ kept w ∷ []
+pub come_here : (es fs : List (Rid × ℕ)) (cs ds : Places) (places seats : List Seat) (r : Rid) (p : ℕ) (w : Version) → Comes es fs cs ds places seats r p w →
+    versions_of (records_of fs ds seats) r ≡ kept w ∷ []
 come_here es fs cs ds places seats r p w h = versions_there fs ds seats r p h.here ∙ come_at es fs cs ds places seats r p w h
 
-pub come_others : (es fs : List (Rid × ℕ)) (cs ds : Places) (places seats : List Seat) (r : Rid) (p : ℕ) (w : Version) → Comes es fs cs ds places seats r p w → OthersStay (records_of es cs places) (records_of fs ds seats) r
-come_others es fs cs ds places seats r p w h q apart = ap (λ o. unwrap_or o []) (found fs ds seats q ∙ ap (option_map (versions_at ds seats)) (h.others q apart) ∙ go (place_of es q) refl ∙ sym (found es cs places q))
+pub come_others : (es fs : List (Rid × ℕ)) (cs ds : Places) (places seats : List Seat) (r : Rid) (p : ℕ) (w : Version) → Comes es fs cs ds places seats r p w →
+    OthersStay (records_of es cs places) (records_of fs ds seats) r
+come_others es fs cs ds places seats r p w h q apart = ap (λ o. unwrap_or o []) (found fs ds seats q ∙ ap (option_map (versions_at ds seats)) (h.others q apart) ∙
+    go (place_of es q) refl ∙ sym (found es cs places q))
   where
     go : (o : Option ℕ) → place_of es q ≡ o → option_map (versions_at ds seats) o ≡ option_map (versions_at cs places) o
     go None k = refl
     go (Some n) k = ap Some (come_apart es fs cs ds places seats r p w h q n k)
 
-pub come_left : (es fs : List (Rid × ℕ)) (cs ds : Places) (places seats : List Seat) (r : Rid) (p : ℕ) (w : Version) → Comes es fs cs ds places seats r p w → left (records_of fs ds seats) ≡ left (records_of es cs places) + 1
+pub come_left : (es fs : List (Rid × ℕ)) (cs ds : Places) (places seats : List Seat) (r : Rid) (p : ℕ) (w : Version) → Comes es fs cs ds places seats r p w →
+    left (records_of fs ds seats) ≡ left (records_of es cs places) + 1
 come_left es fs cs ds places seats r p w h =
     let come = one_added (how_many ds seats) es r p h.new in
-    let stay = sums_alike (how_many ds seats) (how_many cs places) es (each_entry (λ e. how_many ds seats e ≡ how_many cs places e) es (distinct es h.index) (λ q n k. ap (λ vs. length vs) (come_apart es fs cs ds places seats r p w h q n k))) in
+    let stay = sums_alike (how_many ds seats) (how_many cs places) es (each_entry (λ e. how_many ds seats e ≡ how_many cs places e) es (distinct es h.index)
+    (λ q n k. ap (λ vs. length vs) (come_apart es fs cs ds places seats r p w h q n k))) in
     let here : how_many ds seats (r, p) ≡ 1 = ap (λ vs. length vs) (come_at es fs cs ds places seats r p w h) in
     ap (λ gs. left (records_of gs ds seats)) h.list ∙ omega (arith, left_is (insert_entry rid_cmp es r p) ds seats, left_is es cs places, come, stay, here)
 
@@ -83,9 +89,12 @@ come_whole es fs cs ds places seats r p w h =
     record {
       taken = λ q n k. taken q n k (same_rid r q) refl;
       named = λ n t. each_place (λ m. IsTaken seats m → (q : Rid) × (place_of fs q ≡ Some m)) p n (λ now. (r, h.here)) (λ apart now. owner n apart now) t;
-      chained = λ n long. each_place (IsTaken seats) p n (given_taken places seats p h.given) (λ apart. taken_again places seats p h.given.others n apart (old.chained n (subst (λ vs. 0 < length vs) (h.lists n apart) long)));
-      held = λ n all t. each_place (λ m. 0 < length (versions_at ds seats m)) p n long_here (λ apart. held_again cs ds places seats p h.lists h.given.others n apart (old.held n tt (before n apart t)));
-      falls = λ n t. each_place (λ m. Falls (list_at ds m) (image_at seats m)) p n falls_here (λ apart. falls_again cs ds places seats p h.lists h.given.others n apart (old.falls n (before n apart t)));
+      chained = λ n long. each_place (IsTaken seats) p n (given_taken places seats p h.given)
+          (λ apart. taken_again places seats p h.given.others n apart (old.chained n (subst (λ vs. 0 < length vs) (h.lists n apart) long)));
+      held = λ n all t. each_place (λ m. 0 < length (versions_at ds seats m)) p n long_here
+          (λ apart. held_again cs ds places seats p h.lists h.given.others n apart (old.held n tt (before n apart t)));
+      falls = λ n t. each_place (λ m. Falls (list_at ds m) (image_at seats m)) p n falls_here
+          (λ apart. falls_again cs ds places seats p h.lists h.given.others n apart (old.falls n (before n apart t)));
       fits = λ n t. each_place (λ m. m < 2 ^ 40) p n h.fits (λ apart. old.fits n (before n apart t));
     }
   where

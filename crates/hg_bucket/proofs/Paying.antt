@@ -38,14 +38,16 @@ one_hit t n e records k = go (same_rid (record_at t k) e.0) refl
 no_hit : (t : TableId) (n : ℕ) (e : Rid × List Kept) (records : List (Rid × List Kept)) (k : ℕ) → same_rid (record_at t k) e.0 ≡ false → key_cost t n (e ∷ records) k ≡ key_cost t n records k
 no_hit t n e records k h = ap (λ b. cost_of n (unwrap_or (cond b (Some e.1) (lookup (same_rid (record_at t k)) records)) [])) h
 
-none_hit : (t : TableId) (n : ℕ) (e : Rid × List Kept) (records : List (Rid × List Kept)) (keys : List ℕ) → ((at k : ℕ) → slice_get keys at ≡ Some k → same_rid (record_at t k) e.0 ≡ false) → keys_cost t n (e ∷ records) keys ≡ keys_cost t n records keys
+none_hit : (t : TableId) (n : ℕ) (e : Rid × List Kept) (records : List (Rid × List Kept)) (keys : List ℕ) →
+    ((at k : ℕ) → slice_get keys at ≡ Some k → same_rid (record_at t k) e.0 ≡ false) → keys_cost t n (e ∷ records) keys ≡ keys_cost t n records keys
 none_hit t n e records [] h = refl
 none_hit t n e records (k ∷ keys) h =
     let first = no_hit t n e records k (h 0 k refl) in
     let others = none_hit t n e records keys (λ at m there. h (suc at) m there) in
     omega (arith, first, others, sum_by-cons (key_cost t n (e ∷ records)) k keys, sum_by-cons (key_cost t n records) k keys)
 
-hit_once : (t : TableId) (n : ℕ) (e : Rid × List Kept) (records : List (Rid × List Kept)) (keys : List ℕ) → NoKeyTwice keys → keys_cost t n (e ∷ records) keys ≤ cost_at t 0 n e + keys_cost t n records keys
+hit_once : (t : TableId) (n : ℕ) (e : Rid × List Kept) (records : List (Rid × List Kept)) (keys : List ℕ) → NoKeyTwice keys →
+    keys_cost t n (e ∷ records) keys ≤ cost_at t 0 n e + keys_cost t n records keys
 hit_once t n e records [] once = omega arith
 hit_once t n e records (k ∷ keys) once = go (same_rid (record_at t k) e.0) refl (hit_once t n e records keys (once_behind k keys once))
   where
@@ -56,7 +58,8 @@ hit_once t n e records (k ∷ keys) once = go (same_rid (record_at t k) e.0) ref
         let twice = once (suc at) 0 m there (ap Some (sym same)) in
         absurd (omega (arith, twice))
 
-    go : (b : Bool) → same_rid (record_at t k) e.0 ≡ b → keys_cost t n (e ∷ records) keys ≤ cost_at t 0 n e + keys_cost t n records keys → keys_cost t n (e ∷ records) (k ∷ keys) ≤ cost_at t 0 n e + keys_cost t n records (k ∷ keys)
+    go : (b : Bool) → same_rid (record_at t k) e.0 ≡ b → keys_cost t n (e ∷ records) keys ≤ cost_at t 0 n e + keys_cost t n records keys →
+        keys_cost t n (e ∷ records) (k ∷ keys) ≤ cost_at t 0 n e + keys_cost t n records (k ∷ keys)
     go true h rest =
         let others = none_hit t n e records keys (λ at m there. other h at m there (same_rid (record_at t m) e.0) refl) in
         omega (arith, one_hit t n e records k, others, sum_by-cons (key_cost t n (e ∷ records)) k keys, sum_by-cons (key_cost t n records) k keys)
@@ -76,7 +79,8 @@ pub all_keys_paid : (t : TableId) (xs : List ℕ) (records : List (Rid × List K
 all_keys_paid t xs records keys once = omega (arith, from_all t (length xs) records keys once, all_paid t xs records)
 
 -- the last one of the first so many is paid for
-pub key_paid : (t : TableId) (n : ℕ) (records : List (Rid × List Kept)) (keys : List ℕ) (many l k : ℕ) → many ≡ l + 1 → slice_get keys l ≡ Some k → keys_cost t n records (take l keys) + key_cost t n records k ≡ keys_cost t n records (take many keys)
+pub key_paid : (t : TableId) (n : ℕ) (records : List (Rid × List Kept)) (keys : List ℕ) (many l k : ℕ) → many ≡ l + 1 → slice_get keys l ≡ Some k →
+    keys_cost t n records (take l keys) + key_cost t n records k ≡ keys_cost t n records (take many keys)
 key_paid t n records [] many l k is there = absurd (none-some k there)
 key_paid t n records (m ∷ keys) many zero k is there =
     let one : m ≡ k = same_Some m k there in
@@ -86,5 +90,6 @@ key_paid t n records (m ∷ keys) many zero k is there =
     first = omega (arith, sum_by-cons (key_cost t n records) m [])
 key_paid t n records (m ∷ keys) many (suc l) k is there =
     let rest = key_paid t n records keys (l + 1) l k refl there in
-    let more : keys_cost t n records (take (suc l) (m ∷ keys)) + key_cost t n records k ≡ keys_cost t n records (take (suc (l + 1)) (m ∷ keys)) = omega (arith, rest, sum_by-cons (key_cost t n records) m (take l keys), sum_by-cons (key_cost t n records) m (take (l + 1) keys)) in
+    let more : keys_cost t n records (take (suc l) (m ∷ keys)) + key_cost t n records k ≡ keys_cost t n records (take (suc (l + 1)) (m ∷ keys)) = omega
+    (arith, rest, sum_by-cons (key_cost t n records) m (take l keys), sum_by-cons (key_cost t n records) m (take (l + 1) keys)) in
     more ∙ ap (λ x. keys_cost t n records (take x (m ∷ keys))) (let same : suc (l + 1) ≡ many = omega (arith, is) in same)

@@ -25,7 +25,8 @@ told_of o e is = subst (λ o. IfSome o (λ x. Path (Result Bool WriteRefusal) (E
 pub told_nothing : (o : Option WriteRefusal) (answer : Result Bool WriteRefusal) → o ≡ None → IfSome o (λ x. answer ≡ Err x)
 told_nothing o answer is = subst (λ o. IfSome o (λ x. answer ≡ Err x)) (sym is) tt
 
-pub turned_down : (by : Writer) (image : Image) (snapshot mark : ℕ) (old new : List (Rid × List Kept)) (r : Rid) (e : WriteRefusal) → conflict by snapshot mark (versions_of old r) ≡ Some e → new ≡ old → Writes by image snapshot mark old new r (Err e)
+pub turned_down : (by : Writer) (image : Image) (snapshot mark : ℕ) (old new : List (Rid × List Kept)) (r : Rid) (e : WriteRefusal) →
+    conflict by snapshot mark (versions_of old r) ≡ Some e → new ≡ old → Writes by image snapshot mark old new r (Err e)
 turned_down by image snapshot mark old new r e is same = record {
   refusal = told_of (conflict by snapshot mark (versions_of old r)) e is;
   cause = cause_of by snapshot mark (versions_of old r) e is;
@@ -36,7 +37,8 @@ turned_down by image snapshot mark old new r e is same = record {
   refused = same;
 }
 
-pub starved : (by : Writer) (image : Image) (snapshot mark : ℕ) (old new : List (Rid × List Kept)) (r : Rid) → conflict by snapshot mark (versions_of old r) ≡ None → IsFalse (begins_open by (versions_of old r)) → new ≡ old → Writes by image snapshot mark old new r (Err NoMemory)
+pub starved : (by : Writer) (image : Image) (snapshot mark : ℕ) (old new : List (Rid × List Kept)) (r : Rid) → conflict by snapshot mark (versions_of old r) ≡ None →
+    IsFalse (begins_open by (versions_of old r)) → new ≡ old → Writes by image snapshot mark old new r (Err NoMemory)
 starved by image snapshot mark old new r free closed same =
     let none = no_conflict by snapshot mark (versions_of old r) free in record {
       refusal = told_nothing (conflict by snapshot mark (versions_of old r)) (Err NoMemory) free;
@@ -50,7 +52,9 @@ starved by image snapshot mark old new r free closed same =
 
 -- ---- a version that is stored
 
-pub stores : (by : Writer) (image : Image) (snapshot mark : ℕ) (es fs : List (Rid × ℕ)) (cs ds : Places) (places seats : List Seat) (r : Rid) (added : Bool) → Installs es fs cs ds places seats r by image → conflict by snapshot mark (versions_of (records_of es cs places) r) ≡ None → added ≡ not (begins_open by (versions_of (records_of es cs places) r)) → Writes by image snapshot mark (records_of es cs places) (records_of fs ds seats) r (Ok added)
+pub stores : (by : Writer) (image : Image) (snapshot mark : ℕ) (es fs : List (Rid × ℕ)) (cs ds : Places) (places seats : List Seat) (r : Rid) (added : Bool) →
+    Installs es fs cs ds places seats r by image → conflict by snapshot mark (versions_of (records_of es cs places) r) ≡ None →
+    added ≡ not (begins_open by (versions_of (records_of es cs places) r)) → Writes by image snapshot mark (records_of es cs places) (records_of fs ds seats) r (Ok added)
 stores by image snapshot mark es fs cs ds places seats r added i free is = record {
   refusal = told_nothing (conflict by snapshot mark (versions_of (records_of es cs places) r)) (Ok added) free;
   cause = tt;
@@ -62,7 +66,8 @@ stores by image snapshot mark es fs cs ds places seats r added i free is = recor
 }
 
 -- the first of a record
-pub begins : (by : Writer) (image : Image) (snapshot mark : ℕ) (old new : List (Rid × List Kept)) (r : Rid) → versions_of old r ≡ [] → versions_of new r ≡ open_write by image ∷ [] → OthersStay old new r → left new ≡ left old + 1 → Writes by image snapshot mark old new r (Ok true)
+pub begins : (by : Writer) (image : Image) (snapshot mark : ℕ) (old new : List (Rid × List Kept)) (r : Rid) → versions_of old r ≡ [] → versions_of new r ≡ open_write by image ∷ []
+    → OthersStay old new r → left new ≡ left old + 1 → Writes by image snapshot mark old new r (Ok true)
 begins by image snapshot mark old new r bare here others more = record {
   refusal = told_nothing (conflict by snapshot mark (versions_of old r)) (Ok true) (ap (conflict by snapshot mark) bare);
   cause = tt;

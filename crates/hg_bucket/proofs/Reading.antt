@@ -29,7 +29,8 @@ pub found : (es : List (Rid × ℕ)) (cs : Places) (places : List Seat) (r : Rid
 found [] cs places r = refl
 found (e ∷ es) cs places r = go (same_rid r e.0) (found es cs places r)
   where
-    go : (b : Bool) → lookup (same_rid r) (records_of es cs places) ≡ option_map (versions_at cs places) (place_of es r) → cond b (Some (versions_at cs places e.1)) (lookup (same_rid r) (records_of es cs places)) ≡ option_map (versions_at cs places) (cond b (Some e.1) (place_of es r))
+    go : (b : Bool) → lookup (same_rid r) (records_of es cs places) ≡ option_map (versions_at cs places) (place_of es r) →
+        cond b (Some (versions_at cs places e.1)) (lookup (same_rid r) (records_of es cs places)) ≡ option_map (versions_at cs places) (cond b (Some e.1) (place_of es r))
     go true rest = refl
     go false rest = rest
 
@@ -65,11 +66,13 @@ abbrev pub shown : Option Kept → Option Image
 shown o = option_map (λ v. v.image) o
 
 -- the first of a chain with an oldest image behind it that passes a test
-pub find_whole : (p : Kept → Bool) (q : Version → Bool) → ((v : Version) → p (kept v) ≡ q v) → (vs : List Version) (im : Oldest) → shown (find p (whole vs im)) ≡ option_or (option_map (λ v. v.image) (find q vs)) (shown (find p (option_to_list (option_map oldest im))))
+pub find_whole : (p : Kept → Bool) (q : Version → Bool) → ((v : Version) → p (kept v) ≡ q v) → (vs : List Version) (im : Oldest) →
+    shown (find p (whole vs im)) ≡ option_or (option_map (λ v. v.image) (find q vs)) (shown (find p (option_to_list (option_map oldest im))))
 find_whole p q same [] im = refl
 find_whole p q same (v ∷ vs) im = go (p (kept v)) (q v) (same v) (find_whole p q same vs im)
   where
-    go : (a b : Bool) → a ≡ b → shown (find p (whole vs im)) ≡ option_or (option_map (λ v. v.image) (find q vs)) (shown (find p (option_to_list (option_map oldest im)))) → shown (cond a (Some (kept v)) (find p (whole vs im))) ≡ option_or (option_map (λ v. v.image) (cond b (Some v) (find q vs))) (shown (find p (option_to_list (option_map oldest im))))
+    go : (a b : Bool) → a ≡ b → shown (find p (whole vs im)) ≡ option_or (option_map (λ v. v.image) (find q vs)) (shown (find p (option_to_list (option_map oldest im)))) →
+        shown (cond a (Some (kept v)) (find p (whole vs im))) ≡ option_or (option_map (λ v. v.image) (cond b (Some v) (find q vs))) (shown (find p (option_to_list (option_map oldest im))))
     go true true e rest = shows v.stamp v.image
       where
         shows : (s : Stamp) (image : Image) → shown (Some (kept_as s image)) ≡ Some image
@@ -107,12 +110,14 @@ pub read_whole : (own : Writer) (at : ℕ) (vs : List Version) (im : Oldest) →
 read_whole own at vs im =
     shown_or (find (is_open_by own) (whole vs im)) (find (is_at_most at) (whole vs im))
     ∙ (λ i. option_or
-    ((find_whole (is_open_by own) (chain.is_written_by own) (λ v. open_kept own v.stamp v.image) vs im ∙ ap (option_or (chain.image_by own vs)) (oldest_not_open own im) ∙ or_none (chain.image_by own vs)) i)
+    ((find_whole (is_open_by own) (chain.is_written_by own) (λ v. open_kept own v.stamp v.image) vs im ∙ ap (option_or (chain.image_by own vs)) (oldest_not_open own im) ∙
+    or_none (chain.image_by own vs)) i)
     ((find_whole (is_at_most at) (chain.is_at_most at) (λ v. at_most_kept at v.stamp v.image) vs im ∙ ap (option_or (chain.image_at at vs)) (oldest_seen at im)) i))
     ∙ or_assoc (chain.image_by own vs) (chain.image_at at vs) (oldest_by at im)
 
 -- of a record that has a place, and of one that has none
-pub read_there : (es : List (Rid × ℕ)) (cs : Places) (places : List Seat) (r : Rid) (p : ℕ) (own : Writer) (at : ℕ) → place_of es r ≡ Some p → read_at own at (versions_of (records_of es cs places) r) ≡ option_or (option_or (chain.image_by own (list_at cs p)) (chain.image_at at (list_at cs p))) (oldest_by at (image_at places p))
+pub read_there : (es : List (Rid × ℕ)) (cs : Places) (places : List Seat) (r : Rid) (p : ℕ) (own : Writer) (at : ℕ) → place_of es r ≡ Some p →
+    read_at own at (versions_of (records_of es cs places) r) ≡ option_or (option_or (chain.image_by own (list_at cs p)) (chain.image_at at (list_at cs p))) (oldest_by at (image_at places p))
 read_there es cs places r p own at h =
     ap (read_at own at) (versions_there es cs places r p h) ∙ read_whole own at (list_at cs p) (image_at places p)
 

@@ -22,7 +22,8 @@ cause_of by snapshot mark vs e h = go (holder by mark vs) (newer snapshot vs) re
 pub no_conflict : (by : Writer) (snapshot mark : ℕ) (vs : List Kept) → conflict by snapshot mark vs ≡ None → (holder by mark vs ≡ None) × (newer snapshot vs ≡ None)
 no_conflict by snapshot mark vs h = go (holder by mark vs) (newer snapshot vs) refl refl h
   where
-    go : (w : Option Writer) (n : Option ℕ) → holder by mark vs ≡ w → newer snapshot vs ≡ n → option_or (option_map open_by w) (option_map Newer n) ≡ None → (holder by mark vs ≡ None) × (newer snapshot vs ≡ None)
+    go : (w : Option Writer) (n : Option ℕ) → holder by mark vs ≡ w → newer snapshot vs ≡ n → option_or (option_map open_by w) (option_map Newer n) ≡ None →
+        (holder by mark vs ≡ None) × (newer snapshot vs ≡ None)
     go (Some w) n a b k = absurd (none-some (open_by w) (sym k))
     go None (Some n) a b k = absurd (none-some (Newer n) (sym k))
     go None None a b k = (a, b)
@@ -36,7 +37,8 @@ own_is_free by snapshot mark (v ∷ vs) h = one v.number v.by v.image h
     go true w k = refl
     go false w k = absurd cc
 
-    one : (n : Option ℕ) (w : Option Writer) (image : Image) → IsTrue (is_open_by by (record { number = n; by = w; image = image })) → conflict by snapshot mark (record { number = n; by = w; image = image } ∷ vs) ≡ None
+    one : (n : Option ℕ) (w : Option Writer) (image : Image) → IsTrue (is_open_by by (record { number = n; by = w; image = image })) →
+        conflict by snapshot mark (record { number = n; by = w; image = image } ∷ vs) ≡ None
     one (Some n) w image k = absurd (let j = k in cc)
     one None w image k = go (unwrap_or (option_map (λ x. same_writer x by) w) false) w k
 
@@ -64,14 +66,16 @@ pub told_none : {X Y E : Type 0} (o : Option E) (r : Result X E) (s : Result Y E
 told_none None r s x a h = tt
 told_none (Some e) r s x a h = absurd (let k = sym a ∙ h in cc)
 
-pub told_open : {X : Type 0} (by : Writer) (snapshot mark : ℕ) (vs : List Kept) (r : Result X WriteRefusal) → IfSome (conflict by snapshot mark vs) (λ e. r ≡ Err e) → IfSome (holder by mark vs) (λ w. r ≡ Err (open_by w))
+pub told_open : {X : Type 0} (by : Writer) (snapshot mark : ℕ) (vs : List Kept) (r : Result X WriteRefusal) → IfSome (conflict by snapshot mark vs) (λ e. r ≡ Err e) →
+    IfSome (holder by mark vs) (λ w. r ≡ Err (open_by w))
 told_open by snapshot mark vs r h = go (holder by mark vs) h
   where
     go : (w : Option Writer) → IfSome (option_or (option_map open_by w) (option_map Newer (newer snapshot vs))) (λ e. r ≡ Err e) → IfSome w (λ w. r ≡ Err (open_by w))
     go None k = tt
     go (Some w) k = k
 
-pub told_newer : {X : Type 0} (by : Writer) (snapshot mark : ℕ) (vs : List Kept) (r : Result X WriteRefusal) → IfSome (conflict by snapshot mark vs) (λ e. r ≡ Err e) → holder by mark vs ≡ None → IfSome (newer snapshot vs) (λ n. r ≡ Err (Newer n))
+pub told_newer : {X : Type 0} (by : Writer) (snapshot mark : ℕ) (vs : List Kept) (r : Result X WriteRefusal) → IfSome (conflict by snapshot mark vs) (λ e. r ≡ Err e) →
+    holder by mark vs ≡ None → IfSome (newer snapshot vs) (λ n. r ≡ Err (Newer n))
 told_newer by snapshot mark vs r h none = go (newer snapshot vs) (subst (λ w. IfSome (option_or (option_map open_by w) (option_map Newer (newer snapshot vs))) (λ e. r ≡ Err e)) none h)
   where
     go : (n : Option ℕ) → IfSome (option_or None (option_map Newer n)) (λ e. r ≡ Err e) → IfSome n (λ n. r ≡ Err (Newer n))

@@ -22,7 +22,8 @@ pub record Rounds (Done : List Kept → List Kept → Type 0) (t : TableId) (key
   pub others : (q : Rid) → (q.table ≡ t → ⊥) → versions_of now q ≡ versions_of old q
   pub left : left now + gone ≡ left old
 
-pub round_begins : (Done : List Kept → List Kept → Type 0) (t : TableId) (keys : List ℕ) (old : List (Rid × List Kept)) → KeepsShort Done → AreLong keys t old → Rounds Done t keys old old (length keys) 0
+pub round_begins : (Done : List Kept → List Kept → Type 0) (t : TableId) (keys : List ℕ) (old : List (Rid × List Kept)) → KeepsShort Done → AreLong keys t old →
+    Rounds Done t keys old old (length keys) 0
 round_begins Done t keys old keeps h = record {
   done = λ k past. keeps (versions_of old (record_at t k)) (h.rest k (λ at there. past at (slice_get_within keys at k there) there));
   rest = λ at k within there. refl;
@@ -31,11 +32,13 @@ round_begins Done t keys old keeps h = record {
 }
 
 -- the key at l, which is the last of those to come, is done
-pub round_goes : (Done : List Kept → List Kept → Type 0) (t : TableId) (keys : List ℕ) (old now new : List (Rid × List Kept)) (many l k gone more : ℕ) → many ≡ l + 1 → NoKeyTwice keys → slice_get keys l ≡ Some k → Rounds Done t keys old now many gone
+pub round_goes : (Done : List Kept → List Kept → Type 0) (t : TableId) (keys : List ℕ) (old now new : List (Rid × List Kept)) (many l k gone more : ℕ) → many ≡ l + 1 →
+    NoKeyTwice keys → slice_get keys l ≡ Some k → Rounds Done t keys old now many gone
     → Done (versions_of now (record_at t k)) (versions_of new (record_at t k)) → OthersStay now new (record_at t k) → left new + more ≡ left now → Rounds Done t keys old new l (gone + more)
 round_goes Done t keys old now new many l k gone more is once there h here others count = record {
   done = λ m past. done m past (k == m) refl;
-  rest = λ at m less where_m. others (record_at t m) (keys_apart t k m (λ same. let both = once l at k there (where_m ∙ ap Some (sym same)) in omega (arith, less, both))) ∙ h.rest at m (omega (arith, is, less)) where_m;
+  rest = λ at m less where_m. others (record_at t m) (keys_apart t k m (λ same. let both = once l at k there (where_m ∙ ap Some (sym same)) in omega (arith, less, both))) ∙
+      h.rest at m (omega (arith, is, less)) where_m;
   others = λ q apart. others q (tables_apart t k q apart) ∙ h.others q apart;
   left = omega (arith, count, h.left);
 }
@@ -55,7 +58,8 @@ round_goes Done t keys old now new many l k gone more is once there h here other
         let apart : k ≡ m → ⊥ = λ same. grind (arith, nat_tests, e, same) in
         subst (Done (versions_of old (record_at t m))) (sym (others (record_at t m) (keys_apart t k m apart))) (h.done m (still m past apart))
 
-pub round_ends : (Done : List Kept → List Kept → Type 0) (t : TableId) (keys : List ℕ) (old now : List (Rid × List Kept)) (gone : ℕ) → Rounds Done t keys old now 0 gone → (k : ℕ) → Done (versions_of old (record_at t k)) (versions_of now (record_at t k))
+pub round_ends : (Done : List Kept → List Kept → Type 0) (t : TableId) (keys : List ℕ) (old now : List (Rid × List Kept)) (gone : ℕ) → Rounds Done t keys old now 0 gone → (k : ℕ) →
+    Done (versions_of old (record_at t k)) (versions_of now (record_at t k))
 round_ends Done t keys old now gone h k = h.done k (λ at less there. absurd (omega (arith, less)))
 
 -- ---- the list itself, from which each record that isn't long any more has left

@@ -70,7 +70,8 @@ appended_apart [] (suc q) x h = refl
 appended_apart (y ∷ places) zero x h = refl
 appended_apart (y ∷ places) (suc q) x h = appended_apart places q x (λ e. h (ap suc e))
 
-pub given : (places seats : List Seat) (p : ℕ) → OnTrue (has_free places) (slice_get places p ≡ Some free) → OnFalse (has_free places) (p ≡ length places) → seats ≡ cond (has_free places) (set places p (taken None)) (places ++ taken None ∷ []) → IsGiven places seats p
+pub given : (places seats : List Seat) (p : ℕ) → OnTrue (has_free places) (slice_get places p ≡ Some free) → OnFalse (has_free places) (p ≡ length places) →
+    seats ≡ cond (has_free places) (set places p (taken None)) (places ++ taken None ∷ []) → IsGiven places seats p
 given places seats p was_free is_added is_set = subst (λ ps. IsGiven places ps p) (sym is_set) (go (has_free places) was_free is_added)
   where
     go : (any : Bool) → OnTrue any (slice_get places p ≡ Some free) → OnFalse any (p ≡ length places) → IsGiven places (cond any (set places p (taken None)) (places ++ taken None ∷ [])) p

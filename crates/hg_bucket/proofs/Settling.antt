@@ -41,13 +41,16 @@ settled_short {vs} h = record { one = one vs h; cut = λ bound. settled_cut boun
     one (v ∷ w ∷ vs) h = absurd h
 
 -- a record that has no chain is short, and one that has one is long
-pub bare_short : (es : List (Rid × ℕ)) (cs : Places) (places : List Seat) (r : Rid) (p : ℕ) → AreWhole es cs places → place_of es r ≡ Some p → list_at cs p ≡ [] → IsShort (versions_of (records_of es cs places) r)
-bare_short es cs places r p h has bare = settled_short (subst IsSettled (sym (versions_there es cs places r p has ∙ ap (λ vs. whole vs (image_at places p)) bare)) (oldest_settled (image_at places p) (h.falls p (h.taken r p has)).row))
+pub bare_short : (es : List (Rid × ℕ)) (cs : Places) (places : List Seat) (r : Rid) (p : ℕ) → AreWhole es cs places → place_of es r ≡ Some p → list_at cs p ≡ [] →
+    IsShort (versions_of (records_of es cs places) r)
+bare_short es cs places r p h has bare = settled_short (subst IsSettled (sym (versions_there es cs places r p has ∙ ap (λ vs. whole vs (image_at places p)) bare))
+    (oldest_settled (image_at places p) (h.falls p (h.taken r p has)).row))
 
 pub absent_short : (es : List (Rid × ℕ)) (cs : Places) (places : List Seat) (r : Rid) → place_of es r ≡ None → IsShort (versions_of (records_of es cs places) r)
 absent_short es cs places r none = settled_short (subst IsSettled (sym (no_versions es cs places r none)) tt)
 
-pub chained_long : (es : List (Rid × ℕ)) (cs : Places) (places : List Seat) (r : Rid) (p : ℕ) → place_of es r ≡ Some p → 0 < length (list_at cs p) → is_long (versions_of (records_of es cs places) r) ≡ true
+pub chained_long : (es : List (Rid × ℕ)) (cs : Places) (places : List Seat) (r : Rid) (p : ℕ) → place_of es r ≡ Some p → 0 < length (list_at cs p) →
+    is_long (versions_of (records_of es cs places) r) ≡ true
 chained_long es cs places r p has some = ap is_long (versions_there es cs places r p has) ∙ long (list_at cs p) (image_at places p) some
   where
     long : (vs : List Version) (im : Oldest) → 0 < length vs → is_long (whole vs im) ≡ true
@@ -55,12 +58,21 @@ chained_long es cs places r p has some = ap is_long (versions_there es cs places
     long (v ∷ vs) im less = whole_long v vs im
 
 -- a record whose chain has one version, and that has no oldest image
-pub lone : (es : List (Rid × ℕ)) (cs : Places) (places : List Seat) (r : Rid) (p : ℕ) → place_of es r ≡ Some p → length (list_at cs p) ≡ 1 → is_some (image_at places p) ≡ false → length (versions_of (records_of es cs places) r) ≤ 1
-lone es cs places r p has one none = omega (arith, one, ap (λ vs. length vs) (versions_there es cs places r p has), whole_sum (list_at cs p) (image_at places p), ap (λ im. length (option_to_list im)) (no_image (image_at places p) none))
+pub lone : (es : List (Rid × ℕ)) (cs : Places) (places : List Seat) (r : Rid) (p : ℕ) → place_of es r ≡ Some p → length (list_at cs p) ≡ 1 → is_some (image_at places p) ≡ false →
+    length (versions_of (records_of es cs places) r) ≤ 1
+lone es cs places r p has one none = omega (
+  arith,
+  one,
+  ap (λ vs. length vs) (versions_there es cs places r p has),
+  whole_sum (list_at cs p) (image_at places p),
+  ap
+      (λ im. length (option_to_list im)) (no_image (image_at places p) none),
+)
 
 -- ---- a record of the index has a version
 
-pub some_at : (es : List (Rid × ℕ)) (cs : Places) (places : List Seat) (t : TableId) (from : ℕ) (found : Option ℕ) → AreWhole es cs places → IsNextKey (records_of es cs places) t from found → IfSome found (λ k. 0 < length (versions_of (records_of es cs places) (record_at t k)))
+pub some_at : (es : List (Rid × ℕ)) (cs : Places) (places : List Seat) (t : TableId) (from : ℕ) (found : Option ℕ) → AreWhole es cs places →
+    IsNextKey (records_of es cs places) t from found → IfSome found (λ k. 0 < length (versions_of (records_of es cs places) (record_at t k)))
 some_at es cs places t from None h next = tt
 some_at es cs places t from (Some k) h next = go (place_of es (record_at t k)) refl (sym (there es cs places (record_at t k)) ∙ next.1)
   where

@@ -21,7 +21,8 @@ pub record OpenAt (by : Writer) (es : List (Rid × ℕ)) (cs : Places) (places :
   pub begins : IsTrue (chain.is_open_by by (list_at cs p))
   pub there : versions_of (records_of es cs places) r ≡ versions_at cs places p
 
-pub open_at : (by : Writer) (es : List (Rid × ℕ)) (cs : Places) (places : List Seat) (r : Rid) (p : ℕ) → place_of es r ≡ Some p → IsTrue (begins_open by (versions_of (records_of es cs places) r)) → OpenAt by es cs places r p
+pub open_at : (by : Writer) (es : List (Rid × ℕ)) (cs : Places) (places : List Seat) (r : Rid) (p : ℕ) → place_of es r ≡ Some p →
+    IsTrue (begins_open by (versions_of (records_of es cs places) r)) → OpenAt by es cs places r p
 open_at by es cs places r p has asked =
     let there = versions_there es cs places r p has in
     record {
@@ -38,7 +39,9 @@ pub record Stamps (es : List (Rid × ℕ)) (cs ds : Places) (places : List Seat)
   pub others : OthersStay (records_of es cs places) (records_of es ds places) r
   pub left : left (records_of es ds places) ≡ left (records_of es cs places)
 
-pub stamps : (es : List (Rid × ℕ)) (cs ds : Places) (places : List Seat) (r : Rid) (p : ℕ) (by : Writer) (n : ℕ) → IsIndex es → AreWhole es cs places → place_of es r ≡ Some p → IsTrue (begins_open by (versions_of (records_of es cs places) r)) → Each (IsBelow n) (drop 1 (versions_of (records_of es cs places) r)) → list_at ds p ≡ chain.stamped by n (list_at cs p) → ListsStay p cs ds → Stamps es cs ds places r by n
+pub stamps : (es : List (Rid × ℕ)) (cs ds : Places) (places : List Seat) (r : Rid) (p : ℕ) (by : Writer) (n : ℕ) → IsIndex es → AreWhole es cs places → place_of es r ≡ Some p →
+    IsTrue (begins_open by (versions_of (records_of es cs places) r)) → Each (IsBelow n) (drop 1 (versions_of (records_of es cs places) r)) →
+    list_at ds p ≡ chain.stamped by n (list_at cs p) → ListsStay p cs ds → Stamps es cs ds places r by n
 stamps es cs ds places r p by n index old has open_write over is lists =
     let at = open_at by es cs places r p has open_write in
     let vs = list_at cs p in
@@ -76,7 +79,8 @@ pub record Undoes (es : List (Rid × ℕ)) (cs ds : Places) (places : List Seat)
   pub others : OthersStay (records_of es cs places) (records_of es ds places) r
   pub left : left (records_of es ds places) + 1 ≡ left (records_of es cs places)
 
-pub undoes : (es : List (Rid × ℕ)) (cs ds : Places) (places : List Seat) (r : Rid) (p : ℕ) (by : Writer) → IsIndex es → AreWhole es cs places → place_of es r ≡ Some p → IsTrue (begins_open by (versions_of (records_of es cs places) r)) → list_at ds p ≡ drop 1 (list_at cs p) → ListsStay p cs ds → Undoes es cs ds places r p
+pub undoes : (es : List (Rid × ℕ)) (cs ds : Places) (places : List Seat) (r : Rid) (p : ℕ) (by : Writer) → IsIndex es → AreWhole es cs places → place_of es r ≡ Some p →
+    IsTrue (begins_open by (versions_of (records_of es cs places) r)) → list_at ds p ≡ drop 1 (list_at cs p) → ListsStay p cs ds → Undoes es cs ds places r p
 undoes es cs ds places r p by index old has open_write is lists =
     let at = open_at by es cs places r p has open_write in
     let vs = list_at cs p in

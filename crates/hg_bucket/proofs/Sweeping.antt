@@ -38,10 +38,13 @@ row_left : (im : Oldest) (b : Bool) → IsRow im → IsRow (less_base b im)
 row_left im true row = tt
 row_left im false row = row
 
-pub sweeps : (horizon : ℕ) (xs : List ℕ) (es : List (Rid × ℕ)) (cs ds : Places) (places seats : List Seat) (r : Rid) (p : ℕ) (b : Bool) (gone : ℕ) → AreWhole es cs places → IsSweep horizon xs (list_at cs p) (image_at places p) b gone → Turns es cs ds places seats r p (chain.swept horizon xs (list_at cs p)) (less_base b (image_at places p)) → Sweeps horizon xs es cs ds places seats r (gone + cond {A = ℕ} b 1 0)
+pub sweeps : (horizon : ℕ) (xs : List ℕ) (es : List (Rid × ℕ)) (cs ds : Places) (places seats : List Seat) (r : Rid) (p : ℕ) (b : Bool) (gone : ℕ) → AreWhole es cs places →
+    IsSweep horizon xs (list_at cs p) (image_at places p) b gone → Turns es cs ds places seats r p (chain.swept horizon xs (list_at cs p)) (less_base b (image_at places p)) →
+    Sweeps horizon xs es cs ds places seats r (gone + cond {A = ℕ} b 1 0)
 sweeps horizon xs es cs ds places seats r p b gone old s turns =
     record {
-      whole = turned_whole es cs ds places seats r p ws to old turns (record { over = swept_over horizon xs vs im b falls.over; row = row_left im b falls.row }) (subst (λ us. 0 < length us) (sym here ∙ now) some);
+      whole = turned_whole es cs ds places seats r p ws to old turns (record { over = swept_over horizon xs vs im b falls.over; row = row_left im b falls.row })
+          (subst (λ us. 0 < length us) (sym here ∙ now) some);
       here = here;
       clean = subst (IsClean horizon xs) (sym now) (whole_clean horizon xs ws im b s.clean s.base_clean);
       others = turned_others es cs ds places seats r p ws to turns;
@@ -81,7 +84,9 @@ sweeps horizon xs es cs ds places seats r p b gone old s turns =
     many = ap (λ g. length (whole ws to) + (g + cond {A = ℕ} b 1 0)) s.many ∙ swept_gone horizon xs vs im b s.base
 
 -- the oldest image stays
-pub keeps : (horizon : ℕ) (xs : List ℕ) (es : List (Rid × ℕ)) (cs ds : Places) (places : List Seat) (r : Rid) (p : ℕ) (b : Bool) (gone : ℕ) → IsIndex es → AreWhole es cs places → place_of es r ≡ Some p → list_at ds p ≡ chain.swept horizon xs (list_at cs p) → ListsStay p cs ds → IsSweep horizon xs (list_at cs p) (image_at places p) b gone → not b ≡ true → Sweeps horizon xs es cs ds places places r gone
+pub keeps : (horizon : ℕ) (xs : List ℕ) (es : List (Rid × ℕ)) (cs ds : Places) (places : List Seat) (r : Rid) (p : ℕ) (b : Bool) (gone : ℕ) → IsIndex es → AreWhole es cs places →
+    place_of es r ≡ Some p → list_at ds p ≡ chain.swept horizon xs (list_at cs p) → ListsStay p cs ds → IsSweep horizon xs (list_at cs p) (image_at places p) b gone →
+    not b ≡ true → Sweeps horizon xs es cs ds places places r gone
 keeps horizon xs es cs ds places r p b gone index old has is lists s k =
     let e = not_true b k in
     let ws = chain.swept horizon xs (list_at cs p) in
@@ -91,7 +96,9 @@ keeps horizon xs es cs ds places r p b gone index old has is lists s k =
     subst (Sweeps horizon xs es cs ds places places r) many (sweeps horizon xs es cs ds places places r p b gone old s turns)
 
 -- it goes too
-pub drops : (horizon : ℕ) (xs : List ℕ) (es : List (Rid × ℕ)) (cs ds : Places) (places seats : List Seat) (r : Rid) (p : ℕ) (b : Bool) (gone : ℕ) → IsIndex es → AreWhole es cs places → place_of es r ≡ Some p → list_at ds p ≡ chain.swept horizon xs (list_at cs p) → ListsStay p cs ds → IsSweep horizon xs (list_at cs p) (image_at places p) b gone → not b ≡ false → seats ≡ set places p (taken None) → Sweeps horizon xs es cs ds places seats r (gone + 1)
+pub drops : (horizon : ℕ) (xs : List ℕ) (es : List (Rid × ℕ)) (cs ds : Places) (places seats : List Seat) (r : Rid) (p : ℕ) (b : Bool) (gone : ℕ) → IsIndex es →
+    AreWhole es cs places → place_of es r ≡ Some p → list_at ds p ≡ chain.swept horizon xs (list_at cs p) → ListsStay p cs ds →
+    IsSweep horizon xs (list_at cs p) (image_at places p) b gone → not b ≡ false → seats ≡ set places p (taken None) → Sweeps horizon xs es cs ds places seats r (gone + 1)
 drops horizon xs es cs ds places seats r p b gone index old has is lists s k seated =
     let e = not_false b k in
     let ws = chain.swept horizon xs (list_at cs p) in
@@ -101,7 +108,9 @@ drops horizon xs es cs ds places seats r p b gone index old has is lists s k sea
     subst (Sweeps horizon xs es cs ds places seats r) many (sweeps horizon xs es cs ds places seats r p b gone old s turns)
 
 -- by what the chain's sweep says of the oldest image's number
-pub says : (horizon : ℕ) (xs : List ℕ) (vs : List Version) (im : Oldest) (base : Option ℕ) (b : Bool) (gone : ℕ) → base ≡ base_of im → b ≡ goes horizon xs (last_number vs) base → gone ≡ swept_away horizon xs vs → chain.IsClean horizon xs (chain.swept horizon xs vs) → OnFalse b (MayStay horizon xs (last_number (chain.swept horizon xs vs)) base) → IsSweep horizon xs vs im b gone
+pub says : (horizon : ℕ) (xs : List ℕ) (vs : List Version) (im : Oldest) (base : Option ℕ) (b : Bool) (gone : ℕ) → base ≡ base_of im → b ≡ goes horizon xs (last_number vs) base →
+    gone ≡ swept_away horizon xs vs → chain.IsClean horizon xs (chain.swept horizon xs vs) → OnFalse b (MayStay horizon xs (last_number (chain.swept horizon xs vs)) base) →
+    IsSweep horizon xs vs im b gone
 says horizon xs vs im base b gone number goes_too many clean base_clean =
     record {
       base = goes_too ∙ ap (goes horizon xs (last_number vs)) number;

@@ -30,10 +30,13 @@ abbrev pub swept_from : ℕ → List ℕ → Option ℕ → List Kept → List K
 swept_from horizon xs up vs = map (λ p. p.1) (filter (λ p. not (goes_after horizon xs p)) (with_successors up vs))
 
 pub first_goes : (horizon : ℕ) (xs : List ℕ) (up : Option ℕ) (v : Kept) (vs : List Kept) → goes horizon xs up v.number ≡ true → swept_from horizon xs up (v ∷ vs) ≡ swept_from horizon xs v.number vs
-first_goes horizon xs up v vs e = ap (λ b. map (λ p. p.1) (cond (not b) ((up, v) ∷ filter (λ p. not (goes_after horizon xs p)) (with_successors v.number vs)) (filter (λ p. not (goes_after horizon xs p)) (with_successors v.number vs)))) e
+first_goes horizon xs up v vs e = ap (λ b. map (λ p. p.1) (cond (not b) ((up, v) ∷ filter (λ p. not (goes_after horizon xs p)) (with_successors v.number vs))
+    (filter (λ p. not (goes_after horizon xs p)) (with_successors v.number vs)))) e
 
-pub first_stays : (horizon : ℕ) (xs : List ℕ) (up : Option ℕ) (v : Kept) (vs : List Kept) → goes horizon xs up v.number ≡ false → swept_from horizon xs up (v ∷ vs) ≡ v ∷ swept_from horizon xs v.number vs
-first_stays horizon xs up v vs e = ap (λ b. map (λ p. p.1) (cond (not b) ((up, v) ∷ filter (λ p. not (goes_after horizon xs p)) (with_successors v.number vs)) (filter (λ p. not (goes_after horizon xs p)) (with_successors v.number vs)))) e
+pub first_stays : (horizon : ℕ) (xs : List ℕ) (up : Option ℕ) (v : Kept) (vs : List Kept) → goes horizon xs up v.number ≡ false →
+    swept_from horizon xs up (v ∷ vs) ≡ v ∷ swept_from horizon xs v.number vs
+first_stays horizon xs up v vs e = ap (λ b. map (λ p. p.1) (cond (not b) ((up, v) ∷ filter (λ p. not (goes_after horizon xs p)) (with_successors v.number vs))
+    (filter (λ p. not (goes_after horizon xs p)) (with_successors v.number vs)))) e
 
 open_stays : (horizon : ℕ) (xs : List ℕ) (up : Option ℕ) → goes horizon xs up None ≡ false
 open_stays horizon xs None = refl
@@ -63,28 +66,33 @@ base_from horizon xs up (Some p) = go (goes horizon xs up (Some p.0))
     go true = refl
     go false = refl
 
-whole_from : (horizon : ℕ) (xs : List ℕ) (up : Option ℕ) (vs : List Version) (im : Oldest) → swept_from horizon xs up (whole vs im) ≡ whole (runs.swept_from horizon xs up vs) (less_base (goes horizon xs (last_after up vs) (base_of im)) im)
+whole_from : (horizon : ℕ) (xs : List ℕ) (up : Option ℕ) (vs : List Version) (im : Oldest) → swept_from horizon xs up (whole vs im) ≡ whole (runs.swept_from horizon xs up vs)
+    (less_base (goes horizon xs (last_after up vs) (base_of im)) im)
 whole_from horizon xs up [] im = base_from horizon xs up im
 whole_from horizon xs up (v ∷ vs) im =
     let n = number_kept v.stamp v.image in
     let base = less_base (goes horizon xs (last_after (number_in v.stamp) vs) (base_of im)) im in
-    let rest : swept_from horizon xs (kept v).number (whole vs im) ≡ whole (runs.swept_from horizon xs (number_in v.stamp) vs) base = ap (λ m. swept_from horizon xs m (whole vs im)) n ∙ whole_from horizon xs (number_in v.stamp) vs im in
+    let rest : swept_from horizon xs (kept v).number (whole vs im) ≡ whole (runs.swept_from horizon xs (number_in v.stamp) vs) base = ap
+    (λ m. swept_from horizon xs m (whole vs im)) n ∙ whole_from horizon xs (number_in v.stamp) vs im in
     cases (goes horizon xs up (number_in v.stamp))
     (λ e. first_goes horizon xs up (kept v) (whole vs im) (ap (goes horizon xs up) n ∙ e) ∙ rest ∙ ap (λ ws. whole ws base) (sym (runs.swept_goes horizon xs up v vs e)))
     (λ e. first_stays horizon xs up (kept v) (whole vs im) (ap (goes horizon xs up) n ∙ e) ∙ ap (λ ws. kept v ∷ ws) rest ∙ ap (λ ws. whole ws base) (sym (runs.swept_stays horizon xs up v vs e)))
 
 -- what a sweep leaves of it
-pub whole_swept : (horizon : ℕ) (xs : List ℕ) (vs : List Version) (im : Oldest) → swept horizon xs (whole vs im) ≡ whole (chain.swept horizon xs vs) (less_base (goes horizon xs (last_number vs) (base_of im)) im)
+pub whole_swept : (horizon : ℕ) (xs : List ℕ) (vs : List Version) (im : Oldest) →
+    swept horizon xs (whole vs im) ≡ whole (chain.swept horizon xs vs) (less_base (goes horizon xs (last_number vs) (base_of im)) im)
 whole_swept horizon xs vs im = whole_from horizon xs None vs im ∙ ap (λ n. whole (chain.swept horizon xs vs) (less_base (goes horizon xs n (base_of im)) im)) (last_of_all vs)
 
 -- how many go
-pub base_sum : (horizon : ℕ) (xs : List ℕ) (up : Option ℕ) (im : Oldest) (b : Bool) → b ≡ goes horizon xs up (base_of im) → length (option_to_list (less_base b im)) + cond {A = ℕ} b 1 0 ≡ length (option_to_list im)
+pub base_sum : (horizon : ℕ) (xs : List ℕ) (up : Option ℕ) (im : Oldest) (b : Bool) → b ≡ goes horizon xs up (base_of im) →
+    length (option_to_list (less_base b im)) + cond {A = ℕ} b 1 0 ≡ length (option_to_list im)
 base_sum horizon xs up None true e = let k = e ∙ open_stays horizon xs up in absurd cc
 base_sum horizon xs up None false e = refl
 base_sum horizon xs up (Some p) true e = refl
 base_sum horizon xs up (Some p) false e = refl
 
-pub swept_gone : (horizon : ℕ) (xs : List ℕ) (vs : List Version) (im : Oldest) (b : Bool) → b ≡ goes horizon xs (last_number vs) (base_of im) → length (whole (chain.swept horizon xs vs) (less_base b im)) + (swept_away horizon xs vs + cond {A = ℕ} b 1 0) ≡ length (whole vs im)
+pub swept_gone : (horizon : ℕ) (xs : List ℕ) (vs : List Version) (im : Oldest) (b : Bool) → b ≡ goes horizon xs (last_number vs) (base_of im) →
+    length (whole (chain.swept horizon xs vs) (less_base b im)) + (swept_away horizon xs vs + cond {A = ℕ} b 1 0) ≡ length (whole vs im)
 swept_gone horizon xs vs im b e = omega (arith, whole_sum (chain.swept horizon xs vs) (less_base b im), whole_sum vs im, swept_sum horizon xs None vs, base_sum horizon xs (last_number vs) im b e)
 
 pub some_left : (horizon : ℕ) (xs : List ℕ) (vs : List Kept) → 0 < length vs → 0 < length (swept horizon xs vs)
@@ -106,7 +114,8 @@ swept_over horizon xs vs im false h = each_from (λ v. IsOver v.stamp im) horizo
 
 -- ---- a record that is left is clean
 
-clean_from : (horizon : ℕ) (xs : List ℕ) (up : Option ℕ) (vs : List Version) (im : Oldest) → Each (λ p. MayStay horizon xs p.0 (number_in p.1.stamp)) (chain.with_successors up vs) → MayStay horizon xs (last_after up vs) (base_of im) → Each (λ p. MayStay horizon xs p.0 p.1.number) (with_successors up (whole vs im))
+clean_from : (horizon : ℕ) (xs : List ℕ) (up : Option ℕ) (vs : List Version) (im : Oldest) → Each (λ p. MayStay horizon xs p.0 (number_in p.1.stamp)) (chain.with_successors up vs)
+    → MayStay horizon xs (last_after up vs) (base_of im) → Each (λ p. MayStay horizon xs p.0 p.1.number) (with_successors up (whole vs im))
 clean_from horizon xs up [] None h base = tt
 clean_from horizon xs up [] (Some p) h base = (base, tt)
 clean_from horizon xs up (v ∷ vs) im h base =
@@ -119,7 +128,8 @@ no_base : (horizon : ℕ) (xs : List ℕ) (up : Option ℕ) → MayStay horizon 
 no_base horizon xs None = tt
 no_base horizon xs (Some up) = tt
 
-pub whole_clean : (horizon : ℕ) (xs : List ℕ) (ws : List Version) (im : Oldest) (b : Bool) → chain.IsClean horizon xs ws → OnFalse b (MayStay horizon xs (last_number ws) (base_of im)) → IsClean horizon xs (whole ws (less_base b im))
+pub whole_clean : (horizon : ℕ) (xs : List ℕ) (ws : List Version) (im : Oldest) (b : Bool) → chain.IsClean horizon xs ws →
+    OnFalse b (MayStay horizon xs (last_number ws) (base_of im)) → IsClean horizon xs (whole ws (less_base b im))
 whole_clean horizon xs ws im true h base = clean_from horizon xs None ws None h (no_base horizon xs (last_after None ws))
 whole_clean horizon xs ws im false h base = clean_from horizon xs None ws im h (subst (λ n. MayStay horizon xs n (base_of im)) (sym (last_of_all ws)) base)
 

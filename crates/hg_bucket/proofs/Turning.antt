@@ -33,23 +33,27 @@ place_apart es r q p n index has k apart e =
 pub versions_stay : (cs ds : Places) (places seats : List Seat) (p n : ℕ) → ListsStay p cs ds → SeatsStay p places seats → n ≢ p → versions_at ds seats n ≡ versions_at cs places n
 versions_stay cs ds places seats p n lists stay apart = λ i. whole (lists n apart i) (same_image places seats n (stay n apart) i)
 
-pub turned_at : (es : List (Rid × ℕ)) (cs ds : Places) (places seats : List Seat) (r : Rid) (p : ℕ) (ws : List Version) (im : Oldest) → Turns es cs ds places seats r p ws im → versions_at ds seats p ≡ whole ws im
+pub turned_at : (es : List (Rid × ℕ)) (cs ds : Places) (places seats : List Seat) (r : Rid) (p : ℕ) (ws : List Version) (im : Oldest) → Turns es cs ds places seats r p ws im →
+    versions_at ds seats p ≡ whole ws im
 turned_at es cs ds places seats r p ws im h = λ i. whole (h.chain i) (image i)
   where
     image : image_at seats p ≡ im
     image = ap (λ seat. image_at (seat ∷ []) 0) h.seat
 
-pub turned_here : (es : List (Rid × ℕ)) (cs ds : Places) (places seats : List Seat) (r : Rid) (p : ℕ) (ws : List Version) (im : Oldest) → Turns es cs ds places seats r p ws im → versions_of (records_of es ds seats) r ≡ whole ws im
+pub turned_here : (es : List (Rid × ℕ)) (cs ds : Places) (places seats : List Seat) (r : Rid) (p : ℕ) (ws : List Version) (im : Oldest) → Turns es cs ds places seats r p ws im →
+    versions_of (records_of es ds seats) r ≡ whole ws im
 turned_here es cs ds places seats r p ws im h = versions_there es ds seats r p h.has ∙ turned_at es cs ds places seats r p ws im h
 
-pub turned_others : (es : List (Rid × ℕ)) (cs ds : Places) (places seats : List Seat) (r : Rid) (p : ℕ) (ws : List Version) (im : Oldest) → Turns es cs ds places seats r p ws im → OthersStay (records_of es cs places) (records_of es ds seats) r
+pub turned_others : (es : List (Rid × ℕ)) (cs ds : Places) (places seats : List Seat) (r : Rid) (p : ℕ) (ws : List Version) (im : Oldest) → Turns es cs ds places seats r p ws im →
+    OthersStay (records_of es cs places) (records_of es ds seats) r
 turned_others es cs ds places seats r p ws im h q apart = ap (λ o. unwrap_or o []) (found es ds seats q ∙ go (place_of es q) refl ∙ sym (found es cs places q))
   where
     go : (o : Option ℕ) → place_of es q ≡ o → option_map (versions_at ds seats) o ≡ option_map (versions_at cs places) o
     go None k = refl
     go (Some n) k = ap Some (versions_stay cs ds places seats p n h.lists h.stay (place_apart es r q p n h.index h.has k apart))
 
-pub turned_left : (es : List (Rid × ℕ)) (cs ds : Places) (places seats : List Seat) (r : Rid) (p : ℕ) (ws : List Version) (im : Oldest) → Turns es cs ds places seats r p ws im → left (records_of es ds seats) + length (versions_at cs places p) ≡ left (records_of es cs places) + length (whole ws im)
+pub turned_left : (es : List (Rid × ℕ)) (cs ds : Places) (places seats : List Seat) (r : Rid) (p : ℕ) (ws : List Version) (im : Oldest) → Turns es cs ds places seats r p ws im →
+    left (records_of es ds seats) + length (versions_at cs places p) ≡ left (records_of es cs places) + length (whole ws im)
 turned_left es cs ds places seats r p ws im h =
     let d = distinct es h.index in
     let same = one_changed (how_many ds seats) (how_many cs places) es r p d h.has (each_entry (λ e. same_rid r e.0 ≡ false → how_many ds seats e ≡ how_many cs places e) es d stays) in
@@ -68,13 +72,17 @@ taken_again places seats p stay n apart t = subst IsSome (sym (stay n apart)) t
 pub taken_before : (places seats : List Seat) (p : ℕ) → SeatsStay p places seats → (n : ℕ) → n ≢ p → IsTaken seats n → IsTaken places n
 taken_before places seats p stay n apart t = subst IsSome (stay n apart) t
 
-pub falls_again : (cs ds : Places) (places seats : List Seat) (p : ℕ) → ListsStay p cs ds → SeatsStay p places seats → (n : ℕ) → n ≢ p → Falls (list_at cs n) (image_at places n) → Falls (list_at ds n) (image_at seats n)
-falls_again cs ds places seats p lists stay n apart f = subst (λ vs. Falls vs (image_at seats n)) (sym (lists n apart)) (subst (Falls (list_at cs n)) (sym (same_image places seats n (stay n apart))) f)
+pub falls_again : (cs ds : Places) (places seats : List Seat) (p : ℕ) → ListsStay p cs ds → SeatsStay p places seats → (n : ℕ) → n ≢ p → Falls (list_at cs n) (image_at places n) →
+    Falls (list_at ds n) (image_at seats n)
+falls_again cs ds places seats p lists stay n apart f = subst (λ vs. Falls vs (image_at seats n)) (sym (lists n apart))
+    (subst (Falls (list_at cs n)) (sym (same_image places seats n (stay n apart))) f)
 
-pub held_again : (cs ds : Places) (places seats : List Seat) (p : ℕ) → ListsStay p cs ds → SeatsStay p places seats → (n : ℕ) → n ≢ p → 0 < length (versions_at cs places n) → 0 < length (versions_at ds seats n)
+pub held_again : (cs ds : Places) (places seats : List Seat) (p : ℕ) → ListsStay p cs ds → SeatsStay p places seats → (n : ℕ) → n ≢ p → 0 < length (versions_at cs places n) →
+    0 < length (versions_at ds seats n)
 held_again cs ds places seats p lists stay n apart long = subst (λ vs. 0 < length vs) (sym (versions_stay cs ds places seats p n lists stay apart)) long
 
-pub turned : (es : List (Rid × ℕ)) (cs ds : Places) (places seats : List Seat) (r : Rid) (p : ℕ) (ws : List Version) (im : Oldest) → AreWhole es cs places → Turns es cs ds places seats r p ws im → Falls ws im → MayBeBare p es ds seats
+pub turned : (es : List (Rid × ℕ)) (cs ds : Places) (places seats : List Seat) (r : Rid) (p : ℕ) (ws : List Version) (im : Oldest) → AreWhole es cs places →
+    Turns es cs ds places seats r p ws im → Falls ws im → MayBeBare p es ds seats
 turned es cs ds places seats r p ws im old h falls =
     record {
       taken = λ q n k. each_place (IsTaken seats) p n here (λ apart. taken_again places seats p h.stay n apart (old.taken q n k));
@@ -96,13 +104,24 @@ turned es cs ds places seats r p ws im old h falls =
 
 -- there is one
 pub filled : (p : ℕ) (es : List (Rid × ℕ)) (cs : Places) (places : List Seat) → MayBeBare p es cs places → 0 < length (versions_at cs places p) → AreWhole es cs places
-filled p es cs places h some = record { taken = h.taken; named = h.named; chained = h.chained; held = λ n all t. each_place (λ m. 0 < length (versions_at cs places m)) p n some (λ apart. h.held n apart t); falls = h.falls; fits = h.fits }
+filled p es cs places h some = record {
+  taken = h.taken;
+  named = h.named;
+  chained = h.chained;
+  held = λ n all t. each_place (λ m. 0 < length (versions_at cs places m)) p n some
+      (λ apart. h.held n apart t);
+  falls = h.falls;
+  fits = h.fits;
+}
 
-pub turned_whole : (es : List (Rid × ℕ)) (cs ds : Places) (places seats : List Seat) (r : Rid) (p : ℕ) (ws : List Version) (im : Oldest) → AreWhole es cs places → Turns es cs ds places seats r p ws im → Falls ws im → 0 < length (whole ws im) → AreWhole es ds seats
-turned_whole es cs ds places seats r p ws im old h falls some = filled p es ds seats (turned es cs ds places seats r p ws im old h falls) (subst (λ vs. 0 < length vs) (sym (turned_at es cs ds places seats r p ws im h)) some)
+pub turned_whole : (es : List (Rid × ℕ)) (cs ds : Places) (places seats : List Seat) (r : Rid) (p : ℕ) (ws : List Version) (im : Oldest) → AreWhole es cs places →
+    Turns es cs ds places seats r p ws im → Falls ws im → 0 < length (whole ws im) → AreWhole es ds seats
+turned_whole es cs ds places seats r p ws im old h falls some = filled p es ds seats (turned es cs ds places seats r p ws im old h falls)
+    (subst (λ vs. 0 < length vs) (sym (turned_at es cs ds places seats r p ws im h)) some)
 
 -- the chain is now ws, and the place has what it had
-pub kept_turns : (es : List (Rid × ℕ)) (cs ds : Places) (places : List Seat) (r : Rid) (p : ℕ) (ws : List Version) → IsIndex es → AreWhole es cs places → place_of es r ≡ Some p → list_at ds p ≡ ws → ListsStay p cs ds → Turns es cs ds places places r p ws (image_at places p)
+pub kept_turns : (es : List (Rid × ℕ)) (cs ds : Places) (places : List Seat) (r : Rid) (p : ℕ) (ws : List Version) → IsIndex es → AreWhole es cs places → place_of es r ≡ Some p →
+    list_at ds p ≡ ws → ListsStay p cs ds → Turns es cs ds places places r p ws (image_at places p)
 kept_turns es cs ds places r p ws index old has is lists = record { index = index; has = has; chain = is; lists = lists; seat = same (seat_at places p) (old.taken r p has); stay = λ q apart. refl }
   where
     same : (seat : Seat) → IsSome seat → seat ≡ taken (image_at (seat ∷ []) 0)

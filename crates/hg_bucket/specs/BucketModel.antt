@@ -1,5 +1,6 @@
 -- What a bucket holds: each record's versions, and what became of all others.
-use Rattle.std.specs.Prelude.{◌≡◌, ℕ, ◌+◌, ◌<◌, ◌≤◌, ◌^◌, not, filter, is_some, IsFalse, List, [], ◌∷◌, ◌++◌, length, sum_by, find, drop, Bool, false, ◌&&◌, nat_le, if◌then◌else◌, Option, Some, None, IsSome, option_map, unwrap_or}
+use Rattle.std.specs.Prelude.{◌≡◌, ℕ, ◌+◌, ◌<◌, ◌≤◌, ◌^◌, not, filter, is_some, IsFalse, List, [], ◌∷◌, ◌++◌, length, sum_by, find, drop, Bool, false, ◌&&◌, nat_le, if◌then◌else◌, Option}
+use Rattle.std.specs.Prelude.{Some, None, IsSome, option_map, unwrap_or}
 use Rattle.std.specs.Option.{option_or, MatchOption}
 use Rattle.std.specs.Map.{lookup}
 use Rattle.hg_base.specs.declared.rid.Rid.{Rid}

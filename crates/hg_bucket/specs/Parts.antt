@@ -1,5 +1,6 @@
 -- What a bucket holds, read from its parts: for the bucket itself.
-use Rattle.std.specs.Prelude.{◌≡◌, ◌≢◌, ◌↔◌, ℕ, List, [], ◌∷◌, ◌++◌, take, slice_get, map, Option, Some, None, option_map, option_to_list, nat_le, if◌then◌else◌, ◌<◌, ◌^◌, length, is_some, IsTrue, ⊤, slice_index_or}
+use Rattle.std.specs.Prelude.{◌≡◌, ◌≢◌, ◌↔◌, ℕ, List, [], ◌∷◌, ◌++◌, take, slice_get, map, Option, Some, None, option_map, option_to_list, nat_le, if◌then◌else◌, ◌<◌, ◌^◌, length, is_some}
+use Rattle.std.specs.Prelude.{IsTrue, ⊤, slice_index_or}
 use Rattle.hg_base.specs.declared.rid.Rid.{Rid}
 use Rattle.hg_base.specs.declared.image.Image.{Image}
 use Rattle.hg_base.specs.Lists.{Each}
@@ -131,6 +132,10 @@ SeatsStay p old new = (q : ℕ) → q ≢ p → seat_at new q ≡ seat_at old q
 -- each place has the chain that it had
 abbrev pub ListsAlike : Places → Places → Type 0
 ListsAlike old new = (q : ℕ) → list_at new q ≡ list_at old q
+
+-- where nothing is written: each place has the chain that it had, and the lists are as they were
+abbrev pub StayAsTheyWere : Places → Places → List (List Listed) → List (List Listed) → Type 0
+StayAsTheyWere chains chains' longs longs' = ListsAlike chains chains' × (longs' ≡ longs)
 
 -- each place is as before
 abbrev pub AreAlike : List Seat → List Seat → Type 0

@@ -92,9 +92,11 @@ impl Bucket {
         ensures others { OthersStay self.old.records self.new.records rid }
         ensures added { IfOk result
             (λ added. added ≡ not (begins_open by (versions_of self.old.records rid))) }
-        ensures made { OnOk result (self.new ≡
+        ensures made { OnOk result
+            (let more : ℕ = if begins_open by (versions_of self.old.records rid) then 0 else 1 in
+            self.new ≡
             record self.old
-            { records = self.new.records; long = self.new.long; made = self.old.made + (if begins_open by (versions_of self.old.records rid) then 0 else 1) }) }
+            { records = self.new.records; long = self.new.long; made = self.old.made + more }) }
         ensures refused { OnErr result (self.new ≡ self.old) }
     {
         let added = self.records.write(rid, image, snapshot, mark, by)?;
@@ -203,9 +205,9 @@ impl Bucket {
         ensures others { OthersStay self.old.records self.new.records rid }
         ensures gone { length (versions_of self.new.records rid) + result ≡
             length (versions_of self.old.records rid) }
-        ensures interval { self.new ≡
+        ensures interval { let all = self.old.interval + result in self.new ≡
             record self.old
-            { records = self.new.records; long = self.new.long; interval = self.old.interval + result } }
+            { records = self.new.records; long = self.new.long; interval = all } }
         ensures front { take at (long_keys self.new rid.table) ≡
             take at (long_keys self.old rid.table) }
         ensures cost { steps.new ≤
@@ -256,9 +258,9 @@ impl Bucket {
         ensures others { (q : Rid) → (q.table ≡ table → ⊥) →
             versions_of self.new.records q ≡ versions_of self.old.records q }
         ensures gone { left self.new.records + result ≡ left self.old.records }
-        ensures counted { self.new ≡
+        ensures counted { let all = self.old.interval + result in self.new ≡
             record self.old
-            { records = self.new.records; long = self.new.long; interval = self.old.interval + result } }
+            { records = self.new.records; long = self.new.long; interval = all } }
         ensures cost { steps.new ≤ steps.old + sweep_steps table snapshots.now self.old.records }
     {
         let gone = self.records.sweep_table(table, horizon, snapshots, steps);

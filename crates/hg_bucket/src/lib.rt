@@ -23,6 +23,7 @@ mod cut;
 mod places;
 mod records;
 mod refusal;
+mod sweep;
 
 pub use bucket::Bucket;
 pub use refusal::WriteRefusal;

@@ -1,6 +1,6 @@
 //! What stands at a record's place: its chain, and its oldest image.
 
-ghost use Rattle.std.specs.Prelude.{◌≡◌, ◌+◌, ◌<◌, ◌^◌, ◌==◌, List, [], length, is_some, slice_set, not, IsOk, IsTrue, IfOk, OnOk, OnErr, None, Some, nat_lt, if◌then◌else◌, option_map, option_and_then};
+ghost use Rattle.std.specs.Prelude.{◌≡◌, ◌+◌, ◌<◌, ◌^◌, ◌==◌, List, length, is_some, slice_set, not, IsOk, IsTrue, IfOk, OnOk, OnErr, None, Some, nat_lt, if◌then◌else◌, option_map, option_and_then};
 ghost use Rattle.std.specs.Option.{option_copied, option_or};
 ghost use Rattle.std.specs.Bool.{OnTrue, OnFalse};
 ghost use Rattle.hg_chain.specs.Places.{list_at, OthersStay as ListsStay};
@@ -13,12 +13,19 @@ ghost use Rattle.hg_space.specs.Rosters.{list_of, StandsIn, StandsNowhere};
 ghost use Rattle.hg_bucket.specs.Conflicts.{conflict};
 ghost use Rattle.hg_bucket.specs.declared.refusal.WriteRefusal.TheVariants.{Newer};
 ghost use Rattle.hg_bucket.specs.BucketModel.{versions_of, OthersStay, left};
-ghost use Rattle.hg_bucket.specs.Parts.{oldest_by, settled, whole, records_of, AreWhole, AreListed, AreAlike, ListsAlike, IsGiven, MayBeBare, Enters, Leaves};
+ghost use Rattle.hg_bucket.specs.Parts.{oldest_by, settled, whole, records_of, AreWhole, AreListed, AreAlike, StayAsTheyWere, IsGiven, MayBeBare, Enters, Leaves};
 
 use crate::refusal::{WriteRefusal, refusal};
 use hg_base::{Image, NoMemory, Rid, Writer};
 use hg_chain::Chains;
 use hg_space::{RidIndex, Roster, TableSpace};
+
+/// A record, and its place.
+#[derive(Clone, Copy, Debug)]
+pub(crate) struct Placed {
+    pub rid: Rid,
+    pub place: u64,
+}
 
 /// What a transaction reads of a record's chain.
 pub(crate) fn read_chain(chains: &Chains, place: u64, snapshot: u64, own: Writer) -> Option<&Image>
@@ -92,51 +99,51 @@ pub(crate) fn conflict(
 pub(crate) fn add(
     chains: &mut Chains,
     longs: &mut Roster,
-    rid: Rid,
-    place: u64,
+    placed: Placed,
     image: Image,
     by: Writer,
 ) -> Result<bool, NoMemory>
-    requires place { place < 2 ^ 40 }
-    requires own { NoOther by (list_at chains.old place) }
-    requires not_listed { OnTrue (length (list_at chains.old place) == 0)
-        (StandsNowhere longs.old place) }
+    requires place { placed.place < 2 ^ 40 }
+    requires own { NoOther by (list_at chains.old placed.place) }
+    requires not_listed { OnTrue (length (list_at chains.old placed.place) == 0)
+        (StandsNowhere longs.old placed.place) }
     ensures here { OnOk result
-        (list_at chains.new place ≡ installed by image (list_at chains.old place)) }
-    ensures others { ListsStay place chains.old chains.new }
-    ensures added { IfOk result (λ added. added ≡ not (is_open_by by (list_at chains.old place))) }
-    ensures entered { OnOk result (OnTrue (length (list_at chains.old place) == 0)
-        (Enters longs.old longs.new rid place)) }
+        (list_at chains.new placed.place ≡ installed by image (list_at chains.old placed.place)) }
+    ensures others { ListsStay placed.place chains.old chains.new }
+    ensures added { IfOk result
+        (λ added. added ≡ not (is_open_by by (list_at chains.old placed.place))) }
+    ensures entered { OnOk result (OnTrue (length (list_at chains.old placed.place) == 0)
+        (Enters longs.old longs.new placed.rid placed.place)) }
     ensures listed { OnOk result
-        (OnFalse (length (list_at chains.old place) == 0) (longs.new ≡ longs.old)) }
-    ensures refused { OnErr result (ListsAlike chains.old chains.new) }
-    ensures lists { OnErr result (longs.new ≡ longs.old) }
-    ensures replaced { IsTrue (is_open_by by (list_at chains.old place)) → IsOk result }
+        (OnFalse (length (list_at chains.old placed.place) == 0) (longs.new ≡ longs.old)) }
+    ensures refused { OnErr result (StayAsTheyWere chains.old chains.new longs.old longs.new) }
+    ensures replaced { IsTrue (is_open_by by (list_at chains.old placed.place)) → IsOk result }
 {
-    let begins = chains.is_empty(place);
-    let added = match chains.install(place, by, image) {
+    let begins = chains.is_empty(placed.place);
+    let added = match chains.install(placed.place, by, image) {
         Ok(added) => added,
         Err((_, refused)) => return Err(refused),
     };
     if !begins {
         return Ok(added);
     }
-    if let Err(refused) = longs.enter(rid.table, rid.key, place) {
-        chains.undo(place, by);
+    if let Err(refused) = longs.enter(placed.rid.table, placed.rid.key, placed.place) {
+        chains.undo(placed.place, by);
         return Err(refused);
     }
     Ok(added)
 }
 
 /// A record whose chain has become empty leaves its table's list.
-pub(crate) fn leave_bare(longs: &mut Roster, chains: &Chains, rid: Rid, place: u64)
-    requires { StandsIn (list_of longs.old rid.table.0) place }
-    ensures bare { OnTrue (length (list_at chains.now place) == 0)
-        (Leaves longs.old longs.new rid place) }
-    ensures listed { OnFalse (length (list_at chains.now place) == 0) (longs.new ≡ longs.old) }
+pub(crate) fn leave_bare(longs: &mut Roster, chains: &Chains, placed: Placed)
+    requires { StandsIn (list_of longs.old placed.rid.table.0) placed.place }
+    ensures bare { OnTrue (length (list_at chains.now placed.place) == 0)
+        (Leaves longs.old longs.new placed.rid placed.place) }
+    ensures listed { OnFalse (length (list_at chains.now placed.place) == 0)
+        (longs.new ≡ longs.old) }
 {
-    if chains.is_empty(place) {
-        longs.leave(rid.table, place);
+    if chains.is_empty(placed.place) {
+        longs.leave(placed.rid.table, placed.place);
     }
 }
 
@@ -192,28 +199,27 @@ pub(crate) fn drop_bare(
     index: &mut RidIndex,
     space: &mut TableSpace,
     chains: &Chains,
-    rid: Rid,
-    place: u64,
+    placed: Placed,
 )
     requires index { IsIndex index.old }
-    requires has { place_of index.old rid ≡ Some place }
-    requires bare { MayBeBare place index.old chains.now space.old.places }
+    requires has { place_of index.old placed.rid ≡ Some placed.place }
+    requires bare { MayBeBare placed.place index.old chains.now space.old.places }
     ensures whole { AreWhole index.new chains.now space.new.places }
     ensures lists { (longs : List (List Listed)) → AreListed index.old chains.now longs →
         AreListed index.new chains.now longs }
-    ensures here { versions_of (records_of index.new chains.now space.new.places) rid ≡
-        versions_of (records_of index.old chains.now space.old.places) rid }
+    ensures here { versions_of (records_of index.new chains.now space.new.places) placed.rid ≡
+        versions_of (records_of index.old chains.now space.old.places) placed.rid }
     ensures others { OthersStay (records_of index.old chains.now space.old.places)
-        (records_of index.new chains.now space.new.places) rid }
+        (records_of index.new chains.now space.new.places) placed.rid }
     ensures left { left (records_of index.new chains.now space.new.places) ≡
         left (records_of index.old chains.now space.old.places) }
 {
-    if !chains.is_empty(place) {
+    if !chains.is_empty(placed.place) {
         return;
     }
-    if space.image(place).is_some() {
+    if space.image(placed.place).is_some() {
         return;
     }
-    let _ = index.remove(rid);
-    space.give_place(place);
+    let _ = index.remove(placed.rid);
+    space.give_place(placed.place);
 }

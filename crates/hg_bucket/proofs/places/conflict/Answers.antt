@@ -5,7 +5,8 @@ use Rattle.hg_bucket.proofs.Installing.{conflict_of_chain, conflict_of_oldest, a
 use Rattle.hg_bucket.proofs.places.conflict.Goals as goal
 
 pub returns-in-Some-clause-refusal : goal.returns-in-Some-clause-refusal
-returns-in-Some-clause-refusal c = conflict_of_chain c.args.by c.args.snapshot c.args.mark c.refusal.result (list_at c.args.chains.now c.args.place) (image_at c.args.space.now.places c.args.place) c.in-Some.stamp (sym c.in-Some.is ∙ c.newest.ensures.newest) c.refusal.ensures
+returns-in-Some-clause-refusal c = conflict_of_chain c.args.by c.args.snapshot c.args.mark c.refusal.result (list_at c.args.chains.now c.args.place)
+    (image_at c.args.space.now.places c.args.place) c.in-Some.stamp (sym c.in-Some.is ∙ c.newest.ensures.newest) c.refusal.ensures
 
 pub returns-in-Some-clause-free : goal.returns-in-Some-clause-free
 returns-in-Some-clause-free c e =
@@ -15,7 +16,8 @@ returns-in-Some-clause-free c e =
     free_chain c.args.by vs im (all_free c.args.by c.args.snapshot c.args.mark vs im c.newest.ensures.others (sym is ∙ e))
 
 pub returns-in-None-clause-refusal : goal.returns-in-None-clause-refusal
-returns-in-None-clause-refusal c = c.newer.ensures ∙ conflict_of_oldest c.args.by c.args.snapshot c.args.mark (list_at c.args.chains.now c.args.place) (image_at c.args.space.now.places c.args.place) (sym c.in-None.is ∙ c.newest.ensures.newest)
+returns-in-None-clause-refusal c = c.newer.ensures ∙ conflict_of_oldest c.args.by c.args.snapshot c.args.mark (list_at c.args.chains.now c.args.place)
+    (image_at c.args.space.now.places c.args.place) (sym c.in-None.is ∙ c.newest.ensures.newest)
 
 pub returns-in-None-clause-free : goal.returns-in-None-clause-free
 returns-in-None-clause-free c e = none_free c.args.by (list_at c.args.chains.now c.args.place) (sym c.in-None.is ∙ c.newest.ensures.newest)

@@ -12,22 +12,22 @@ use Rattle.hg_bucket.proofs.places.drop_bare.Goals as goal
 
 pub returns-then-not-is_empty-clause-whole : goal.returns-then-not-is_empty-clause-whole
 returns-then-not-is_empty-clause-whole c =
-    let vs = list_at c.args.chains.now c.args.place in
-    filled c.args.place c.args.index.now c.args.chains.now c.args.space.now.places c.requires.bare
-    (long_chain vs (image_at c.args.space.now.places c.args.place) (some_chain vs (sym c.is_empty.ensures ∙ c.if-not-is_empty.true)))
+    let vs = list_at c.args.chains.now c.args.placed.place in
+    filled c.args.placed.place c.args.index.now c.args.chains.now c.args.space.now.places c.requires.bare
+    (long_chain vs (image_at c.args.space.now.places c.args.placed.place) (some_chain vs (sym c.is_empty.ensures ∙ c.if-not-is_empty.true)))
 
 pub returns-then-is_some-clause-whole : goal.returns-then-is_some-clause-whole
 returns-then-is_some-clause-whole c =
     let some = ap is_some (sym c.image.ensures) ∙ mapped_some (λ p. (p.0, p.1.now)) c.image.result ∙ sym c.is_some.ensures ∙ c.if-is_some.true in
-    filled c.args.place c.args.index.now c.args.chains.now c.args.space.now.places c.requires.bare
-    (with_image (list_at c.args.chains.now c.args.place) (image_at c.args.space.now.places c.args.place) some)
+    filled c.args.placed.place c.args.index.now c.args.chains.now c.args.space.now.places c.requires.bare
+    (with_image (list_at c.args.chains.now c.args.placed.place) (image_at c.args.space.now.places c.args.placed.place) some)
 
 pub returns-clause-whole : goal.returns-clause-whole
 returns-clause-whole c =
-    let p = c.args.place in
+    let p = c.args.placed.place in
     let places = c.args.space.now.places in
     let seats = c.give_place.new.self.places in
-    gone_whole c.args.rid c.args.index.now c.remove.new.self c.args.chains.now places seats p c.requires.bare (record {
+    gone_whole c.args.placed.rid c.args.index.now c.remove.new.self c.args.chains.now places seats p c.requires.bare (record {
       index = c.requires.index;
       has = c.requires.has;
       gone = c.remove.ensures.gone;
@@ -41,10 +41,10 @@ returns-clause-whole c =
 
 pub returns-clause-here : goal.returns-clause-here
 returns-clause-here c =
-    let p = c.args.place in
+    let p = c.args.placed.place in
     let places = c.args.space.now.places in
     let seats = c.give_place.new.self.places in
-    gone_here c.args.rid c.args.index.now c.remove.new.self c.args.chains.now places seats p (record {
+    gone_here c.args.placed.rid c.args.index.now c.remove.new.self c.args.chains.now places seats p (record {
       index = c.requires.index;
       has = c.requires.has;
       gone = c.remove.ensures.gone;
@@ -58,10 +58,10 @@ returns-clause-here c =
 
 pub returns-clause-others : goal.returns-clause-others
 returns-clause-others c =
-    let p = c.args.place in
+    let p = c.args.placed.place in
     let places = c.args.space.now.places in
     let seats = c.give_place.new.self.places in
-    gone_others c.args.rid c.args.index.now c.remove.new.self c.args.chains.now places seats p (record {
+    gone_others c.args.placed.rid c.args.index.now c.remove.new.self c.args.chains.now places seats p (record {
       index = c.requires.index;
       has = c.requires.has;
       gone = c.remove.ensures.gone;
@@ -75,10 +75,10 @@ returns-clause-others c =
 
 pub returns-clause-left : goal.returns-clause-left
 returns-clause-left c =
-    let p = c.args.place in
+    let p = c.args.placed.place in
     let places = c.args.space.now.places in
     let seats = c.give_place.new.self.places in
-    gone_left c.args.rid c.args.index.now c.remove.new.self c.args.chains.now places seats p (record {
+    gone_left c.args.placed.rid c.args.index.now c.remove.new.self c.args.chains.now places seats p (record {
       index = c.requires.index;
       has = c.requires.has;
       gone = c.remove.ensures.gone;
@@ -99,5 +99,5 @@ returns-then-is_some-clause-lists c = λ ls h. h
 pub returns-clause-lists : goal.returns-clause-lists
 returns-clause-lists c =
     λ ls h.
-    let none = ap (λ vs. length vs) (no_chain (list_at c.args.chains.now c.args.place) (sym c.is_empty.ensures ∙ c.if-not-is_empty.false)) in
-    unnamed_lists c.args.index.now c.remove.new.self c.args.chains.now ls c.args.rid c.args.place h c.requires.has none c.remove.ensures.gone c.remove.ensures.others
+    let none = ap (λ vs. length vs) (no_chain (list_at c.args.chains.now c.args.placed.place) (sym c.is_empty.ensures ∙ c.if-not-is_empty.false)) in
+    unnamed_lists c.args.index.now c.remove.new.self c.args.chains.now ls c.args.placed.rid c.args.placed.place h c.requires.has none c.remove.ensures.gone c.remove.ensures.others

@@ -43,11 +43,11 @@ invariant_of-self-in-Err c =
     let b = c.self.inside in
     let p = c.in_ok-place.place in
     let given = c.in_ok-place.ensures.given in
-    let lists : ListsAlike b.chains c.add.new.chains = c.in-Err.ensures.refused in
+    let lists : ListsAlike b.chains c.add.new.chains = c.in-Err.ensures.refused.0 in
     let seats = given_back b.space.places c.take.new.space.places c.give_place.new.self.places p given c.give_place.ensures.freed in
     record {
       whole = stays_whole b.index b.chains c.add.new.chains b.space.places c.give_place.new.self.places c.self.invariant.whole lists seats;
-      listed = subst (AreListed b.index c.add.new.chains) (sym c.in-Err.ensures.lists) (chains_alike b.index b.chains c.add.new.chains b.longs c.self.invariant.listed lists);
+      listed = subst (AreListed b.index c.add.new.chains) (sym c.in-Err.ensures.refused.1) (chains_alike b.index b.chains c.add.new.chains b.longs c.self.invariant.listed lists);
     }
 
 pub returns-in-Err-clause-others : goal.returns-in-Err-clause-others
@@ -55,7 +55,7 @@ returns-in-Err-clause-others c =
     let b = c.self.inside in
     let p = c.in_ok-place.place in
     let given = c.in_ok-place.ensures.given in
-    let lists : ListsAlike b.chains c.add.new.chains = c.in-Err.ensures.refused in
+    let lists : ListsAlike b.chains c.add.new.chains = c.in-Err.ensures.refused.0 in
     let seats = given_back b.space.places c.take.new.space.places c.give_place.new.self.places p given c.give_place.ensures.freed in
     let same = records_stay b.index b.chains c.add.new.chains b.space.places c.give_place.new.self.places lists seats ∙ (ap (λ (h : Recorded). h.records) c.self.view_is) in
     λ q apart. ap (λ h. versions_of h q) same
@@ -65,17 +65,18 @@ returns-in-Err-clause-refused c =
     let b = c.self.inside in
     let p = c.in_ok-place.place in
     let given = c.in_ok-place.ensures.given in
-    let lists : ListsAlike b.chains c.add.new.chains = c.in-Err.ensures.refused in
+    let lists : ListsAlike b.chains c.add.new.chains = c.in-Err.ensures.refused.0 in
     let seats = given_back b.space.places c.take.new.space.places c.give_place.new.self.places p given c.give_place.ensures.freed in
     let same = records_stay b.index b.chains c.add.new.chains b.space.places c.give_place.new.self.places lists seats in
-    recorded same (ap longs_of c.in-Err.ensures.lists) ∙ c.self.view_is
+    recorded same (ap longs_of c.in-Err.ensures.refused.1) ∙ c.self.view_is
 
 pub insert-requires-clause-new_record : goal.insert-requires-clause-new_record
 insert-requires-clause-new_record c =
     let b = c.self.inside in
     let p = c.in_ok-place.place in
     let given = c.in_ok-place.ensures.given in
-    let none : place_of b.index c.args.rid ≡ None = unplaced_of b.index b.chains b.space.places c.args.rid c.self.invariant.whole (ap (λ h. versions_of h c.args.rid) (ap (λ (h : Recorded). h.records) c.self.view_is) ∙ c.requires) in
+    let none : place_of b.index c.args.rid ≡ None = unplaced_of b.index b.chains b.space.places c.args.rid c.self.invariant.whole
+    (ap (λ h. versions_of h c.args.rid) (ap (λ (h : Recorded). h.records) c.self.view_is) ∙ c.requires) in
     none
 
 pub invariant_of-self-in-Err-insert : goal.invariant_of-self-in-Err-insert
@@ -103,7 +104,8 @@ returns-in-Err-insert-clause-others c =
     let here = c.in_default.ensures.here ∙ ap (chain.installed c.args.by c.args.image) bare in
     let lists = taken_back b.chains c.add.new.chains c.undo.new.self p (chain.open_write c.args.by c.args.image) bare here c.add.ensures.others c.undo.ensures.here c.undo.ensures.others in
     let seats = given_back b.space.places c.take.new.space.places c.give_place-in-Err-insert.new.self.places p given c.give_place-in-Err-insert.ensures.freed in
-    let same = ap (λ es. records_of es c.undo.new.self c.give_place-in-Err-insert.new.self.places) c.in-Err-insert.ensures.refused ∙ records_stay b.index b.chains c.undo.new.self b.space.places c.give_place-in-Err-insert.new.self.places lists seats ∙ (ap (λ (h : Recorded). h.records) c.self.view_is) in
+    let same = ap (λ es. records_of es c.undo.new.self c.give_place-in-Err-insert.new.self.places) c.in-Err-insert.ensures.refused ∙
+    records_stay b.index b.chains c.undo.new.self b.space.places c.give_place-in-Err-insert.new.self.places lists seats ∙ (ap (λ (h : Recorded). h.records) c.self.view_is) in
     λ q apart. ap (λ h. versions_of h q) same
 
 pub returns-in-Err-insert-clause-refused : goal.returns-in-Err-insert-clause-refused
@@ -115,7 +117,8 @@ returns-in-Err-insert-clause-refused c =
     let here = c.in_default.ensures.here ∙ ap (chain.installed c.args.by c.args.image) bare in
     let lists = taken_back b.chains c.add.new.chains c.undo.new.self p (chain.open_write c.args.by c.args.image) bare here c.add.ensures.others c.undo.ensures.here c.undo.ensures.others in
     let seats = given_back b.space.places c.take.new.space.places c.give_place-in-Err-insert.new.self.places p given c.give_place-in-Err-insert.ensures.freed in
-    let same = ap (λ es. records_of es c.undo.new.self c.give_place-in-Err-insert.new.self.places) c.in-Err-insert.ensures.refused ∙ records_stay b.index b.chains c.undo.new.self b.space.places c.give_place-in-Err-insert.new.self.places lists seats in
+    let same = ap (λ es. records_of es c.undo.new.self c.give_place-in-Err-insert.new.self.places) c.in-Err-insert.ensures.refused ∙
+    records_stay b.index b.chains c.undo.new.self b.space.places c.give_place-in-Err-insert.new.self.places lists seats in
     let enters = has_entered b.longs c.add.new.longs c.args.rid p (list_at b.chains p) bare c.in_default.ensures.entered in
     let again = left_again b.longs c.add.new.longs c.leave.new.self c.args.rid p enters c.leave.ensures.moved c.leave.ensures.others in
     recorded same (seen_alike b.longs c.leave.new.self again) ∙ c.self.view_is
@@ -125,7 +128,8 @@ invariant_of-self-in_default-insert c =
     let b = c.self.inside in
     let p = c.in_ok-place.place in
     let given = c.in_ok-place.ensures.given in
-    let none : place_of b.index c.args.rid ≡ None = unplaced_of b.index b.chains b.space.places c.args.rid c.self.invariant.whole (ap (λ h. versions_of h c.args.rid) (ap (λ (h : Recorded). h.records) c.self.view_is) ∙ c.requires) in
+    let none : place_of b.index c.args.rid ≡ None = unplaced_of b.index b.chains b.space.places c.args.rid c.self.invariant.whole
+    (ap (λ h. versions_of h c.args.rid) (ap (λ (h : Recorded). h.records) c.self.view_is) ∙ c.requires) in
     let bare = bare_free b.index b.chains b.space.places p c.self.invariant.whole given.was in
     let w = chain.open_write c.args.by c.args.image in
     let comes : Comes b.index c.insert.new.self b.chains c.add.new.chains b.space.places c.take.new.space.places c.args.rid p w = record {
@@ -142,7 +146,8 @@ invariant_of-self-in_default-insert c =
     } in
     record {
       whole = come_whole b.index c.insert.new.self b.chains c.add.new.chains b.space.places c.take.new.space.places c.args.rid p w comes;
-      listed = come_listed b.index c.insert.new.self b.chains c.add.new.chains b.space.places c.take.new.space.places b.longs c.add.new.longs c.args.rid p w c.self.invariant.listed comes (has_entered b.longs c.add.new.longs c.args.rid p (list_at b.chains p) bare c.in_default.ensures.entered);
+      listed = come_listed b.index c.insert.new.self b.chains c.add.new.chains b.space.places c.take.new.space.places b.longs c.add.new.longs c.args.rid p w c.self.invariant.listed
+          comes (has_entered b.longs c.add.new.longs c.args.rid p (list_at b.chains p) bare c.in_default.ensures.entered);
     }
 
 pub returns-clause-stored : goal.returns-clause-stored
@@ -150,7 +155,8 @@ returns-clause-stored c =
     let b = c.self.inside in
     let p = c.in_ok-place.place in
     let given = c.in_ok-place.ensures.given in
-    let none : place_of b.index c.args.rid ≡ None = unplaced_of b.index b.chains b.space.places c.args.rid c.self.invariant.whole (ap (λ h. versions_of h c.args.rid) (ap (λ (h : Recorded). h.records) c.self.view_is) ∙ c.requires) in
+    let none : place_of b.index c.args.rid ≡ None = unplaced_of b.index b.chains b.space.places c.args.rid c.self.invariant.whole
+    (ap (λ h. versions_of h c.args.rid) (ap (λ (h : Recorded). h.records) c.self.view_is) ∙ c.requires) in
     let bare = bare_free b.index b.chains b.space.places p c.self.invariant.whole given.was in
     let w = chain.open_write c.args.by c.args.image in
     let comes : Comes b.index c.insert.new.self b.chains c.add.new.chains b.space.places c.take.new.space.places c.args.rid p w = record {
@@ -172,7 +178,8 @@ returns-clause-others c =
     let b = c.self.inside in
     let p = c.in_ok-place.place in
     let given = c.in_ok-place.ensures.given in
-    let none : place_of b.index c.args.rid ≡ None = unplaced_of b.index b.chains b.space.places c.args.rid c.self.invariant.whole (ap (λ h. versions_of h c.args.rid) (ap (λ (h : Recorded). h.records) c.self.view_is) ∙ c.requires) in
+    let none : place_of b.index c.args.rid ≡ None = unplaced_of b.index b.chains b.space.places c.args.rid c.self.invariant.whole
+    (ap (λ h. versions_of h c.args.rid) (ap (λ (h : Recorded). h.records) c.self.view_is) ∙ c.requires) in
     let bare = bare_free b.index b.chains b.space.places p c.self.invariant.whole given.was in
     let w = chain.open_write c.args.by c.args.image in
     let comes : Comes b.index c.insert.new.self b.chains c.add.new.chains b.space.places c.take.new.space.places c.args.rid p w = record {
@@ -187,14 +194,16 @@ returns-clause-others c =
       chain = c.in_default.ensures.here ∙ ap (chain.installed c.args.by c.args.image) bare;
       lists = c.add.ensures.others;
     } in
-    subst (λ h. OthersStay h (records_of c.insert.new.self c.add.new.chains c.take.new.space.places) c.args.rid) (ap (λ (h : Recorded). h.records) c.self.view_is) (come_others b.index c.insert.new.self b.chains c.add.new.chains b.space.places c.take.new.space.places c.args.rid p w comes)
+    subst (λ h. OthersStay h (records_of c.insert.new.self c.add.new.chains c.take.new.space.places) c.args.rid) (ap (λ (h : Recorded). h.records) c.self.view_is)
+    (come_others b.index c.insert.new.self b.chains c.add.new.chains b.space.places c.take.new.space.places c.args.rid p w comes)
 
 pub returns-clause-left : goal.returns-clause-left
 returns-clause-left c =
     let b = c.self.inside in
     let p = c.in_ok-place.place in
     let given = c.in_ok-place.ensures.given in
-    let none : place_of b.index c.args.rid ≡ None = unplaced_of b.index b.chains b.space.places c.args.rid c.self.invariant.whole (ap (λ h. versions_of h c.args.rid) (ap (λ (h : Recorded). h.records) c.self.view_is) ∙ c.requires) in
+    let none : place_of b.index c.args.rid ≡ None = unplaced_of b.index b.chains b.space.places c.args.rid c.self.invariant.whole
+    (ap (λ h. versions_of h c.args.rid) (ap (λ (h : Recorded). h.records) c.self.view_is) ∙ c.requires) in
     let bare = bare_free b.index b.chains b.space.places p c.self.invariant.whole given.was in
     let w = chain.open_write c.args.by c.args.image in
     let comes : Comes b.index c.insert.new.self b.chains c.add.new.chains b.space.places c.take.new.space.places c.args.rid p w = record {

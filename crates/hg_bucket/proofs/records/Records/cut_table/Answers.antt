@@ -29,7 +29,8 @@ loop-left-preserved c =
     let some = c.loop-left-test.true in
     let walk = c.loop-left.invariant in
     let there = leads_key many l k (keys_in now.long t) keys walk.1 (omega (arith, some)) c.long_key-key.ensures in (
-      round_goes (Cut c.args.bound) t keys old.records now.records new.records many l k c.loop-left.gone c.cut_long-gone.result (omega (arith, some)) c.long_count-left.ensures.whole.once there walk.0 c.cut_long-gone.ensures.here c.cut_long-gone.ensures.others c.cut_long-gone.ensures.left,
+      round_goes (Cut c.args.bound) t keys old.records now.records new.records many l k c.loop-left.gone c.cut_long-gone.result
+          (omega (arith, some)) c.long_count-left.ensures.whole.once there walk.0 c.cut_long-gone.ensures.here c.cut_long-gone.ensures.others c.cut_long-gone.ensures.left,
       leads_on many l (keys_in now.long t) (keys_in new.long t) keys walk.1 (omega (arith, some)) c.cut_long-gone.ensures.front,
     )
 

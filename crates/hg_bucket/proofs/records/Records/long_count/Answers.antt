@@ -20,4 +20,5 @@ pub returns-clause-whole : goal.returns-clause-whole
 returns-clause-whole c =
     let b = c.self.inside in
     let t = c.args.table in
-    subst (λ (h : Recorded). AreLong (keys_in h.long t) t h.records) c.self.view_is (all_long b.index b.chains b.space.places b.longs t c.self.invariant.whole c.self.invariant.listed c.stand_once.ensures)
+    subst (λ (h : Recorded). AreLong (keys_in h.long t) t h.records) c.self.view_is
+    (all_long b.index b.chains b.space.places b.longs t c.self.invariant.whole c.self.invariant.listed c.stand_once.ensures)

@@ -15,4 +15,5 @@ pub returns-clause-there : goal.returns-clause-there
 returns-clause-there c =
     let b = c.self.inside in
     let next = next_of_records b.index b.chains b.space.places c.args.table c.args.from c.next_key.result c.next_key.ensures in
-    subst (λ h. IfSome c.next_key.result (λ key. 0 < length (versions_of h (record_at c.args.table key)))) (ap (λ (h : Recorded). h.records) c.self.view_is) (some_at b.index b.chains b.space.places c.args.table c.args.from c.next_key.result c.self.invariant.whole next)
+    subst (λ h. IfSome c.next_key.result (λ key. 0 < length (versions_of h (record_at c.args.table key)))) (ap (λ (h : Recorded). h.records) c.self.view_is)
+    (some_at b.index b.chains b.space.places c.args.table c.args.from c.next_key.result c.self.invariant.whole next)

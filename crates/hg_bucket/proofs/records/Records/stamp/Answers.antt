@@ -31,12 +31,14 @@ invariant_of-self c =
     let b = c.self.inside in
     let open_write = subst (λ h. IsTrue (begins_open c.args.by (versions_of h c.args.rid))) (sym (ap (λ (h : Recorded). h.records) c.self.view_is)) c.requires.open_write in
     let over = subst (λ h. Each (IsBelow c.args.number) (drop 1 (versions_of h c.args.rid))) (sym (ap (λ (h : Recorded). h.records) c.self.view_is)) c.requires.over in
-    let done = stamps b.index b.chains c.stamp.new.self b.space.places c.args.rid c.in-Some.place c.args.by c.args.number c.place.ensures.index c.self.invariant.whole (sym c.place.ensures.place ∙ c.in-Some.is) open_write over c.stamp.ensures.here c.stamp.ensures.others in
+    let done = stamps b.index b.chains c.stamp.new.self b.space.places c.args.rid c.in-Some.place c.args.by c.args.number c.place.ensures.index c.self.invariant.whole
+    (sym c.place.ensures.place ∙ c.in-Some.is) open_write over c.stamp.ensures.here c.stamp.ensures.others in
     let p = c.in-Some.place in
     let some = open_some c.args.by (list_at b.chains p) (open_at c.args.by b.index b.chains b.space.places c.args.rid p (sym c.place.ensures.place ∙ c.in-Some.is) open_write).begins in
     record {
       whole = done.whole;
-      listed = chain_stays b.index b.chains c.stamp.new.self b.longs p c.self.invariant.listed c.stamp.ensures.others some (subst (λ vs. 0 < length vs) (sym c.stamp.ensures.here) (stamped_some c.args.by c.args.number (list_at b.chains p) some));
+      listed = chain_stays b.index b.chains c.stamp.new.self b.longs p c.self.invariant.listed c.stamp.ensures.others some
+          (subst (λ vs. 0 < length vs) (sym c.stamp.ensures.here) (stamped_some c.args.by c.args.number (list_at b.chains p) some));
     }
 
 pub returns-in-Some-clause-here : goal.returns-in-Some-clause-here
@@ -44,7 +46,8 @@ returns-in-Some-clause-here c =
     let b = c.self.inside in
     let open_write = subst (λ h. IsTrue (begins_open c.args.by (versions_of h c.args.rid))) (sym (ap (λ (h : Recorded). h.records) c.self.view_is)) c.requires.open_write in
     let over = subst (λ h. Each (IsBelow c.args.number) (drop 1 (versions_of h c.args.rid))) (sym (ap (λ (h : Recorded). h.records) c.self.view_is)) c.requires.over in
-    let done = stamps b.index b.chains c.stamp.new.self b.space.places c.args.rid c.in-Some.place c.args.by c.args.number c.place.ensures.index c.self.invariant.whole (sym c.place.ensures.place ∙ c.in-Some.is) open_write over c.stamp.ensures.here c.stamp.ensures.others in
+    let done = stamps b.index b.chains c.stamp.new.self b.space.places c.args.rid c.in-Some.place c.args.by c.args.number c.place.ensures.index c.self.invariant.whole
+    (sym c.place.ensures.place ∙ c.in-Some.is) open_write over c.stamp.ensures.here c.stamp.ensures.others in
     done.here ∙ ap (λ h. stamped c.args.by c.args.number (versions_of h c.args.rid)) (ap (λ (h : Recorded). h.records) c.self.view_is)
 
 pub returns-in-Some-clause-others : goal.returns-in-Some-clause-others
@@ -52,7 +55,8 @@ returns-in-Some-clause-others c =
     let b = c.self.inside in
     let open_write = subst (λ h. IsTrue (begins_open c.args.by (versions_of h c.args.rid))) (sym (ap (λ (h : Recorded). h.records) c.self.view_is)) c.requires.open_write in
     let over = subst (λ h. Each (IsBelow c.args.number) (drop 1 (versions_of h c.args.rid))) (sym (ap (λ (h : Recorded). h.records) c.self.view_is)) c.requires.over in
-    let done = stamps b.index b.chains c.stamp.new.self b.space.places c.args.rid c.in-Some.place c.args.by c.args.number c.place.ensures.index c.self.invariant.whole (sym c.place.ensures.place ∙ c.in-Some.is) open_write over c.stamp.ensures.here c.stamp.ensures.others in
+    let done = stamps b.index b.chains c.stamp.new.self b.space.places c.args.rid c.in-Some.place c.args.by c.args.number c.place.ensures.index c.self.invariant.whole
+    (sym c.place.ensures.place ∙ c.in-Some.is) open_write over c.stamp.ensures.here c.stamp.ensures.others in
     subst (λ h. OthersStay h (records_of b.index c.stamp.new.self b.space.places) c.args.rid) (ap (λ (h : Recorded). h.records) c.self.view_is) done.others
 
 pub returns-in-Some-clause-left : goal.returns-in-Some-clause-left
@@ -60,10 +64,12 @@ returns-in-Some-clause-left c =
     let b = c.self.inside in
     let open_write = subst (λ h. IsTrue (begins_open c.args.by (versions_of h c.args.rid))) (sym (ap (λ (h : Recorded). h.records) c.self.view_is)) c.requires.open_write in
     let over = subst (λ h. Each (IsBelow c.args.number) (drop 1 (versions_of h c.args.rid))) (sym (ap (λ (h : Recorded). h.records) c.self.view_is)) c.requires.over in
-    let done = stamps b.index b.chains c.stamp.new.self b.space.places c.args.rid c.in-Some.place c.args.by c.args.number c.place.ensures.index c.self.invariant.whole (sym c.place.ensures.place ∙ c.in-Some.is) open_write over c.stamp.ensures.here c.stamp.ensures.others in
+    let done = stamps b.index b.chains c.stamp.new.self b.space.places c.args.rid c.in-Some.place c.args.by c.args.number c.place.ensures.index c.self.invariant.whole
+    (sym c.place.ensures.place ∙ c.in-Some.is) open_write over c.stamp.ensures.here c.stamp.ensures.others in
     done.left ∙ ap left (ap (λ (h : Recorded). h.records) c.self.view_is)
 
 pub returns-in_default-clause-here : goal.returns-in_default-clause-here
 returns-in_default-clause-here c =
     let b = c.self.inside in
-    absurd (open_placed c.args.by b.index b.chains b.space.places c.args.rid (sym c.place.ensures.place ∙ c.in_default.is) (subst (λ h. IsTrue (begins_open c.args.by (versions_of h c.args.rid))) (sym (ap (λ (h : Recorded). h.records) c.self.view_is)) c.requires.open_write))
+    absurd (open_placed c.args.by b.index b.chains b.space.places c.args.rid (sym c.place.ensures.place ∙ c.in_default.is)
+    (subst (λ h. IsTrue (begins_open c.args.by (versions_of h c.args.rid))) (sym (ap (λ (h : Recorded). h.records) c.self.view_is)) c.requires.open_write))

@@ -47,7 +47,9 @@ loop-left-preserved g c =
     let same = walk.0.rest l k (omega (arith, some)) there in
     let cost = subst (λ vs. c.sweep_long-gone.new.steps ≤ c.loop-left.steps + cost_of n vs) same c.sweep_long-gone.ensures.cost in
     let once = key_paid t n old.records keys many l k (omega (arith, some)) there in (
-      round_goes (Swept c.args.horizon xs) t keys old.records now.records new.records many l k c.loop-left.gone c.sweep_long-gone.result (omega (arith, some)) c.long_count-left.ensures.whole.once there walk.0 (c.sweep_long-gone.ensures.here, c.sweep_long-gone.ensures.clean) c.sweep_long-gone.ensures.others c.sweep_long-gone.ensures.left,
+      round_goes (Swept c.args.horizon xs) t keys old.records now.records new.records many l k c.loop-left.gone c.sweep_long-gone.result
+          (omega (arith, some)) c.long_count-left.ensures.whole.once there walk.0 (c.sweep_long-gone.ensures.here, c.sweep_long-gone.ensures.clean) c.sweep_long-gone.ensures.others
+          c.sweep_long-gone.ensures.left,
       c.sweep_long-gone.ensures.listed ∙ walk.1,
       omega (arith, some, walk.2),
       omega (arith, walk.3, cost, once),
