@@ -1,5 +1,5 @@
 -- The words once the mark is stored; and a group may be counted as taken.
-use Rattle.std.proofs.Common.{◌≡◌, ℕ, suc, ◌+◌, ◌<◌, ◌≤◌, List, [], ◌∷◌, length, get_or, set, refl, sym, ap, ◌∙◌, subst, arith, length-set, get_or-set_other, get_or-set_same, le_refl}
+use Rattle.std.proofs.Common.{◌≡◌, ℕ, suc, ◌<◌, ◌≤◌, List, [], ◌∷◌, length, get_or, set, refl, sym, ap, ◌∙◌, subst, arith, length-set, get_or-set_other, get_or-set_same, le_refl}
 use mathlib.Core.Option.{none}
 use Rattle.atomic_table.specs.Table.{step, keeps, Allows}
 use Rattle.hg_base.specs.History.{History}
@@ -45,7 +45,8 @@ history_is v n h g e is = subst (λ g. IsHistoryAt v (length g) g) e (subst (λ 
 
 -- ---- a group is taken
 
-take_leaves : (c d : CoreState) (p : ℕ) (old : PassPart) (h : CommitPart) → d.phase ≡ c.phase → d.log ≡ c.log → d.stamped_list ≡ c.stamped_list → d.bucket ≡ c.bucket → d.counters ≡ c.counters → d.history ≡ c.history → d.pass ≡ c.pass → d.visits ≡ c.visits → c.mark ≤ d.mark
+take_leaves : (c d : CoreState) (p : ℕ) (old : PassPart) (h : CommitPart) → d.phase ≡ c.phase → d.log ≡ c.log → d.stamped_list ≡ c.stamped_list → d.bucket ≡ c.bucket →
+    d.counters ≡ c.counters → d.history ≡ c.history → d.pass ≡ c.pass → d.visits ≡ c.visits → c.mark ≤ d.mark
     → Leaves c d (OfPass p old ∷ OfCommit h ∷ [])
 take_leaves c d p old h phase logs list bucket counters history pass visits more = record {
   phase = λ k away i. phase i k;
@@ -61,7 +62,8 @@ take_leaves c d p old h phase logs list bucket counters history pass visits more
   home = λ k part n away s. away_same c d k part n (λ i. phase i k) (λ i. logs i k) more s;
 }
 
-pub takes : (z : Sizes) (slots id : ℕ) (m : Seated) → HasRoom z → HasPass m.0 → HasCommit m.0 → (commit m.0).taken < length (commit m.0).history.list → Allows (Rule z) slots id m 0 (λ n. n) (took (step slots 0 0 0 none) m)
+pub takes : (z : Sizes) (slots id : ℕ) (m : Seated) → HasRoom z → HasPass m.0 → HasCommit m.0 → (commit m.0).taken < length (commit m.0).history.list →
+    Allows (Rule z) slots id m 0 (λ n. n) (took (step slots 0 0 0 none) m)
 takes z slots id m room is held left t r deep at small =
     let v : View = m.0 in
     let c = r.state in

@@ -82,7 +82,8 @@ module _ (f : View → ℕ) where
   unfolding sum
   sum_set [] i v w e = absurd (some-ne-none v (sym e))
   sum_set (x ∷ vs) zero v w e = let a : ℕ = f w in let b : ℕ = sum vs in let c : ℕ = f v in let d : ℕ = f x in let g : d ≡ c = ap f (some-injective x v e) in omega arith
-  sum_set (x ∷ vs) (suc i) v w e = let a : ℕ = sum (set vs i w) in let b : ℕ = f v in let c : ℕ = sum vs in let d : ℕ = f w in let y : ℕ = f x in let h : a + b ≡ c + d = sum_set vs i v w e in omega arith
+  sum_set (x ∷ vs) (suc i) v w e = let a : ℕ = sum (set vs i w) in let b : ℕ = f v in let c : ℕ = sum vs in let d : ℕ = f w in let y : ℕ = f x in
+      let h : a + b ≡ c + d = sum_set vs i v w e in omega arith
 
   pub sum_snoc : (vs : List View) (w : View) → sum (vs ++ w ∷ []) ≡ sum vs + f w
   unfolding sum
@@ -99,20 +100,25 @@ module _ (f : View → ℕ) where
   unfolding sum
   sum_two [] i j v w n e g = absurd (some-ne-none v (sym e))
   sum_two (x ∷ vs) zero zero v w n e g = absurd (n refl)
-  sum_two (x ∷ vs) zero (suc j) v w n e g = let b : ℕ = sum vs in let c : ℕ = f v in let d : ℕ = f x in let a : ℕ = f w in let h : d ≡ c = ap f (some-injective x v e) in let l : a ≤ b = sum_one vs j w g in omega arith
-  sum_two (x ∷ vs) (suc i) zero v w n e g = let b : ℕ = sum vs in let c : ℕ = f v in let d : ℕ = f x in let a : ℕ = f w in let h : d ≡ a = ap f (some-injective x w g) in let l : c ≤ b = sum_one vs i v e in omega arith
-  sum_two (x ∷ vs) (suc i) (suc j) v w n e g = let b : ℕ = sum vs in let c : ℕ = f v in let d : ℕ = f x in let a : ℕ = f w in let l : c + a ≤ b = sum_two vs i j v w (λ t. n (ap suc t)) e g in omega arith
+  sum_two (x ∷ vs) zero (suc j) v w n e g = let b : ℕ = sum vs in let c : ℕ = f v in let d : ℕ = f x in let a : ℕ = f w in let h : d ≡ c = ap f (some-injective x v e) in
+      let l : a ≤ b = sum_one vs j w g in omega arith
+  sum_two (x ∷ vs) (suc i) zero v w n e g = let b : ℕ = sum vs in let c : ℕ = f v in let d : ℕ = f x in let a : ℕ = f w in let h : d ≡ a = ap f (some-injective x w g) in
+      let l : c ≤ b = sum_one vs i v e in omega arith
+  sum_two (x ∷ vs) (suc i) (suc j) v w n e g = let b : ℕ = sum vs in let c : ℕ = f v in let d : ℕ = f x in let a : ℕ = f w in
+      let l : c + a ≤ b = sum_two vs i j v w (λ t. n (ap suc t)) e g in omega arith
 
   -- where every other is 0
   pub sum_alone : (vs : List View) (i : ℕ) (v : View) → get_elem? vs i ≡ some v → ((j : ℕ) (w : View) → j ≢ i → get_elem? vs j ≡ some w → f w ≡ 0) → sum vs ≡ f v
   unfolding sum
   sum_alone [] i v e none = absurd (some-ne-none v (sym e))
-  sum_alone (x ∷ vs) zero v e none = let b : ℕ = sum vs in let c : ℕ = f v in let d : ℕ = f x in let g : d ≡ c = ap f (some-injective x v e) in let h : b ≡ 0 = all_none vs (λ j w at. none (suc j) w (λ t. absurd (omega arith)) at) in omega arith
+  sum_alone (x ∷ vs) zero v e none = let b : ℕ = sum vs in let c : ℕ = f v in let d : ℕ = f x in let g : d ≡ c = ap f (some-injective x v e) in
+      let h : b ≡ 0 = all_none vs (λ j w at. none (suc j) w (λ t. absurd (omega arith)) at) in omega arith
     where
       all_none : (vs : List View) → ((j : ℕ) (w : View) → get_elem? vs j ≡ some w → f w ≡ 0) → sum vs ≡ 0
       all_none [] h = refl
       all_none (y ∷ vs) h = let a : ℕ = f y in let b : ℕ = sum vs in let l : a ≡ 0 = h 0 y refl in let r : b ≡ 0 = all_none vs (λ j w at. h (suc j) w at) in omega arith
-  sum_alone (x ∷ vs) (suc i) v e none = let b : ℕ = sum vs in let c : ℕ = f v in let d : ℕ = f x in let z : d ≡ 0 = none 0 x (λ t. absurd (omega arith)) refl in let h : b ≡ c = sum_alone vs i v e (λ j w n at. none (suc j) w (λ t. n (omega arith)) at) in omega arith
+  sum_alone (x ∷ vs) (suc i) v e none = let b : ℕ = sum vs in let c : ℕ = f v in let d : ℕ = f x in let z : d ≡ 0 = none 0 x (λ t. absurd (omega arith)) refl in
+      let h : b ≡ c = sum_alone vs i v e (λ j w n at. none (suc j) w (λ t. n (omega arith)) at) in omega arith
 
 -- tallies and all shares are such sums
 pub tally_is : (k : Key) (vs : List View) → tally k vs ≡ sum (λ v. count k v.parts) vs

@@ -42,7 +42,8 @@ pick s k p q false e h f = f refl
 
 sought : (s : CoreState) (k : Key) (ps : List Part) → Each (Shown s) ps → (count k ps ≡ 0 → Shown s (new_part k)) → Right s k (seek k ps)
 sought s k [] h f = (has_new k, f refl)
-sought s k (p ∷ ps) h f = pick s k p (seek k ps) (has k p) refl h.0 (λ e. sought s k ps h.1 (λ z. f (let x : ℕ = one (has k p) in let y : ℕ = count k ps in let e' : x ≡ 0 = ap one e in let z' : y ≡ 0 = z in omega arith)))
+sought s k (p ∷ ps) h f = pick s k p (seek k ps) (has k p) refl h.0
+    (λ e. sought s k ps h.1 (λ z. f (let x : ℕ = one (has k p) in let y : ℕ = count k ps in let e' : x ≡ 0 = ap one e in let z' : y ≡ 0 = z in omega arith)))
 
 session_right : (s : CoreState) (j : ℕ) (p : Part) → Right s (session_key j) p → (s.phase j ≡ (session_there p).phase) × (s.log j ≡ (session_there p).log)
 session_right s j (OfSession i t) h = let e = sym (same_number i j h.0) in (ap s.phase e ∙ h.1.0, ap s.log e ∙ h.1.1.0)
@@ -212,7 +213,8 @@ outside_idle : (z : Sizes) (t : State ℕ View) (r : Rule z t) (j : ℕ) → bot
 outside_idle z t r j e = idle_shows (r.state.register j) (r.state.phase j) (r.steady.registers_agree.shows j) (r.outside (session_key j) (ap one e)).0
 
 pub reads : (z : Sizes) (t : State ℕ View) → HasRoom z → (r : Rule z t) → r.state ≡ read z t.words t.views
-reads z t room r = state_is z r.state r.used (slice_index t.words 0) (registers_in z t.words) (λ j. slice_index t.words (mask_at j)) (all_parts t.views) r.sized r.passes (all_shown r.state t.views (λ i v e. (r.shown i v e).parts))
+reads z t room r = state_is z r.state r.used (slice_index t.words 0) (registers_in z t.words) (λ j. slice_index t.words (mask_at j)) (all_parts t.views) r.sized r.passes
+    (all_shown r.state t.views (λ i v e. (r.shown i v e).parts))
     (λ k part. tally_all k t.views ∙ r.exact k) r.outside (sym r.words.mark) (λ j. go j (both (ltb 0 j) (ltb j (suc z.sessions))) refl) (λ j. sym (r.words.masks j))
   where
     go : (j : ℕ) (b : Bool) → both (ltb 0 j) (ltb j (suc z.sessions)) ≡ b → r.state.register j ≡ (if b then register_of (slice_index t.words (register_at j)) else registers.Idle)

@@ -1,5 +1,6 @@
 -- A stamp of what was handed over, and a group of it, are allowed.
-use Rattle.std.proofs.Common.{◌≡◌, inl, inr, ℕ, suc, ◌+◌, ◌<◌, ◌≤◌, Bool, true, false, eqb, List, [], ◌∷◌, ◌++◌, length, get_or, set, ◌==◌, refl, sym, ap, ◌∙◌, subst, arith, le_refl, append-nil, eq-eqb, true≢false}
+use Rattle.std.proofs.Common.{◌≡◌, inl, inr, ℕ, suc, ◌+◌, ◌<◌, ◌≤◌, Bool, true, false, eqb, List, [], ◌∷◌, ◌++◌, length, get_or, set, ◌==◌, refl, sym, ap, ◌∙◌, subst, arith, le_refl}
+use Rattle.std.proofs.Common.{append-nil, eq-eqb, true≢false}
 use Rattle.std.specs.Prelude.{if◌then◌else◌, IsSome, IsTrue, ◌||◌}
 use Rattle.std.proofs.lemmas.Bool.Decides.{Decides-eqb, nat_tests}
 use mathlib.Core.Option.{none}
@@ -125,21 +126,31 @@ unlike j k other = grind (arith, nat_tests)
 turned : (j k : ℕ) → (k == j) ≡ false → (j == k) ≡ false
 turned j k e = grind (arith, nat_tests)
 
-flags_shown : (c d : CoreState) (j : ℕ) (rid : Rid) (ms : Members) → d.phase ≡ c.phase → d.log ≡ c.log → d.stamped_list ≡ (j, rid) ∷ c.stamped_list → Each (Shown c) (lent ms) → Each (Shown d) (lent (flag j ms))
+flags_shown : (c d : CoreState) (j : ℕ) (rid : Rid) (ms : Members) → d.phase ≡ c.phase → d.log ≡ c.log → d.stamped_list ≡ (j, rid) ∷ c.stamped_list → Each (Shown c) (lent ms) →
+    Each (Shown d) (lent (flag j ms))
 flags_shown c d j rid [] phase logs list h = tt
 flags_shown c d j rid (m ∷ ms) phase logs list h = (go (m.0 == j) refl, flags_shown c d j rid ms phase logs list h.1)
   where
     go : (b : Bool) → (m.0 == j) ≡ b → Shown d (Lent m.0 (if b then with_stamp m.1 else m.1))
-    go true q = ((λ i. phase i m.0) ∙ h.0.0, ((λ i. logs i m.0) ∙ h.0.1.0, ap (has_stamped m.0) list ∙ ap (λ x. x || has_stamped m.0 c.stamped_list) (ap (λ n. j == n) ((Decides-eqb m.0 j).0 q) ∙ alike j)))
+    go true q = (
+      (λ i. phase i m.0) ∙ h.0.0,
+      (
+        (λ i. logs i m.0) ∙ h.0.1.0,
+        ap (has_stamped m.0) list ∙
+            ap (λ x. x || has_stamped m.0 c.stamped_list) (ap (λ n. j == n) ((Decides-eqb m.0 j).0 q) ∙ alike j),
+      ),
+    )
     go false q = ((λ i. phase i m.0) ∙ h.0.0, ((λ i. logs i m.0) ∙ h.0.1.0, ap (has_stamped m.0) list ∙ ap (λ x. x || has_stamped m.0 c.stamped_list) (turned j m.0 q) ∙ h.0.1.1))
 
-stamp_leaves : (c d : CoreState) (j b o n : ℕ) (was : SessionPart) (part : BucketPart) (h : CommitPart) (rid : Rid) (ms : Members) → is_in (who ms) j ≡ true → d.phase ≡ c.phase → d.log ≡ c.log → d.stamped_list ≡ (j, rid) ∷ c.stamped_list
+stamp_leaves : (c d : CoreState) (j b o n : ℕ) (was : SessionPart) (part : BucketPart) (h : CommitPart) (rid : Rid) (ms : Members) → is_in (who ms) j ≡ true → d.phase ≡ c.phase →
+    d.log ≡ c.log → d.stamped_list ≡ (j, rid) ∷ c.stamped_list
     → ((k : ℕ) → (k ≡ b → ⊥) → d.bucket k ≡ c.bucket k) → d.counters ≡ c.counters → d.history ≡ c.history → d.taken ≡ c.taken → d.pass ≡ c.pass → d.visits ≡ c.visits → c.mark ≤ d.mark
     → Leaves c d (Away o was n ∷ OfBucket b part ∷ OfCommit h ∷ lent ms)
 stamp_leaves c d j b o n was part h rid ms among phase logs list bucket counters history taken pass visits more = record {
   phase = λ k away i. phase i k;
   log = λ k away i. logs i k;
-  stamped = λ k away. ap (has_stamped k) list ∙ ap (λ x. x || has_stamped k c.stamped_list) (unlike j k (λ (e : k ≡ j). let x : ℕ = count (session_key k) (lent ms) in let z : 0 + (0 + (0 + x)) ≡ 0 = away in let l : 0 < x = there ms k (ap (is_in (who ms)) e ∙ among) in omega arith));
+  stamped = λ k away. ap (has_stamped k) list ∙ ap (λ x. x || has_stamped k c.stamped_list) (unlike j k (λ (e : k ≡ j). let x : ℕ = count (session_key k) (lent ms) in
+      let z : 0 + (0 + (0 + x)) ≡ 0 = away in let l : 0 < x = there ms k (ap (is_in (who ms)) e ∙ among) in omega arith));
   bucket = λ k away. bucket k (not_second b k 0 _ away);
   counters = λ k away i. counters i k;
   history = λ away. history;
@@ -150,7 +161,8 @@ stamp_leaves c d j b o n was part h rid ms among phase logs list bucket counters
   home = λ k part n away s. away_same c d k part n (λ i. phase i k) (λ i. logs i k) more s;
 }
 
-pub may_stamp : (z : Sizes) (slots id j : ℕ) (rid : Rid) (m : Seated) → HasAway m.0 → HasBoth m.0 → farther m.0 ≡ lent (members (farther m.0)) → IsTrue (is_in (who (members (farther m.0))) j) → IsTrue (is_plain (part_of j (members (farther m.0))).log)
+pub may_stamp : (z : Sizes) (slots id j : ℕ) (rid : Rid) (m : Seated) → HasAway m.0 → HasBoth m.0 → farther m.0 ≡ lent (members (farther m.0)) →
+    IsTrue (is_in (who (members (farther m.0))) j) → IsTrue (is_plain (part_of j (members (farther m.0))).log)
     → bucket_of z.buckets rid ≡ bucket_number m.0 → IsOpenBy (writer_at j (members (farther m.0))) (held m.0 rid)
     → Allows (Rule z) slots id m 0 (λ n. n) (stamps j rid (step slots 0 0 0 none) m)
 may_stamp z slots id j rid m is both far among plain place mine t r deep at small =
@@ -192,7 +204,8 @@ may_stamp z slots id j rid m is both far among plain place mine t r deep at smal
             passes = refl;
             shows = record { count = words.count; mark = words.mark; registers = words.registers; masks = words.masks };
             grows = record { history = grows.history; logs = grows.logs; taken = grows.taken };
-            only = leaves_only c d _ (stamp_leaves c d j b o (since v) (session v) (bucket v) h rid ms among refl refl refl (λ k other. stored_else c.buckets c.bucket rid _ b k place' other) refl refl refl refl refl (le_refl _));
+            only = leaves_only c d _ (stamp_leaves c d j b o (since v) (session v) (bucket v) h rid ms among refl refl refl
+                (λ k other. stored_else c.buckets c.bucket rid _ b k place' other) refl refl refl refl refl (le_refl _));
             counts = λ k. ap (λ x. one (has k first) + (one (has k (OfBucket b part)) + (one (has k (OfCommit h)) + x))) (flag_count k j ms);
             shared = ap (λ (y : ℕ). 0 + (0 + (0 + y))) (lent_shares (flag j ms) ∙ sym (lent_shares ms));
             shown = (all.0, ((content, there.1), ((list.0, (ap (λ l. (j, rid) ∷ l) list.1.0, list.1.1)), flags_shown c d j rid ms refl refl refl all.1.1.1)));
@@ -223,7 +236,8 @@ none_else js k [] e h = refl
 none_else js k (x ∷ list) e h = ap (λ b. b || has_stamped k list) (unlike x.0 k (λ (q : k ≡ x.0). true≢false (sym h.0 ∙ (ap (is_in js) (sym q) ∙ e)))) ∙ none_else js k list e h.1
 
 -- a part that is away is so still, or its transaction was published
-away_published : (c d : CoreState) (js : List ℕ) (k : ℕ) (part : SessionPart) (n : ℕ) → d.phase k ≡ c.phase k → d.log k ≡ published_logs c.log js (suc c.mark) k → d.mark ≡ suc c.mark → (is_in js k ≡ true → is_plain (c.log k) ≡ true) → Shown c (Away k part n) → Shown d (Away k part n)
+away_published : (c d : CoreState) (js : List ℕ) (k : ℕ) (part : SessionPart) (n : ℕ) → d.phase k ≡ c.phase k → d.log k ≡ published_logs c.log js (suc c.mark) k →
+    d.mark ≡ suc c.mark → (is_in js k ≡ true → is_plain (c.log k) ≡ true) → Shown c (Away k part n) → Shown d (Away k part n)
 away_published c d js k part n phase log more plain s = (phase ∙ s.0, (omega (arith, more, s.1.0), subst (IsLeft n part.log) (sym log) (go (is_in js k) plain s.1.1)))
   where
     go : (b : Bool) → (b ≡ true → is_plain (c.log k) ≡ true) → IsLeft n part.log (c.log k) → IsLeft n part.log (if b then entries.Published (suc c.mark) ∷ c.log k else c.log k)
@@ -237,9 +251,11 @@ group_is c (m ∷ ms) h = (λ i. commit_in m.0 (h.0.1.0 i) ∷ group_is c ms h.1
 
 -- what is so of each member's part, is so of its log
 logs_plain : (c : CoreState) (ms : Members) → Each (Shown c) (lent ms) → Each (λ m. IsTrue (is_plain m.1.log)) ms → Each (λ m. IsTrue (is_plain (c.log m.0))) ms
-logs_plain c ms a b = each_two (λ m. Shown c (Lent m.0 m.1)) (λ m. IsTrue (is_plain m.1.log)) (λ m. IsTrue (is_plain (c.log m.0))) ms (λ m s p. subst (λ l. IsTrue (is_plain l)) (sym s.1.0) p) (each_lent (Shown c) ms a) b
+logs_plain c ms a b = each_two (λ m. Shown c (Lent m.0 m.1)) (λ m. IsTrue (is_plain m.1.log)) (λ m. IsTrue (is_plain (c.log m.0))) ms
+    (λ m s p. subst (λ l. IsTrue (is_plain l)) (sym s.1.0) p) (each_lent (Shown c) ms a) b
 
-numbered_shown : (c d : CoreState) (n : ℕ) (js : List ℕ) (ms : Members) → d.phase ≡ c.phase → d.log ≡ published_logs c.log js n → d.stamped_list ≡ [] → Each (λ m. is_in js m.0 ≡ true) ms → Each (Shown c) (lent ms) → Each (Shown d) (lent (numbered n ms))
+numbered_shown : (c d : CoreState) (n : ℕ) (js : List ℕ) (ms : Members) → d.phase ≡ c.phase → d.log ≡ published_logs c.log js n → d.stamped_list ≡ [] →
+    Each (λ m. is_in js m.0 ≡ true) ms → Each (Shown c) (lent ms) → Each (Shown d) (lent (numbered n ms))
 numbered_shown c d n js [] phase logs list among h = tt
 numbered_shown c d n js (m ∷ ms) phase logs list among h = (
   ((λ i. phase i m.0) ∙ h.0.0, ((λ i. logs i m.0) ∙ (log_here c.log js n m.0 among.0 ∙ ap (λ l. entries.Published n ∷ l) h.0.1.0), ap (has_stamped m.0) list)),
@@ -249,12 +265,15 @@ numbered_shown c d n js (m ∷ ms) phase logs list among h = (
 hears_known : (c d : CoreState) (n : ℕ) (js : List ℕ) (ms : Members) → d.log ≡ published_logs c.log js n → Each (λ m. is_in js m.0 ≡ true) ms → Each (Shown c) (lent ms) → Each (Known d) (hears n ms)
 hears_known c d n js [] logs among h = tt
 hears_known c d n js (m ∷ ms) logs among h = (
-  subst (λ l. EndsWith l (entries.Published n ∷ m.1.log)) (sym ((λ i. logs i m.0) ∙ (log_here c.log js n m.0 among.0 ∙ ap (λ l. entries.Published n ∷ l) h.0.1.0))) (ends_same (entries.Published n ∷ m.1.log)),
+  subst (λ l. EndsWith l (entries.Published n ∷ m.1.log)) (sym ((λ i. logs i m.0) ∙ (log_here c.log js n m.0 among.0 ∙ ap (λ l. entries.Published n ∷ l) h.0.1.0)))
+      (ends_same (entries.Published n ∷ m.1.log)),
   hears_known c d n js ms logs among.1 h.1,
 )
 
-publish_leaves : (c d : CoreState) (o n : ℕ) (was : SessionPart) (h : CommitPart) (ms : Members) → d.phase ≡ c.phase → d.log ≡ published_logs c.log (who ms) (suc c.mark) → d.stamped_list ≡ [] → Each (λ e. IsTrue (is_in (who ms) e.0)) c.stamped_list
-    → ((k : ℕ) → is_in (who ms) k ≡ true → is_plain (c.log k) ≡ true) → d.bucket ≡ c.bucket → d.counters ≡ c.counters → d.taken ≡ c.taken → d.pass ≡ c.pass → d.visits ≡ c.visits → d.mark ≡ suc c.mark → Leaves c d (Away o was n ∷ OfCommit h ∷ lent ms)
+publish_leaves : (c d : CoreState) (o n : ℕ) (was : SessionPart) (h : CommitPart) (ms : Members) → d.phase ≡ c.phase → d.log ≡ published_logs c.log (who ms) (suc c.mark) →
+    d.stamped_list ≡ [] → Each (λ e. IsTrue (is_in (who ms) e.0)) c.stamped_list
+    → ((k : ℕ) → is_in (who ms) k ≡ true → is_plain (c.log k) ≡ true) → d.bucket ≡ c.bucket → d.counters ≡ c.counters → d.taken ≡ c.taken → d.pass ≡ c.pass → d.visits ≡ c.visits →
+    d.mark ≡ suc c.mark → Leaves c d (Away o was n ∷ OfCommit h ∷ lent ms)
 publish_leaves c d o n was h ms phase logs list alone plain bucket counters taken pass visits more = record {
   phase = λ k away i. phase i k;
   log = λ k away. (λ i. logs i k) ∙ log_else c.log (who ms) (suc c.mark) k (out k away);
@@ -272,7 +291,8 @@ publish_leaves c d o n was h ms phase logs list alone plain bucket counters take
     out : (k : ℕ) → count (session_key k) (Away o was n ∷ OfCommit h ∷ lent ms) ≡ 0 → is_in (who ms) k ≡ false
     out k away = not_in ms k (let x : ℕ = count (session_key k) (lent ms) in let z : 0 + (0 + x) ≡ 0 = away in omega arith)
 
-pub may_publish : (z : Sizes) (slots id x : ℕ) (m : Seated) → HasRoom z → HasAway m.0 → HasCommit m.0 → beyond m.0 ≡ lent (members (beyond m.0)) → x ≡ suc (length (commit m.0).history.list) → MayPublish (members (beyond m.0)) (commit m.0).stamped
+pub may_publish : (z : Sizes) (slots id x : ℕ) (m : Seated) → HasRoom z → HasAway m.0 → HasCommit m.0 → beyond m.0 ≡ lent (members (beyond m.0)) →
+    x ≡ suc (length (commit m.0).history.list) → MayPublish (members (beyond m.0)) (commit m.0).stamped
     → Allows (Rule z) slots id m 0 (λ _. x) (λ _. publishes (step slots 0 x 0 none) m x)
 may_publish z slots id x m room is has_it far next may t r deep at small =
     let v : View = m.0 in
@@ -296,8 +316,10 @@ may_publish z slots id x m room is has_it far next may t r deep at small =
     let alone : Each (λ e. IsTrue (is_in js e.0)) c.stamped_list = subst (Each (λ e. IsTrue (is_in js e.0))) (sym list.1.0) may.alone in
     let plain : (k : ℕ) → is_in js k ≡ true → is_plain (c.log k) ≡ true = (λ k e. each_part (λ k p. is_plain (c.log k) ≡ true) ms k (logs_plain c ms all.1.1 may.plain) e) in
     let more : List Sight = sights.Saw part.history ∷ hears x ms in
-    let small_counts : (k : ℕ) → count (session_key k) (lent ms) ≤ 1 = (λ k. let a : ℕ = count (session_key k) v.parts in let b : ℕ = count (session_key k) (lent ms) in let f : ℕ = tally (session_key k) t.views in
-    let h1 : a ≡ 0 + (0 + b) = ap (count (session_key k)) parts in let h2 : a ≤ f = tally_one (session_key k) t.views id v at in let h3 : f ≤ 1 = subst (λ n. n ≤ 1) (sym (r.exact (session_key k))) (expected_small z r.used (session_key k)) in omega arith) in (
+    let small_counts : (k : ℕ) → count (session_key k) (lent ms) ≤ 1 = (λ k. let a : ℕ = count (session_key k) v.parts in let b : ℕ = count (session_key k) (lent ms) in
+    let f : ℕ = tally (session_key k) t.views in
+    let h1 : a ≡ 0 + (0 + b) = ap (count (session_key k)) parts in let h2 : a ≤ f = tally_one (session_key k) t.views id v at in
+    let h3 : f ≤ 1 = subst (λ n. n ≤ 1) (sym (r.exact (session_key k))) (expected_small z r.used (session_key k)) in omega arith) in (
       then_has v qs' more (events.Publish x),
       keeps,
       tt,
@@ -306,14 +328,18 @@ may_publish z slots id x m room is has_it far next may t r deep at small =
             steady = publish_kept c js r.steady record {
               some = omega (arith, may.some, many ms);
               distinct = none_twice ms small_counts;
-              opened = each_who (λ j. IsSome (current (c.log j))) ms (each_two (λ m. Shown c (Lent m.0 m.1)) (λ m. IsSome (snapshot_in m.1.phase)) (λ m. IsSome (current (c.log m.0))) ms (λ m s l. subst IsSome (sym (r.steady.logs_answer.reads m.0 ∙ ap snapshot_in s.0)) l) each may.live);
+              opened = each_who (λ j. IsSome (current (c.log j))) ms
+                  (each_two (λ m. Shown c (Lent m.0 m.1)) (λ m. IsSome (snapshot_in m.1.phase)) (λ m. IsSome (current (c.log m.0))) ms
+                  (λ m s l. subst IsSome (sym (r.steady.logs_answer.reads m.0 ∙ ap snapshot_in s.0)) l) each may.live);
               plain = each_who (λ j. IsTrue (is_plain (c.log j))) ms (logs_plain c ms all.1.1 may.plain);
               stamped = λ k. cases (is_in js k)
-                  (λ e. (each_part (λ k p. has_stamped k c.stamped_list ≡ true) ms k (each_two (λ m. Shown c (Lent m.0 m.1)) (λ m. m.1.stamped ≡ true) (λ m. has_stamped m.0 c.stamped_list ≡ true) ms (λ m s f. s.1.1 ∙ f) each may.flagged) e) ∙ sym e)
+                  (λ e. (each_part (λ k p. has_stamped k c.stamped_list ≡ true) ms k
+                  (each_two (λ m. Shown c (Lent m.0 m.1)) (λ m. m.1.stamped ≡ true) (λ m. has_stamped m.0 c.stamped_list ≡ true) ms (λ m s f. s.1.1 ∙ f) each may.flagged) e) ∙ sym e)
                   (λ e. none_else js k c.stamped_list e alone ∙ sym e);
               whole = λ k rid among opened. subst (λ l. IsTrue (is_stamped k rid l)) (sym list.1.0)
                   (each_part (λ k p. IsSome (open_in rid (c.log k)) → IsTrue (is_stamped k rid h.stamped)) ms k
-                  (each_two (λ m. Shown c (Lent m.0 m.1)) (λ m. (rid : Rid) → IsSome (open_in rid m.1.log) → IsTrue (is_stamped m.0 rid h.stamped)) (λ m. IsSome (open_in rid (c.log m.0)) → IsTrue (is_stamped m.0 rid h.stamped)) ms
+                  (each_two (λ m. Shown c (Lent m.0 m.1)) (λ m. (rid : Rid) → IsSome (open_in rid m.1.log) → IsTrue (is_stamped m.0 rid h.stamped))
+                  (λ m. IsSome (open_in rid (c.log m.0)) → IsTrue (is_stamped m.0 rid h.stamped)) ms
                   (λ m s f o. f rid (subst (λ l. IsSome (open_in rid l)) s.1.0 o)) each may.every) among opened);
             };
             sized = record { sessions = r.sized.sessions; tables = r.sized.tables; buckets = r.sized.buckets; quota = r.sized.quota };

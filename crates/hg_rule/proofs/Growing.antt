@@ -7,7 +7,8 @@ use Rattle.hg_core.specs.State.{CoreState}
 use Rattle.hg_rule.specs.declared.view.Sight.{Sight}
 use Rattle.hg_rule.specs.declared.view.Sight.TheVariants.{Saw, Heard, Took, Did}
 use Rattle.hg_rule.specs.declared.view.Event.{Event}
-use Rattle.hg_rule.specs.declared.view.Event.TheVariants.{Declare, Probe, Enter, Fix, GoLive, End, Look, Install, Undo, Stamp, Mark, Sample, SampleMask, Move, Reclaim, Take, HandOver, HandBack, Publish}
+use Rattle.hg_rule.specs.declared.view.Event.TheVariants.{Declare, Probe, Enter, Fix, GoLive, End, Look, Install, Undo, Stamp, Mark, Sample, SampleMask, Move, Reclaim, Take, HandOver}
+use Rattle.hg_rule.specs.declared.view.Event.TheVariants.{HandBack, Publish}
 use Rattle.hg_rule.specs.Facts.{StartsWith, EndsWith, IsAmong, HasBegun, Stands, Known}
 use Rattle.hg_rule.proofs.Lists.{starts_on, ends_on}
 

@@ -1,5 +1,6 @@
 -- A pass may be split, and two may be united.
-use Rattle.std.proofs.Common.{◌≡◌, ◌≢◌, ◌⊎◌, inl, inr, ℕ, zero, suc, ◌+◌, ◌<◌, ◌≤◌, Bool, true, false, eqb, List, [], ◌∷◌, ◌++◌, length, set, refl, sym, ap, ◌∙◌, subst, ⊎_elim, arith, eq-eqb, ne_eqb, true≢false}
+use Rattle.std.proofs.Common.{◌≡◌, ◌≢◌, ◌⊎◌, inl, inr, ℕ, zero, suc, ◌+◌, ◌<◌, ◌≤◌, Bool, true, false, eqb, List, [], ◌∷◌, ◌++◌, length, set, refl, sym, ap, ◌∙◌, subst, ⊎_elim, arith}
+use Rattle.std.proofs.Common.{eq-eqb, ne_eqb, true≢false}
 use Rattle.std.specs.Prelude.{if◌then◌else◌, IfSome, ◌==◌}
 use mathlib.Core.Option.{some, none}
 use native.Mathlib.Decide.{ℕ_discrete, dec_le}
@@ -83,7 +84,8 @@ together s p q m = record s { passes = m; pass = put s.pass q no_record; visits 
 
 removed_append : (kind : Kind) (b : ℕ) (xs ys : List Visit) → removed_in kind b (xs ++ ys) ≡ removed_in kind b xs + removed_in kind b ys
 removed_append kind b [] ys = omega arith
-removed_append kind b (x ∷ xs) ys = let a : ℕ = if x.bucket == b then removed_by kind x.removed else 0 in let c : ℕ = removed_in kind b (xs ++ ys) in let d : ℕ = removed_in kind b xs in let e : ℕ = removed_in kind b ys in let h : c ≡ d + e = removed_append kind b xs ys in omega arith
+removed_append kind b (x ∷ xs) ys = let a : ℕ = if x.bucket == b then removed_by kind x.removed else 0 in let c : ℕ = removed_in kind b (xs ++ ys) in
+    let d : ℕ = removed_in kind b xs in let e : ℕ = removed_in kind b ys in let h : c ≡ d + e = removed_append kind b xs ys in omega arith
 
 below_rest : (n m : ℕ) (f : ℕ → ℕ) → m ≤ n → ((x : ℕ) → m ≤ x → f x ≡ 0) → sum_below n f ≡ sum_below m f
 below_rest zero m f le gone = let z : m ≡ 0 = omega arith in ap (λ k. sum_below k f) (sym z)
@@ -93,7 +95,8 @@ below_rest (suc n) m f le gone = go (dec_le m n) (λ h. below_rest n m f h gone)
     go (yes h) more = let a : ℕ = sum_below n f in let b : ℕ = sum_below m f in let c : ℕ = f n in let e : a ≡ b = more h in let z : c ≡ 0 = gone n h in omega arith
     go (no h) more = let same : suc n ≡ m = omega arith in ap (λ k. sum_below k f) same
 
-module _ (s : CoreState) (p q m : ℕ) (h : IsSteady s) (apart : p ≢ q) (p_low : p < s.passes) (q_low : q < s.passes) (m_low : m ≤ s.passes) (rest : (x : ℕ) → (x < m) ⊎ (put (put s.visits p (s.visits q ++ s.visits p)) q [] x ≡ [])) where
+module _ (s : CoreState) (p q m : ℕ) (h : IsSteady s) (apart : p ≢ q) (p_low : p < s.passes) (q_low : q < s.passes) (m_low : m ≤ s.passes) (rest : (x : ℕ) →
+    (x < m) ⊎ (put (put s.visits p (s.visits q ++ s.visits p)) q [] x ≡ [])) where
   abbrev moved : ℕ → List Visit
   moved = put s.visits p (s.visits q ++ s.visits p)
 
@@ -123,7 +126,8 @@ module _ (s : CoreState) (p q m : ℕ) (h : IsSteady s) (apart : p ≢ q) (p_low
       omega arith
     where
       grown : (kind : Kind) (b : ℕ) → removed_in kind b (moved p) ≡ removed_in kind b (s.visits p) + removed_in kind b (s.visits q)
-      grown kind b = let x : ℕ = removed_in kind b (moved p) in let y : ℕ = removed_in kind b (s.visits p) in let z : ℕ = removed_in kind b (s.visits q) in let e : x ≡ z + y = ap (removed_in kind b) (put_here s.visits p _) ∙ removed_append kind b (s.visits q) (s.visits p) in omega arith
+      grown kind b = let x : ℕ = removed_in kind b (moved p) in let y : ℕ = removed_in kind b (s.visits p) in let z : ℕ = removed_in kind b (s.visits q) in
+          let e : x ≡ z + y = ap (removed_in kind b) (put_here s.visits p _) ∙ removed_append kind b (s.visits q) (s.visits p) in omega arith
 
       gone : (kind : Kind) (b : ℕ) → removed_in kind b (moved q) ≡ removed_in kind b (after q) + removed_in kind b (s.visits q)
       gone kind b = let x : ℕ = removed_in kind b (moved q) in let y : ℕ = removed_in kind b (after q) in let z : ℕ = removed_in kind b (s.visits q) in
@@ -145,7 +149,8 @@ module _ (s : CoreState) (p q m : ℕ) (h : IsSteady s) (apart : p ≢ q) (p_low
     stamped_is_next = h.stamped_is_next;
     contents_are_ordered = h.contents_are_ordered;
     contents_are_placed = h.contents_are_placed;
-    records_bound_sessions = by_number q (λ x b. (j : ℕ) → IfSome (found j (if b then no_record else s.pass x).loaded) (λ loaded. Bounds (if b then no_record else s.pass x).mark loaded (s.phase j))) (λ j. tt) (λ x other. h.records_bound_sessions x);
+    records_bound_sessions = by_number q (λ x b. (j : ℕ) → IfSome (found j (if b then no_record else s.pass x).loaded)
+        (λ loaded. Bounds (if b then no_record else s.pass x).mark loaded (s.phase j))) (λ j. tt) (λ x other. h.records_bound_sessions x);
     open_writes_may_commit = h.open_writes_may_commit;
     history = h.history;
     no_update_is_lost = h.no_update_is_lost;
@@ -153,7 +158,8 @@ module _ (s : CoreState) (p q m : ℕ) (h : IsSteady s) (apart : p ≢ q) (p_low
     replies_answer = h.replies_answer;
     records_reach_logs = record {
       known = by_number q (λ x b. (j : ℕ) → (if b then no_record else s.pass x).known j ≤ length (s.log j)) (λ j. omega arith) (λ x other. h.records_reach_logs.known x);
-      stands = by_number q (λ x b. (j : ℕ) → IfSome (found j (if b then no_record else s.pass x).loaded) (λ loaded. StandsIn ((if b then no_record else s.pass x).known j) loaded.register (s.log j) (s.phase j))) (λ j. tt) (λ x other. h.records_reach_logs.stands x);
+      stands = by_number q (λ x b. (j : ℕ) → IfSome (found j (if b then no_record else s.pass x).loaded)
+          (λ loaded. StandsIn ((if b then no_record else s.pass x).known j) loaded.register (s.log j) (s.phase j))) (λ j. tt) (λ x other. h.records_reach_logs.stands x);
     };
     taken_at_most_mark = h.taken_at_most_mark;
     counters_balance = record {
@@ -164,7 +170,8 @@ module _ (s : CoreState) (p q m : ℕ) (h : IsSteady s) (apart : p ≢ q) (p_low
     };
     visits_stay = record {
       each = by_number q (λ x b. Each (IsVisit s.buckets s.mark (versions s.buckets s.bucket)) (if b then [] else moved x)) tt
-          (λ x other. by_number p (λ y b. Each (IsVisit s.buckets s.mark (versions s.buckets s.bucket)) (if b then s.visits q ++ s.visits p else s.visits y)) (each_append _ (s.visits q) (s.visits p) (h.visits_stay.each q) (h.visits_stay.each p)) (λ y away. h.visits_stay.each y) x);
+          (λ x other. by_number p (λ y b. Each (IsVisit s.buckets s.mark (versions s.buckets s.bucket)) (if b then s.visits q ++ s.visits p else s.visits y))
+          (each_append _ (s.visits q) (s.visits p) (h.visits_stay.each q) (h.visits_stay.each p)) (λ y away. h.visits_stay.each y) x);
       others = rest;
     };
   }
@@ -184,7 +191,8 @@ record TurnsTo (z : Sizes) (used used' : ℕ → Bool) (c d : CoreState) (words 
   pub outside : (k : Key) → expected z used' k ≡ 0 → Shown d (new_part k)
   pub shared : shares qs' ≡ shares qs
 
-turn_to : (z : Sizes) (t : Table) (r : Rule z t) (id : ℕ) (v w : View) (ts qs qs' ps : List Part) (words : List ℕ) (used' : ℕ → Bool) (d : CoreState) → get_elem? t.views id ≡ some v → v.parts ≡ qs ++ ps → w.parts ≡ qs' ++ ps
+turn_to : (z : Sizes) (t : Table) (r : Rule z t) (id : ℕ) (v w : View) (ts qs qs' ps : List Part) (words : List ℕ) (used' : ℕ → Bool) (d : CoreState) →
+    get_elem? t.views id ≡ some v → v.parts ≡ qs ++ ps → w.parts ≡ qs' ++ ps
     → TurnsTo z r.used used' r.state d words ts qs qs' → (Each (Shown d) ps → IsTrueOf d w)
     → Rule z record { words = words; homes = t.homes; views = set t.views id w }
 turn_to z t r id v w ts qs qs' ps words used' d at is is' h own = record {
@@ -194,10 +202,14 @@ turn_to z t r id v w ts qs qs' ps words used' d at is is' h own = record {
   words = h.shows;
   used = used';
   passes = h.passes;
-  exact = λ k. let a : ℕ = tally k (set t.views id w) in let b : ℕ = count k v.parts in let f : ℕ = tally k t.views in let g : ℕ = count k w.parts in let q : ℕ = count k qs in let q' : ℕ = count k qs' in let p : ℕ = count k ps in let x : ℕ = expected z r.used k in let x' : ℕ = expected z used' k in
-      let h0 : a + b ≡ f + g = tally_set k t.views id v w at in let h1 : g ≡ q' + p = ap (count k) is' ∙ count_append k qs' ps in let h2 : b ≡ q + p = parted k in let h3 : x' + q ≡ x + q' = h.counts k in let h4 : f ≡ x = r.exact k in omega arith;
-  shared = let a : ℕ = all_shares (set t.views id w) in let b : ℕ = shares v.parts in let f : ℕ = all_shares t.views in let g : ℕ = shares w.parts in let q : ℕ = shares qs in let q' : ℕ = shares qs' in let p : ℕ = shares ps in
-      let h0 : a + b ≡ f + g = shares_set t.views id v w at in let h1 : g ≡ q' + p = ap shares is' ∙ shares_append qs' ps in let h2 : b ≡ q + p = ap shares is ∙ shares_append qs ps in let h3 : q' ≡ q = h.shared in let h4 : a ≡ f = omega arith in h4 ∙ r.shared;
+  exact = λ k. let a : ℕ = tally k (set t.views id w) in let b : ℕ = count k v.parts in let f : ℕ = tally k t.views in let g : ℕ = count k w.parts in let q : ℕ = count k qs in
+      let q' : ℕ = count k qs' in let p : ℕ = count k ps in let x : ℕ = expected z r.used k in let x' : ℕ = expected z used' k in
+      let h0 : a + b ≡ f + g = tally_set k t.views id v w at in let h1 : g ≡ q' + p = ap (count k) is' ∙ count_append k qs' ps in let h2 : b ≡ q + p = parted k in
+      let h3 : x' + q ≡ x + q' = h.counts k in let h4 : f ≡ x = r.exact k in omega arith;
+  shared = let a : ℕ = all_shares (set t.views id w) in let b : ℕ = shares v.parts in let f : ℕ = all_shares t.views in let g : ℕ = shares w.parts in let q : ℕ = shares qs in
+      let q' : ℕ = shares qs' in let p : ℕ = shares ps in
+      let h0 : a + b ≡ f + g = shares_set t.views id v w at in let h1 : g ≡ q' + p = ap shares is' ∙ shares_append qs' ps in
+      let h2 : b ≡ q + p = ap shares is ∙ shares_append qs ps in let h3 : q' ≡ q = h.shared in let h4 : a ≡ f = omega arith in h4 ∙ r.shared;
   outside = h.outside;
   shown = λ j y at'. ⊎_elim
       (λ (u : (j ≡ id) × (w ≡ y)). subst (IsTrueOf d) u.1 mine)
@@ -212,12 +224,16 @@ turn_to z t r id v w ts qs qs' ps words used' d at is is' h own = record {
     parted k = ap (count k) is ∙ count_append k qs ps
 
     mine : IsTrueOf d w
-    mine = own (stay c d ts ps h.only (λ k. let b : ℕ = count k v.parts in let q : ℕ = count k qs in let p : ℕ = count k ps in let f : ℕ = tally k t.views in let u : ℕ = count k ts in let x : ℕ = expected z r.used k in
-        let h2 : b ≡ q + p = parted k in let h3 : b ≤ f = tally_one k t.views id v at in let h4 : f ≡ x = r.exact k in let h5 : u + x ≤ suc q = h.apart k in omega arith) (each_right (Shown c) qs ps (subst (Each (Shown c)) is (r.shown id v at).parts)))
+    mine = own (stay c d ts ps h.only (λ k. let b : ℕ = count k v.parts in let q : ℕ = count k qs in let p : ℕ = count k ps in let f : ℕ = tally k t.views in
+        let u : ℕ = count k ts in let x : ℕ = expected z r.used k in
+        let h2 : b ≡ q + p = parted k in let h3 : b ≤ f = tally_one k t.views id v at in let h4 : f ≡ x = r.exact k in let h5 : u + x ≤ suc q = h.apart k in
+        omega arith) (each_right (Shown c) qs ps (subst (Each (Shown c)) is (r.shown id v at).parts)))
 
     other : (j : ℕ) (y : View) → j ≢ id → get_elem? t.views j ≡ some y → IsTrueOf d y
-    other j y away at' = true_on c d y y.parts h.grows (stay c d ts y.parts h.only (λ k. let b : ℕ = count k v.parts in let q : ℕ = count k qs in let p : ℕ = count k ps in let m : ℕ = count k y.parts in let f : ℕ = tally k t.views in let u : ℕ = count k ts in let x : ℕ = expected z r.used k in
-        let h2 : b ≡ q + p = parted k in let h3 : b + m ≤ f = tally_two k t.views id j v y (λ o. away (sym o)) at at' in let h4 : f ≡ x = r.exact k in let h5 : u + x ≤ suc q = h.apart k in omega arith) (r.shown j y at').parts) (r.shown j y at')
+    other j y away at' = true_on c d y y.parts h.grows (stay c d ts y.parts h.only (λ k. let b : ℕ = count k v.parts in let q : ℕ = count k qs in let p : ℕ = count k ps in
+        let m : ℕ = count k y.parts in let f : ℕ = tally k t.views in let u : ℕ = count k ts in let x : ℕ = expected z r.used k in
+        let h2 : b ≡ q + p = parted k in let h3 : b + m ≤ f = tally_two k t.views id j v y (λ o. away (sym o)) at at' in let h4 : f ≡ x = r.exact k in
+        let h5 : u + x ≤ suc q = h.apart k in omega arith) (r.shown j y at').parts) (r.shown j y at')
 
 -- ---- what the two steps change
 
@@ -233,7 +249,8 @@ record Passing (c d : CoreState) (i j : ℕ) : Type 0 where
   pub visits : (k : ℕ) → (k ≡ i → ⊥) → (k ≡ j → ⊥) → d.visits k ≡ c.visits k
 
 -- none but two passes change where all else stays
-passing_only : (c : CoreState) (passes i j : ℕ) (ps : ℕ → PassRecord) (vs : ℕ → List Visit) (a b : PassPart) → Passing c (record c { passes = passes; pass = ps; visits = vs }) i j → Only c (record c { passes = passes; pass = ps; visits = vs }) (OfPass i a ∷ OfPass j b ∷ [])
+passing_only : (c : CoreState) (passes i j : ℕ) (ps : ℕ → PassRecord) (vs : ℕ → List Visit) (a b : PassPart) → Passing c (record c { passes = passes; pass = ps; visits = vs }) i j
+    → Only c (record c { passes = passes; pass = ps; visits = vs }) (OfPass i a ∷ OfPass j b ∷ [])
 passing_only c passes i j ps vs a b h (OfSession k t) away s = s
 passing_only c passes i j ps vs a b h (OfBucket k t) away s = s
 passing_only c passes i j ps vs a b h (OfCommit t) away s = s
@@ -298,8 +315,10 @@ may_bud z slots id m is two t r deep at small =
             outside = outside;
             shared = let a : ℕ = kept_of old.share in let b : ℕ = given_of old.share in let e : ℕ = old.share in let h : a + b ≡ e = halves_both old.share in omega arith;
           })
-          (λ rest. true_on c d v (OfPass p kept ∷ OfPass n new ∷ others v) grows
-          ((put_else c.pass n p _ (λ (e : p ≡ n). let l = p_low in omega arith) ∙ own.0, (own.1.0, halves_kept old.share two)), ((put_here c.pass n _ ∙ own.0, (fresh.1.0, halves_given old.share two)), rest)) (r.shown id v at)),
+          (λ rest. true_on c d v (OfPass p kept ∷ OfPass n new ∷ others v) grows (
+            (put_else c.pass n p _ (λ (e : p ≡ n). let l = p_low in omega arith) ∙ own.0, (own.1.0, halves_kept old.share two)),
+            ((put_here c.pass n _ ∙ own.0, (fresh.1.0, halves_given old.share two)), rest),
+          ) (r.shown id v at)),
       ((n, refl), refl),
     )
   where
@@ -412,8 +431,17 @@ may_unite z slots id m is next t r deep at small =
             outside = outside;
             shared = let a : ℕ = old.share in let b : ℕ = more.share in omega arith;
           })
-          (λ ps. true_on c d v (OfPass p both ∷ beyond v) grows
-          ((put_else c.pass q p _ apart_from ∙ all.0.0, (put_else gathered q p [] apart_from ∙ (put_here c.visits p _ ∙ (λ i. all.1.0.1.0 i ++ all.0.1.0 i)), (let a : ℕ = old.share in let b : ℕ = more.share in let l : 0 < a = all.0.1.1 in omega arith))), ps) (r.shown id v at)),
+          (λ ps. true_on c d v (OfPass p both ∷ beyond v) grows (
+            (
+              put_else c.pass q p _ apart_from ∙ all.0.0,
+              (
+                put_else gathered q p [] apart_from ∙
+                    (put_here c.visits p _ ∙ (λ i. all.1.0.1.0 i ++ all.0.1.0 i)),
+                (let a : ℕ = old.share in let b : ℕ = more.share in let l : 0 < a = all.0.1.1 in omega arith),
+              ),
+            ),
+            ps,
+          ) (r.shown id v at)),
       (refl, refl),
     )
   where
@@ -449,17 +477,21 @@ may_unite z slots id m is next t r deep at small =
 
     -- there is one part of a pass, and here are two
     at_most : (x : ℕ) → one (eqb p x) + (one (eqb q x) + count (pass_key x) (beyond v)) ≤ one (r.used x)
-    at_most x = let a : ℕ = count (pass_key x) v.parts in let f : ℕ = tally (pass_key x) t.views in let y : ℕ = one (r.used x) in let b : ℕ = one (eqb p x) in let d : ℕ = one (eqb q x) in let e : ℕ = count (pass_key x) (beyond v) in
+    at_most x = let a : ℕ = count (pass_key x) v.parts in let f : ℕ = tally (pass_key x) t.views in let y : ℕ = one (r.used x) in let b : ℕ = one (eqb p x) in
+        let d : ℕ = one (eqb q x) in let e : ℕ = count (pass_key x) (beyond v) in
         let h1 : a ≡ b + (d + e) = ap (count (pass_key x)) parts in let h2 : a ≤ f = tally_one (pass_key x) t.views id v at in let h3 : f ≡ y = r.exact (pass_key x) in omega arith
 
     p_used : r.used p ≡ true
-    p_used = one_true (r.used p) (let b : ℕ = one (eqb p p) in let d : ℕ = one (eqb q p) in let e : ℕ = count (pass_key p) (beyond v) in let y : ℕ = one (r.used p) in let l : b + (d + e) ≤ y = at_most p in let s : b ≡ 1 = ap one (eq-eqb p p refl) in omega arith)
+    p_used = one_true (r.used p) (let b : ℕ = one (eqb p p) in let d : ℕ = one (eqb q p) in let e : ℕ = count (pass_key p) (beyond v) in let y : ℕ = one (r.used p) in
+        let l : b + (d + e) ≤ y = at_most p in let s : b ≡ 1 = ap one (eq-eqb p p refl) in omega arith)
 
     q_used : r.used q ≡ true
-    q_used = one_true (r.used q) (let b : ℕ = one (eqb p q) in let d : ℕ = one (eqb q q) in let e : ℕ = count (pass_key q) (beyond v) in let y : ℕ = one (r.used q) in let l : b + (d + e) ≤ y = at_most q in let s : d ≡ 1 = ap one (eq-eqb q q refl) in omega arith)
+    q_used = one_true (r.used q) (let b : ℕ = one (eqb p q) in let d : ℕ = one (eqb q q) in let e : ℕ = count (pass_key q) (beyond v) in let y : ℕ = one (r.used q) in
+        let l : b + (d + e) ≤ y = at_most q in let s : d ≡ 1 = ap one (eq-eqb q q refl) in omega arith)
 
     apart_from : p ≢ q
-    apart_from same = let b : ℕ = one (eqb p q) in let d : ℕ = one (eqb q q) in let e : ℕ = count (pass_key q) (beyond v) in let y : ℕ = one (r.used q) in let l : b + (d + e) ≤ y = at_most q in let s : d ≡ 1 = ap one (eq-eqb q q refl) in let s' : b ≡ 1 = ap one (eq-eqb p q same) in
+    apart_from same = let b : ℕ = one (eqb p q) in let d : ℕ = one (eqb q q) in let e : ℕ = count (pass_key q) (beyond v) in let y : ℕ = one (r.used q) in
+        let l : b + (d + e) ≤ y = at_most q in let s : d ≡ 1 = ap one (eq-eqb q q refl) in let s' : b ≡ 1 = ap one (eq-eqb p q same) in
         let y' : y ≤ 1 = expected_small z r.used (pass_key q) in omega arith
 
     used' : ℕ → Bool
@@ -534,7 +566,11 @@ pub may_rejoin : (z : Sizes) (id : ℕ) (v : View) (other : ℕ) (w : View) → 
 may_rejoin z id v other w = may_join z id v other w (rejoined v w) spent record {
   counts = λ k. put_in_count k v.parts w.parts;
   shared = put_in_shares v.parts w.parts;
-  left = λ s a b. record { parts = put_in_each (Shown s) v.parts w.parts a.parts b.parts; sights = each_append (Known s) v.sights w.sights a.sights b.sights; events = each_append (Stands s) v.events w.events a.events b.events };
+  left = λ s a b. record {
+    parts = put_in_each (Shown s) v.parts w.parts a.parts b.parts;
+    sights = each_append (Known s) v.sights w.sights a.sights b.sights;
+    events = each_append (Stands s) v.events w.events a.events b.events;
+  };
   right = λ s a b. record { parts = tt; sights = tt; events = tt };
 }
 

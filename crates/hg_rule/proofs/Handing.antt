@@ -73,10 +73,24 @@ may_lend z slots id m room is t r deep at small =
         known = (starts_same c.history, tt);
         stands = tt;
       },
-      ((c.history, (history_at z t r id v room at, (subst (λ x. loaded_in (session v).phase ≤ x) (sym mark) (loaded_most c.mark (session v).phase (subst (PhaseUpTo c.mark) own.0 (r.steady.mark_is_length.sessions j))), refl))), refl),
+      (
+        (
+          c.history,
+          (
+            history_at z t r id v room at,
+            (
+              subst (λ x. loaded_in (session v).phase ≤ x) (sym mark)
+                  (loaded_most c.mark (session v).phase (subst (PhaseUpTo c.mark) own.0 (r.steady.mark_is_length.sessions j))),
+              refl,
+            ),
+          ),
+        ),
+        refl,
+      ),
     )
 
-pub may_retake : (z : Sizes) (slots id : ℕ) (m : Seated) → HasAway m.0 → others m.0 ≡ Lent (number m.0) (next_lent m.0) ∷ beyond m.0 → Allows (Rule z) slots id m 0 (λ n. n) (retakes (step slots 0 0 0 none) m)
+pub may_retake : (z : Sizes) (slots id : ℕ) (m : Seated) → HasAway m.0 → others m.0 ≡ Lent (number m.0) (next_lent m.0) ∷ beyond m.0 →
+    Allows (Rule z) slots id m 0 (λ n. n) (retakes (step slots 0 0 0 none) m)
 may_retake z slots id m is next t r deep at small =
     let v : View = m.0 in
     let c = r.state in
@@ -152,7 +166,10 @@ awaits v w u k is only same e =
 pub resumed : (v w u x : View) → Awaiting v w u → Retakes u x → (x ≡ resuming v w) × IsBack (since v) (session v) (session w)
 resumed v w u x a r = (
   r.0 ∙ (λ i. seeing (OfSession (a.number_is i) (a.lent_is i) ∷ a.beyond_is i) (a.sights_are i) (a.events_are i)),
-  record { phase = sym (ap (λ (p : SessionPart). p.phase) a.lent_is) ∙ r.1.phase ∙ ap (λ (p : SessionPart). p.phase) a.session_is; log = subst (λ (l : List LogEntry). IsLeft (since v) (session v).log l) (ap (λ (p : SessionPart). p.log) a.lent_is) (back r.1.log) },
+  record {
+    phase = sym (ap (λ (p : SessionPart). p.phase) a.lent_is) ∙ r.1.phase ∙ ap (λ (p : SessionPart). p.phase) a.session_is;
+    log = subst (λ (l : List LogEntry). IsLeft (since v) (session v).log l) (ap (λ (p : SessionPart). p.log) a.lent_is) (back r.1.log);
+  },
 )
   where
     back : IsLeft (since u) (session u).log (next_lent u).log → IsLeft (since v) (session v).log (next_lent u).log

@@ -40,7 +40,8 @@ still_session t z p q os own seat rest e =
 
 -- ---- with a bucket, and without
 
-pub session_arrives : (v w u : View) (b : ℕ) (part : BucketPart) → HasSession v → w.parts ≡ OfBucket b part ∷ [] → u ≡ with_bucket v w → u.parts ≡ OfSession (number v) (session v) ∷ OfBucket b part ∷ others v
+pub session_arrives : (v w u : View) (b : ℕ) (part : BucketPart) → HasSession v → w.parts ≡ OfBucket b part ∷ [] → u ≡ with_bucket v w →
+    u.parts ≡ OfSession (number v) (session v) ∷ OfBucket b part ∷ others v
 session_arrives v w u b part is only e = ap (λ (x : View). x.parts) e ∙ (λ i. put_in (arrive_first (part_number (only i)) (is i)) (only i))
 
 pub session_departs : (v u : View) → HasSession v → u ≡ without_bucket v → u.parts ≡ OfSession (number v) (session v) ∷ beyond v

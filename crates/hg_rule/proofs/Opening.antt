@@ -33,10 +33,13 @@ next : (j a : ℕ) → one (ltb j (suc a)) ≡ one (eqb a j) + one (ltb j a)
 next j a = go (dec_le (suc j) a) (ℕ_discrete a j)
   where
     go : Dec (suc j ≤ a) → Dec (a ≡ j) → one (ltb j (suc a)) ≡ one (eqb a j) + one (ltb j a)
-    go (yes l) d = let x : ℕ = one (ltb j (suc a)) in let y : ℕ = one (eqb a j) in let z : ℕ = one (ltb j a) in let e1 : x ≡ 1 = ap one (lt-ltb j (suc a) (omega arith)) in let e2 : y ≡ 0 = ap one (ne_eqb a j (λ (e : a ≡ j). omega arith)) in let e3 : z ≡ 1 = ap one (lt-ltb j a (omega arith)) in omega arith
-    go (no l) (yes e) = let x : ℕ = one (ltb j (suc a)) in let y : ℕ = one (eqb a j) in let z : ℕ = one (ltb j a) in let e1 : x ≡ 1 = ap one (lt-ltb j (suc a) (omega arith)) in let e2 : y ≡ 1 = ap one (eq-eqb a j e) in let e3 : z ≡ 0 = ap one (le-ltb j a (omega arith)) in omega arith
+    go (yes l) d = let x : ℕ = one (ltb j (suc a)) in let y : ℕ = one (eqb a j) in let z : ℕ = one (ltb j a) in let e1 : x ≡ 1 = ap one (lt-ltb j (suc a) (omega arith)) in
+        let e2 : y ≡ 0 = ap one (ne_eqb a j (λ (e : a ≡ j). omega arith)) in let e3 : z ≡ 1 = ap one (lt-ltb j a (omega arith)) in omega arith
+    go (no l) (yes e) = let x : ℕ = one (ltb j (suc a)) in let y : ℕ = one (eqb a j) in let z : ℕ = one (ltb j a) in let e1 : x ≡ 1 = ap one (lt-ltb j (suc a) (omega arith)) in
+        let e2 : y ≡ 1 = ap one (eq-eqb a j e) in let e3 : z ≡ 0 = ap one (le-ltb j a (omega arith)) in omega arith
     go (no l) (no n) = let x : ℕ = one (ltb j (suc a)) in let y : ℕ = one (eqb a j) in let z : ℕ = one (ltb j a) in
-        let big : suc a ≤ j = omega arith in let e1 : x ≡ 0 = ap one (le-ltb j (suc a) big) in let e2 : y ≡ 0 = ap one (ne_eqb a j n) in let e3 : z ≡ 0 = ap one (le-ltb j a (omega arith)) in omega arith
+        let big : suc a ≤ j = omega arith in let e1 : x ≡ 0 = ap one (le-ltb j (suc a) big) in let e2 : y ≡ 0 = ap one (ne_eqb a j n) in
+        let e3 : z ≡ 0 = ap one (le-ltb j a (omega arith)) in omega arith
 
 -- a part of the key stands in the run where its number does
 run_one : (key : ℕ → Key) (f : ℕ → Part) → ((i j : ℕ) → has (key j) (f i) ≡ eqb i j) → (j a n : ℕ) → count (key j) (run f a n) + one (ltb j a) ≡ one (ltb j (a + n))
@@ -65,7 +68,8 @@ both_is (suc j) n = let x : ℕ = one (both (ltb 0 (suc j)) (ltb (suc j) (suc n)
 
 -- the same of either key of a session
 one_from : (key : ℕ → Key) → ((i j : ℕ) → has (key j) (session_part i) ≡ eqb i j) → (j n : ℕ) → count (key j) (run session_part 1 n) ≡ one (both (ltb 0 j) (ltb j (suc n)))
-one_from key is j n = let a : ℕ = count (key j) (run session_part 1 n) in let b : ℕ = one (ltb j 1) in let c : ℕ = one (ltb j (1 + n)) in let d : ℕ = one (ltb j (suc n)) in let x : ℕ = one (both (ltb 0 j) (ltb j (suc n))) in
+one_from key is j n = let a : ℕ = count (key j) (run session_part 1 n) in let b : ℕ = one (ltb j 1) in let c : ℕ = one (ltb j (1 + n)) in let d : ℕ = one (ltb j (suc n)) in
+    let x : ℕ = one (both (ltb 0 j) (ltb j (suc n))) in
     let h : a + b ≡ c = run_one key session_part is j 1 n in let e : c ≡ d = ap (λ (m : ℕ). one (ltb j m)) (one_more n) in let f : x + b ≡ d = both_is j n in omega arith
   where
     one_more : (n : ℕ) → 1 + n ≡ suc n
@@ -74,21 +78,32 @@ one_from key is j n = let a : ℕ = count (key j) (run session_part 1 n) in let 
 from_one : (j n : ℕ) → count (session_key j) (run session_part 1 n) ≡ one (both (ltb 0 j) (ltb j (suc n)))
 from_one j n = one_from session_key (λ i j. refl) j n
 
-first_count : (z : Sizes) (k : Key) → count k (first_view z).parts ≡ count k (run session_part 1 z.sessions) + (count k (run bucket_part 0 z.buckets) + (count k (run pass_part 0 3) + count k (new_part commit_key ∷ [])))
+first_count : (z : Sizes) (k : Key) → count k (first_view z).parts ≡ count k (run session_part 1 z.sessions) +
+    (count k (run bucket_part 0 z.buckets) + (count k (run pass_part 0 3) + count k (new_part commit_key ∷ [])))
 first_count z k = let s = run session_part 1 z.sessions in let b = run bucket_part 0 z.buckets in let p = run pass_part 0 3 in let c = new_part commit_key ∷ [] in
     count_append k s (b ++ (p ++ c)) ∙ ap (λ (m : ℕ). count k s + m) (count_append k b (p ++ c) ∙ ap (λ (m : ℕ). count k b + m) (count_append k p c))
 
 all_once : (z : Sizes) (k : Key) → count k (first_view z).parts ≡ expected z (λ p. ltb p 3) k
-all_once z (session_key j) = let k = session_key j in let t : ℕ = count k (first_view z).parts in let a : ℕ = count k (run session_part 1 z.sessions) in let b : ℕ = count k (run bucket_part 0 z.buckets) in let c : ℕ = count k (run pass_part 0 3) in let x : ℕ = one (both (ltb 0 j) (ltb j (suc z.sessions))) in
-    let e : t ≡ a + (b + (c + 0)) = first_count z k in let f : b ≡ 0 = run_none k bucket_part (λ i. refl) 0 z.buckets in let g : c ≡ 0 = run_none k pass_part (λ i. refl) 0 3 in let h : a ≡ x = from_one j z.sessions in omega arith
-all_once z (home_key j) = let k = home_key j in let t : ℕ = count k (first_view z).parts in let a : ℕ = count k (run session_part 1 z.sessions) in let b : ℕ = count k (run bucket_part 0 z.buckets) in let c : ℕ = count k (run pass_part 0 3) in let x : ℕ = one (both (ltb 0 j) (ltb j (suc z.sessions))) in
-    let e : t ≡ a + (b + (c + 0)) = first_count z k in let f : b ≡ 0 = run_none k bucket_part (λ i. refl) 0 z.buckets in let g : c ≡ 0 = run_none k pass_part (λ i. refl) 0 3 in let h : a ≡ x = one_from home_key (λ i j. refl) j z.sessions in omega arith
-all_once z (bucket_key j) = let k = bucket_key j in let t : ℕ = count k (first_view z).parts in let a : ℕ = count k (run session_part 1 z.sessions) in let b : ℕ = count k (run bucket_part 0 z.buckets) in let c : ℕ = count k (run pass_part 0 3) in let x : ℕ = one (ltb j z.buckets) in
-    let e : t ≡ a + (b + (c + 0)) = first_count z k in let f : a ≡ 0 = run_none k session_part (λ i. refl) 1 z.sessions in let g : c ≡ 0 = run_none k pass_part (λ i. refl) 0 3 in let h : b ≡ x = from_zero bucket_key bucket_part (λ i j. refl) j z.buckets in omega arith
-all_once z commit_key = let k = commit_key in let t : ℕ = count k (first_view z).parts in let a : ℕ = count k (run session_part 1 z.sessions) in let b : ℕ = count k (run bucket_part 0 z.buckets) in let c : ℕ = count k (run pass_part 0 3) in
-    let e : t ≡ a + (b + (c + 1)) = first_count z k in let d : a ≡ 0 = run_none k session_part (λ i. refl) 1 z.sessions in let f : b ≡ 0 = run_none k bucket_part (λ i. refl) 0 z.buckets in let g : c ≡ 0 = run_none k pass_part (λ i. refl) 0 3 in omega arith
-all_once z (pass_key j) = let k = pass_key j in let t : ℕ = count k (first_view z).parts in let a : ℕ = count k (run session_part 1 z.sessions) in let b : ℕ = count k (run bucket_part 0 z.buckets) in let c : ℕ = count k (run pass_part 0 3) in let x : ℕ = one (ltb j 3) in
-    let e : t ≡ a + (b + (c + 0)) = first_count z k in let d : a ≡ 0 = run_none k session_part (λ i. refl) 1 z.sessions in let f : b ≡ 0 = run_none k bucket_part (λ i. refl) 0 z.buckets in let h : c ≡ x = from_zero pass_key pass_part (λ i j. refl) j 3 in omega arith
+all_once z (session_key j) = let k = session_key j in let t : ℕ = count k (first_view z).parts in let a : ℕ = count k (run session_part 1 z.sessions) in
+    let b : ℕ = count k (run bucket_part 0 z.buckets) in let c : ℕ = count k (run pass_part 0 3) in let x : ℕ = one (both (ltb 0 j) (ltb j (suc z.sessions))) in
+    let e : t ≡ a + (b + (c + 0)) = first_count z k in let f : b ≡ 0 = run_none k bucket_part (λ i. refl) 0 z.buckets in let g : c ≡ 0 = run_none k pass_part (λ i. refl) 0 3 in
+    let h : a ≡ x = from_one j z.sessions in omega arith
+all_once z (home_key j) = let k = home_key j in let t : ℕ = count k (first_view z).parts in let a : ℕ = count k (run session_part 1 z.sessions) in
+    let b : ℕ = count k (run bucket_part 0 z.buckets) in let c : ℕ = count k (run pass_part 0 3) in let x : ℕ = one (both (ltb 0 j) (ltb j (suc z.sessions))) in
+    let e : t ≡ a + (b + (c + 0)) = first_count z k in let f : b ≡ 0 = run_none k bucket_part (λ i. refl) 0 z.buckets in let g : c ≡ 0 = run_none k pass_part (λ i. refl) 0 3 in
+    let h : a ≡ x = one_from home_key (λ i j. refl) j z.sessions in omega arith
+all_once z (bucket_key j) = let k = bucket_key j in let t : ℕ = count k (first_view z).parts in let a : ℕ = count k (run session_part 1 z.sessions) in
+    let b : ℕ = count k (run bucket_part 0 z.buckets) in let c : ℕ = count k (run pass_part 0 3) in let x : ℕ = one (ltb j z.buckets) in
+    let e : t ≡ a + (b + (c + 0)) = first_count z k in let f : a ≡ 0 = run_none k session_part (λ i. refl) 1 z.sessions in let g : c ≡ 0 = run_none k pass_part (λ i. refl) 0 3 in
+    let h : b ≡ x = from_zero bucket_key bucket_part (λ i j. refl) j z.buckets in omega arith
+all_once z commit_key = let k = commit_key in let t : ℕ = count k (first_view z).parts in let a : ℕ = count k (run session_part 1 z.sessions) in
+    let b : ℕ = count k (run bucket_part 0 z.buckets) in let c : ℕ = count k (run pass_part 0 3) in
+    let e : t ≡ a + (b + (c + 1)) = first_count z k in let d : a ≡ 0 = run_none k session_part (λ i. refl) 1 z.sessions in
+    let f : b ≡ 0 = run_none k bucket_part (λ i. refl) 0 z.buckets in let g : c ≡ 0 = run_none k pass_part (λ i. refl) 0 3 in omega arith
+all_once z (pass_key j) = let k = pass_key j in let t : ℕ = count k (first_view z).parts in let a : ℕ = count k (run session_part 1 z.sessions) in
+    let b : ℕ = count k (run bucket_part 0 z.buckets) in let c : ℕ = count k (run pass_part 0 3) in let x : ℕ = one (ltb j 3) in
+    let e : t ≡ a + (b + (c + 0)) = first_count z k in let d : a ≡ 0 = run_none k session_part (λ i. refl) 1 z.sessions in
+    let f : b ≡ 0 = run_none k bucket_part (λ i. refl) 0 z.buckets in let h : c ≡ x = from_zero pass_key pass_part (λ i j. refl) j 3 in omega arith
 
 no_shares : (f : ℕ → Part) → ((i : ℕ) → share_of (f i) ≡ 0) → (a n : ℕ) → shares (run f a n) ≡ 0
 no_shares f none a zero = refl
@@ -116,7 +131,12 @@ opens z = record {
   state = s;
   steady = steady_after z.sessions z.tables z.buckets 3 z.quota [] tt;
   sized = record { sessions = refl; tables = refl; buckets = refl; quota = refl };
-  words = record { count = length-replicate (words_for z.sessions) 0; mark = get_or-replicate (words_for z.sessions) 0 0 0 (omega arith); registers = λ j inside. get_or-replicate (words_for z.sessions) (register_at j) 0 0 (let l = inside.last in omega arith); masks = λ j. zeros (words_for z.sessions) (mask_at j) };
+  words = record {
+    count = length-replicate (words_for z.sessions) 0;
+    mark = get_or-replicate (words_for z.sessions) 0 0 0 (omega arith);
+    registers = λ j inside. get_or-replicate (words_for z.sessions) (register_at j) 0 0 (let l = inside.last in omega arith);
+    masks = λ j. zeros (words_for z.sessions) (mask_at j);
+  };
   used = λ p. ltb p 3;
   passes = record { below = λ p e. less_is p 3 e; last = λ p e. lt-ltb p 3 (omega (arith, e)) };
   exact = λ k. let a : ℕ = count k (first_view z).parts in let b : ℕ = expected z (λ p. ltb p 3) k in let e : a ≡ b = all_once z k in omega arith;
@@ -189,7 +209,8 @@ each_from_map P Q f i (x ∷ xs) h = (f i x h.0, each_from_map P Q f (suc i) xs 
 abbrev pub passes_left : List Part
 passes_left = run pass_part 0 3 ++ new_part commit_key ∷ []
 
-pub passes_dealt : (v v1 v2 v3 : View) → v.parts ≡ passes_left → v.events ≡ [] → v1 ≡ seeing (drop 1 v.parts) [] v.events → v2 ≡ seeing (drop 1 v1.parts) [] v1.events → v3 ≡ seeing (drop 1 v2.parts) [] v2.events
+pub passes_dealt : (v v1 v2 v3 : View) → v.parts ≡ passes_left → v.events ≡ [] → v1 ≡ seeing (drop 1 v.parts) [] v.events → v2 ≡ seeing (drop 1 v1.parts) [] v1.events →
+    v3 ≡ seeing (drop 1 v2.parts) [] v2.events
     → (v1.parts ≡ drop 1 passes_left) × (v2.parts ≡ drop 1 (drop 1 passes_left)) × (v3 ≡ seeing (new_part commit_key ∷ []) [] [])
 passes_dealt v v1 v2 v3 parts events e1 e2 e3 = (
   parts1,

@@ -77,17 +77,20 @@ module _ (z : Sizes) (t : Table) (r : Rule z t) (id : ℕ) (v : View) (at : get_
   own_third p q x ps first second = (subst (Each (Shown r.state)) (first ∙ ap (λ (l : List Part). p ∷ l) second) (r.shown id v at).parts).1.1.0
 
 -- the versions of a record are those in the bucket held
-pub held_versions : (c : CoreState) (z buckets b : ℕ) (content : Content) (rid : Rid) → c.buckets ≡ buckets → bucket_of buckets rid ≡ b → c.bucket b ≡ content → versions c.buckets c.bucket rid ≡ look rid content
+pub held_versions : (c : CoreState) (z buckets b : ℕ) (content : Content) (rid : Rid) → c.buckets ≡ buckets → bucket_of buckets rid ≡ b → c.bucket b ≡ content →
+    versions c.buckets c.bucket rid ≡ look rid content
 held_versions c z buckets b content rid same at is = ap (λ n. look rid (c.bucket (bucket_of n rid))) same ∙ (ap (λ n. look rid (c.bucket n)) at ∙ ap (look rid) is)
 
 -- and where they are stored anew, no other bucket changes
 pub stored_else : (buckets : ℕ) (bucket : ℕ → Content) (rid : Rid) (vs : List Version) (b k : ℕ) → bucket_of buckets rid ≡ b → (k ≡ b → ⊥) → stored buckets bucket rid vs k ≡ bucket k
-stored_else buckets bucket rid vs b k at other = let e : (k == bucket_of buckets rid) ≡ false = ap (λ n. k == n) at ∙ unlike in ap (λ x. if x then store rid vs (bucket (bucket_of buckets rid)) else bucket k) e
+stored_else buckets bucket rid vs b k at other = let e : (k == bucket_of buckets rid) ≡ false = ap (λ n. k == n) at ∙ unlike in
+    ap (λ x. if x then store rid vs (bucket (bucket_of buckets rid)) else bucket k) e
   where
     unlike : (k == b) ≡ false
     unlike = grind (arith, nat_tests)
 
-pub stored_here : (buckets : ℕ) (bucket : ℕ → Content) (rid : Rid) (vs : List Version) (b : ℕ) (content : Content) → bucket_of buckets rid ≡ b → bucket b ≡ content → stored buckets bucket rid vs b ≡ store rid vs content
+pub stored_here : (buckets : ℕ) (bucket : ℕ → Content) (rid : Rid) (vs : List Version) (b : ℕ) (content : Content) → bucket_of buckets rid ≡ b → bucket b ≡ content →
+    stored buckets bucket rid vs b ≡ store rid vs content
 stored_here buckets bucket rid vs b content at is = let e : (b == bucket_of buckets rid) ≡ true = ap (λ n. b == n) at ∙ alike in
     ap (λ x. if x then store rid vs (bucket (bucket_of buckets rid)) else bucket b) e ∙ (ap (λ n. store rid vs (bucket n)) at ∙ ap (store rid vs) is)
   where

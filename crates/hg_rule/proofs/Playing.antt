@@ -1,5 +1,6 @@
 -- Each kind of step is allowed.
-use Rattle.std.proofs.Common.{◌≡◌, ◌≢◌, ℕ, ◌+◌, ◌<◌, Bool, true, false, eqb, List, [], ◌∷◌, ◌++◌, length, get_or, set, Option, Some, None, refl, sym, ap, ◌∙◌, subst, arith, eq-eqb, ne_eqb, inl, inr, length-append, le_refl}
+use Rattle.std.proofs.Common.{◌≡◌, ◌≢◌, ℕ, ◌+◌, ◌<◌, Bool, true, false, eqb, List, [], ◌∷◌, ◌++◌, length, get_or, set, Option, Some, None, refl, sym, ap, ◌∙◌, subst, arith, eq-eqb, ne_eqb}
+use Rattle.std.proofs.Common.{inl, inr, length-append, le_refl}
 use Rattle.std.specs.Prelude.{if◌then◌else◌, IsTrue, IsSome, IsNone, max, ◌≤◌, ◌==◌, ◌^◌}
 use Rattle.std.proofs.lemmas.Bool.Decides.{nat_tests}
 use mathlib.Core.Logic.{dite}
@@ -50,7 +51,8 @@ use Rattle.hg_rule.specs.Rules.{IsSized, HasRoom, ShowsWords, Rule, IsBacked}
 use Rattle.hg_rule.specs.Holding.{beyond, commit}
 use Rattle.hg_rule.specs.Places.{HoldsCommit}
 use Rattle.hg_rule.specs.Views.{first_in, number, session, pass, others, HasSession, HasPass, then_has}
-use Rattle.hg_rule.specs.Steps.{Within, IsHistoryAt, in_phase, logging, loaded_in, Samples, SamplesMask, Moves, IsMovable, AwaitsMask, HasRegister, beginning, loading, masking, moving, after_try, declared, probed, entered, fixed, went_live, ended, marked, sampled, masked, tried, looked}
+use Rattle.hg_rule.specs.Steps.{Within, IsHistoryAt, in_phase, logging, loaded_in, Samples, SamplesMask, Moves, IsMovable, AwaitsMask, HasRegister, beginning, loading, masking, moving}
+use Rattle.hg_rule.specs.Steps.{after_try, declared, probed, entered, fixed, went_live, ended, marked, sampled, masked, tried, looked}
 use Rattle.hg_rule.proofs.Counts.{another, away_same}
 use Rattle.hg_rule.proofs.Lists.{starts_same, ends_same, each_map}
 use Rattle.hg_rule.proofs.Growing.{Grows}
@@ -65,7 +67,8 @@ Seated = Me ℕ View
 pub own_session : (z : Sizes) (t : Table) (r : Rule z t) (id : ℕ) (v : View) → get_elem? t.views id ≡ some v → HasSession v → Shown r.state (OfSession (number v) (session v))
 own_session z t r id v at is = (subst (Each (Shown r.state)) is (r.shown id v at).parts).0
 
-pub own_pass : (z : Sizes) (t : Table) (r : Rule z t) (id : ℕ) (v : View) → get_elem? t.views id ≡ some v → HasPass v → (r.state.pass (number v) ≡ record_of (pass v)) × ((r.state.visits (number v) ≡ (pass v).visits) × (0 < (pass v).share))
+pub own_pass : (z : Sizes) (t : Table) (r : Rule z t) (id : ℕ) (v : View) → get_elem? t.views id ≡ some v → HasPass v → (r.state.pass (number v) ≡ record_of (pass v)) ×
+    ((r.state.visits (number v) ≡ (pass v).visits) × (0 < (pass v).share))
 own_pass z t r id v at is = (subst (Each (Shown r.state)) is (r.shown id v at).parts).0
 
 pub at_board : (z : Sizes) (s : CoreState) (j : ℕ) → IsSized z s → IsSession z.sessions j → IsSession s.sessions j
@@ -141,7 +144,8 @@ log_stays c = record { history = starts_same c.history; logs = λ k. ends_same (
 pub log_grows : (c : CoreState) (j : ℕ) (e : LogEntry) (k : ℕ) → EndsWith (put c.log j (e ∷ c.log j) k) (c.log k)
 log_grows c j e = by_number j (λ k b. EndsWith (if b then e ∷ c.log j else c.log k) (c.log k)) (e ∷ [], refl) (λ k other. ends_same (c.log k))
 
-pub declares : (z : Sizes) (slots id i x : ℕ) (scope picked : Scope) (m : Seated) → HasSession m.0 → IsSession z.sessions (number m.0) → (session m.0).phase ≡ Idle → begans (session m.0).log < z.quota → IsBelow z.tables scope → picked ≡ scope → i ≡ mask_at (number m.0) → x ≡ mask_of scope
+pub declares : (z : Sizes) (slots id i x : ℕ) (scope picked : Scope) (m : Seated) → HasSession m.0 → IsSession z.sessions (number m.0) → (session m.0).phase ≡ Idle →
+    begans (session m.0).log < z.quota → IsBelow z.tables scope → picked ≡ scope → i ≡ mask_at (number m.0) → x ≡ mask_of scope
     → Allows (Rule z) slots id m i (λ _. x) (λ _. declared picked (step slots i x 0 none) m x)
 declares z slots id i x scope picked m is inside rests fewer below same there value t r deep at small =
     let v : View = m.0 in
@@ -156,12 +160,28 @@ declares z slots id i x scope picked m is inside rests fewer below same there va
       keeps,
       tt,
       keep z t r id v (OfSession j (session v) ∷ []) (OfSession j new ∷ []) (others v) [] (events.Declare j picked) i x d at is record {
-        steady = declare_kept c j scope r.steady record { session = at_board z c j r.sized inside; rests = own.0 ∙ rests; room = omega (arith, fewer, ap begans own.1.0, r.sized.quota); tables = subst (λ n. IsBelow n scope) (sym r.sized.tables) below };
+        steady = declare_kept c j scope r.steady record {
+          session = at_board z c j r.sized inside;
+          rests = own.0 ∙ rests;
+          room = omega (arith, fewer, ap begans own.1.0, r.sized.quota);
+          tables = subst (λ n. IsBelow n scope) (sym r.sized.tables) below;
+        };
         sized = record { sessions = r.sized.sessions; tables = r.sized.tables; buckets = r.sized.buckets; quota = r.sized.quota };
         passes = refl;
         shows = subst (λ i. ShowsWords z d (set t.words i x)) (sym there) (record { count = w.count; mark = w.mark; registers = w.registers; masks = w.masks });
         grows = record { history = grows.history; logs = grows.logs; taken = grows.taken };
-        only = session_only c d j (session v) record { phase = λ k other. put_else c.phase j k (Declared scope) other; log = λ k other. refl; bucket = refl; counters = refl; history = refl; stamped = refl; taken = refl; pass = refl; visits = refl; mark = le_refl _ };
+        only = session_only c d j (session v) record {
+          phase = λ k other. put_else c.phase j k (Declared scope) other;
+          log = λ k other. refl;
+          bucket = refl;
+          counters = refl;
+          history = refl;
+          stamped = refl;
+          taken = refl;
+          pass = refl;
+          visits = refl;
+          mark = le_refl _;
+        };
         counts = λ k. refl;
         shared = refl;
         shown = ((put_here c.phase j (Declared scope) ∙ ap Declared (sym same), own.1), tt);
@@ -171,7 +191,8 @@ declares z slots id i x scope picked m is inside rests fewer below same there va
       (refl, refl),
     )
 
-pub probes : (z : Sizes) (slots id : ℕ) (m : Seated) (scope : Scope) → HasRoom z → HasSession m.0 → (session m.0).phase ≡ Declared scope → Allows (Rule z) slots id m 0 (λ n. n) (probed (step slots 0 0 0 none) m)
+pub probes : (z : Sizes) (slots id : ℕ) (m : Seated) (scope : Scope) → HasRoom z → HasSession m.0 → (session m.0).phase ≡ Declared scope →
+    Allows (Rule z) slots id m 0 (λ n. n) (probed (step slots 0 0 0 none) m)
 probes z slots id m scope room is was t r deep at small =
     let v : View = m.0 in
     let c = r.state in
@@ -191,7 +212,18 @@ probes z slots id m scope room is was t r deep at small =
         passes = refl;
         shows = record { count = w.count; mark = w.mark; registers = w.registers; masks = w.masks };
         grows = record { history = grows.history; logs = grows.logs; taken = grows.taken };
-        only = session_only c d j (session v) record { phase = λ k other. put_else c.phase j k (Probed (declared_in (c.phase j)) c.mark) other; log = λ k other. refl; bucket = refl; counters = refl; history = refl; stamped = refl; taken = refl; pass = refl; visits = refl; mark = le_refl _ };
+        only = session_only c d j (session v) record {
+          phase = λ k other. put_else c.phase j k (Probed (declared_in (c.phase j)) c.mark) other;
+          log = λ k other. refl;
+          bucket = refl;
+          counters = refl;
+          history = refl;
+          stamped = refl;
+          taken = refl;
+          pass = refl;
+          visits = refl;
+          mark = le_refl _;
+        };
         counts = λ k. refl;
         shared = refl;
         shown = ((put_here c.phase j (Probed (declared_in (c.phase j)) c.mark) ∙ (λ i. Probed (declared_in (own.0 i)) (sym r.words.mark i)), own.1), tt);
@@ -201,7 +233,8 @@ probes z slots id m scope room is was t r deep at small =
       ((c.history, (history_at z t r id v room at, refl)), refl),
     )
 
-pub fixes : (z : Sizes) (slots id f : ℕ) (scope : Scope) (m : Seated) → HasRoom z → HasSession m.0 → (session m.0).phase ≡ Entered scope f → Allows (Rule z) slots id m 0 (λ n. n) (fixed (step slots 0 0 0 none) m)
+pub fixes : (z : Sizes) (slots id f : ℕ) (scope : Scope) (m : Seated) → HasRoom z → HasSession m.0 → (session m.0).phase ≡ Entered scope f →
+    Allows (Rule z) slots id m 0 (λ n. n) (fixed (step slots 0 0 0 none) m)
 fixes z slots id f scope m room is was t r deep at small =
     let v : View = m.0 in
     let c = r.state in
@@ -223,7 +256,18 @@ fixes z slots id f scope m room is was t r deep at small =
         passes = refl;
         shows = record { count = w.count; mark = w.mark; registers = w.registers; masks = w.masks };
         grows = record { history = grows.history; logs = grows.logs; taken = grows.taken };
-        only = session_only c d j (session v) record { phase = λ k other. put_else c.phase j k (Fixed (declared_in (c.phase j)) f c.mark) other; log = λ k other. refl; bucket = refl; counters = refl; history = refl; stamped = refl; taken = refl; pass = refl; visits = refl; mark = le_refl _ };
+        only = session_only c d j (session v) record {
+          phase = λ k other. put_else c.phase j k (Fixed (declared_in (c.phase j)) f c.mark) other;
+          log = λ k other. refl;
+          bucket = refl;
+          counters = refl;
+          history = refl;
+          stamped = refl;
+          taken = refl;
+          pass = refl;
+          visits = refl;
+          mark = le_refl _;
+        };
         counts = λ k. refl;
         shared = refl;
         shown = ((put_here c.phase j (Fixed (declared_in (c.phase j)) f c.mark) ∙ (λ i. Fixed (declared_in (own.0 i)) (same i) (sym r.words.mark i)), own.1), tt);
@@ -233,7 +277,8 @@ fixes z slots id f scope m room is was t r deep at small =
       ((c.history, (history_at z t r id v room at, refl)), refl),
     )
 
-pub enters : (z : Sizes) (slots id f i x : ℕ) (scope : Scope) (m : Seated) → HasSession m.0 → IsSession z.sessions (number m.0) → (session m.0).phase ≡ Probed scope f → i ≡ register_at (number m.0) → x ≡ word_of (registers.Entering f)
+pub enters : (z : Sizes) (slots id f i x : ℕ) (scope : Scope) (m : Seated) → HasSession m.0 → IsSession z.sessions (number m.0) → (session m.0).phase ≡ Probed scope f →
+    i ≡ register_at (number m.0) → x ≡ word_of (registers.Entering f)
     → Allows (Rule z) slots id m i (λ _. x) (λ _. entered (step slots i x 0 none) m x)
 enters z slots id f i x scope m is inside was there value t r deep at small =
     let v : View = m.0 in
@@ -255,7 +300,18 @@ enters z slots id f i x scope m is inside was there value t r deep at small =
         passes = refl;
         shows = subst (λ i. ShowsWords z d (set t.words i x)) (sym there) (record { count = w.count; mark = w.mark; registers = w.registers; masks = w.masks });
         grows = record { history = grows.history; logs = grows.logs; taken = grows.taken };
-        only = session_only c d j (session v) record { phase = λ k other. put_else c.phase j k (Entered (declared_in (c.phase j)) f) other; log = λ k other. refl; bucket = refl; counters = refl; history = refl; stamped = refl; taken = refl; pass = refl; visits = refl; mark = le_refl _ };
+        only = session_only c d j (session v) record {
+          phase = λ k other. put_else c.phase j k (Entered (declared_in (c.phase j)) f) other;
+          log = λ k other. refl;
+          bucket = refl;
+          counters = refl;
+          history = refl;
+          stamped = refl;
+          taken = refl;
+          pass = refl;
+          visits = refl;
+          mark = le_refl _;
+        };
         counts = λ k. refl;
         shared = refl;
         shown = ((put_here c.phase j (Entered (declared_in (c.phase j)) f) ∙ (λ i. Entered (declared_in (own.0 i)) (same i)), own.1), tt);
@@ -265,7 +321,8 @@ enters z slots id f i x scope m is inside was there value t r deep at small =
       (refl, refl),
     )
 
-pub goes_live : (z : Sizes) (slots id f n i x : ℕ) (scope : Scope) (m : Seated) → HasSession m.0 → IsSession z.sessions (number m.0) → (session m.0).phase ≡ Fixed scope f n → i ≡ register_at (number m.0) → x ≡ word_of (registers.Live n (is_declared scope) false)
+pub goes_live : (z : Sizes) (slots id f n i x : ℕ) (scope : Scope) (m : Seated) → HasSession m.0 → IsSession z.sessions (number m.0) → (session m.0).phase ≡ Fixed scope f n →
+    i ≡ register_at (number m.0) → x ≡ word_of (registers.Live n (is_declared scope) false)
     → Allows (Rule z) slots id m i (λ _. x) (λ _. went_live (step slots i x 0 none) m x)
 goes_live z slots id f n i x scope m is inside was there value t r deep at small =
     let v : View = m.0 in
@@ -290,7 +347,18 @@ goes_live z slots id f n i x scope m is inside was there value t r deep at small
         passes = refl;
         shows = subst (λ i. ShowsWords z d (set t.words i x)) (sym there) (record { count = w.count; mark = w.mark; registers = w.registers; masks = w.masks });
         grows = record { history = grows.history; logs = log_grows c j (Began n scope); taken = grows.taken };
-        only = session_only c d j (session v) record { phase = λ k other. put_else c.phase j k (Live n scope) other; log = λ k other. put_else c.log j k (Began n scope ∷ c.log j) other; bucket = refl; counters = refl; history = refl; stamped = refl; taken = refl; pass = refl; visits = refl; mark = le_refl _ };
+        only = session_only c d j (session v) record {
+          phase = λ k other. put_else c.phase j k (Live n scope) other;
+          log = λ k other. put_else c.log j k (Began n scope ∷ c.log j) other;
+          bucket = refl;
+          counters = refl;
+          history = refl;
+          stamped = refl;
+          taken = refl;
+          pass = refl;
+          visits = refl;
+          mark = le_refl _;
+        };
         counts = λ k. refl;
         shared = refl;
         shown = ((put_here c.phase j (Live n scope) ∙ (λ i. Live (same i) (back i)), (log, own.1.1)), tt);
@@ -300,7 +368,8 @@ goes_live z slots id f n i x scope m is inside was there value t r deep at small
       (refl, refl),
     )
 
-pub ends : (z : Sizes) (slots id i : ℕ) (m : Seated) → HasSession m.0 → IsSession z.sessions (number m.0) → IsSome (snapshot_in (session m.0).phase) → ((rid : Rid) → open_in rid (session m.0).log ≡ None) → i ≡ register_at (number m.0)
+pub ends : (z : Sizes) (slots id i : ℕ) (m : Seated) → HasSession m.0 → IsSession z.sessions (number m.0) → IsSome (snapshot_in (session m.0).phase) →
+    ((rid : Rid) → open_in rid (session m.0).log ≡ None) → i ≡ register_at (number m.0)
     → Allows (Rule z) slots id m i (λ _. 0) (λ _. ended (step slots i 0 0 none) m 0)
 ends z slots id i m is inside live none_open there t r deep at small =
     let v : View = m.0 in
@@ -321,7 +390,18 @@ ends z slots id i m is inside live none_open there t r deep at small =
         passes = refl;
         shows = subst (λ i. ShowsWords z d (set t.words i 0)) (sym there) (record { count = w.count; mark = w.mark; registers = w.registers; masks = w.masks });
         grows = record { history = grows.history; logs = log_grows c j Over; taken = grows.taken };
-        only = session_only c d j (session v) record { phase = λ k other. put_else c.phase j k Idle other; log = λ k other. put_else c.log j k (Over ∷ c.log j) other; bucket = refl; counters = refl; history = refl; stamped = refl; taken = refl; pass = refl; visits = refl; mark = le_refl _ };
+        only = session_only c d j (session v) record {
+          phase = λ k other. put_else c.phase j k Idle other;
+          log = λ k other. put_else c.log j k (Over ∷ c.log j) other;
+          bucket = refl;
+          counters = refl;
+          history = refl;
+          stamped = refl;
+          taken = refl;
+          pass = refl;
+          visits = refl;
+          mark = le_refl _;
+        };
         counts = λ k. refl;
         shared = refl;
         shown = ((put_here c.phase j Idle, (log, own.1.1)), tt);
@@ -392,7 +472,18 @@ marks z slots id m room is t r deep at small =
         passes = refl;
         shows = record { count = w.count; mark = w.mark; registers = w.registers; masks = w.masks };
         grows = record { history = grows.history; logs = grows.logs; taken = grows.taken };
-        only = pass_only c d p (pass v) record { pass = λ q other. put_else c.pass p q _ other; phase = refl; log = refl; bucket = refl; counters = refl; history = refl; stamped = refl; taken = refl; visits = refl; mark = le_refl _ };
+        only = pass_only c d p (pass v) record {
+          pass = λ q other. put_else c.pass p q _ other;
+          phase = refl;
+          log = refl;
+          bucket = refl;
+          counters = refl;
+          history = refl;
+          stamped = refl;
+          taken = refl;
+          visits = refl;
+          mark = le_refl _;
+        };
         counts = λ k. refl;
         shared = refl;
         shown = ((put_here c.pass p _ ∙ (λ i. record { mark = sym r.words.mark i; known = known; loaded = [] }), own.1), tt);
@@ -426,7 +517,8 @@ register_begun register (Entered scope f) log a e = rw a tt
 register_begun register (Fixed scope f m) log a e = let k = a.0 in rw k tt
 register_begun register (Live at scope) log a e = let k = a.1.value in rw k (scope, refl, begun_now log at scope e)
 
-samples_there : (z : Sizes) (slots id j : ℕ) (m : Seated) → HasRoom z → HasPass m.0 → IsSession z.sessions j → found j (pass m.0).loaded ≡ None → Allows (Rule z) slots id m (register_at j) (λ n. n) (sampled (step slots (register_at j) 0 0 none) m)
+samples_there : (z : Sizes) (slots id j : ℕ) (m : Seated) → HasRoom z → HasPass m.0 → IsSession z.sessions j → found j (pass m.0).loaded ≡ None →
+    Allows (Rule z) slots id m (register_at j) (λ n. n) (sampled (step slots (register_at j) 0 0 none) m)
 samples_there z slots id j m room is inside fresh t r deep at small =
     let v : View = m.0 in
     let c = r.state in
@@ -448,20 +540,37 @@ samples_there z slots id j m room is inside fresh t r deep at small =
         passes = refl;
         shows = record { count = w.count; mark = w.mark; registers = w.registers; masks = w.masks };
         grows = record { history = grows.history; logs = grows.logs; taken = grows.taken };
-        only = pass_only c d p (pass v) record { pass = λ q other. put_else c.pass p q _ other; phase = refl; log = refl; bucket = refl; counters = refl; history = refl; stamped = refl; taken = refl; visits = refl; mark = le_refl _ };
+        only = pass_only c d p (pass v) record {
+          pass = λ q other. put_else c.pass p q _ other;
+          phase = refl;
+          log = refl;
+          bucket = refl;
+          counters = refl;
+          history = refl;
+          stamped = refl;
+          taken = refl;
+          visits = refl;
+          mark = le_refl _;
+        };
         counts = λ k. refl;
         shared = refl;
         shown = ((put_here c.pass p _ ∙ (λ i. sampling (own.0 i) j (back i)), own.1), tt);
         known = tt;
         stands = subst (λ x. HasBegun x (c.log j)) back (register_begun (c.register j) (c.phase j) (c.log j) (r.steady.registers_agree.shows j) (r.steady.logs_answer.reads j));
       },
-      ((λ i same. subst (λ i. Samples v i register (then_has v (OfPass p new ∷ others v) [] (events.Sample p j register))) (one_register j i same) refl), subst IsRegister back (register_small z c j room r.sized r.steady), refl),
+      (
+        (λ i same. subst (λ i. Samples v i register (then_has v (OfPass p new ∷ others v) [] (events.Sample p j register))) (one_register j i same) refl),
+        subst IsRegister back
+            (register_small z c j room r.sized r.steady),
+        refl,
+      ),
     )
 
 -- at the word that the call loads
 pub samples : (z : Sizes) (slots id j i : ℕ) (m : Seated) → HasRoom z → HasPass m.0 → IsSession z.sessions j → found j (pass m.0).loaded ≡ None → i ≡ register_at j
     → Allows (Rule z) slots id m i (λ n. n) (sampled (step slots i 0 0 none) m)
-samples z slots id j i m room is inside fresh there = subst (λ i. Allows (Rule z) slots id m i (λ n. n) (sampled (step slots i 0 0 none) m)) (sym there) (samples_there z slots id j m room is inside fresh)
+samples z slots id j i m room is inside fresh there = subst (λ i. Allows (Rule z) slots id m i (λ n. n) (sampled (step slots i 0 0 none) m)) (sym there)
+    (samples_there z slots id j m room is inside fresh)
 
 -- what was loaded of a live and declared session without its mask
 abbrev bare : ℕ → Bool → Option Loaded
@@ -471,7 +580,8 @@ awaits : (one : Option Loaded) → AwaitsMask one → (n : ℕ) × (moved : Bool
 awaits None h = absurd h
 awaits (Some loaded) h = go loaded.register h.0 h.1
   where
-    go : (register : Register) → IsTrue (shows_declared register) → loaded.mask ≡ None → (n : ℕ) × (moved : Bool) × (◌≡◌ {A = Option Loaded} (Some (record loaded { register = register })) (bare n moved))
+    go : (register : Register) → IsTrue (shows_declared register) → loaded.mask ≡ None → (n : ℕ) × (moved : Bool) ×
+        (◌≡◌ {A = Option Loaded} (Some (record loaded { register = register })) (bare n moved))
     go registers.Idle says bare_one = absurd (let x = says in cc)
     go (registers.Entering f) says bare_one = absurd (let x = says in cc)
     go (registers.Live n true moved) says bare_one = (n, moved, λ i. Some (record { register = registers.Live n true moved; mask = bare_one i }))
@@ -480,7 +590,8 @@ awaits (Some loaded) h = go loaded.register h.0 h.1
 one_mask : (j k : ℕ) → mask_at j ≡ mask_at k → j ≡ k
 one_mask j k e = omega arith
 
-samples_mask_there : (z : Sizes) (slots id j : ℕ) (m : Seated) → HasPass m.0 → AwaitsMask (found j (pass m.0).loaded) → Allows (Rule z) slots id m (mask_at j) (λ n. n) (masked (step slots (mask_at j) 0 0 none) m)
+samples_mask_there : (z : Sizes) (slots id j : ℕ) (m : Seated) → HasPass m.0 → AwaitsMask (found j (pass m.0).loaded) →
+    Allows (Rule z) slots id m (mask_at j) (λ n. n) (masked (step slots (mask_at j) 0 0 none) m)
 samples_mask_there z slots id j m is has_it t r deep at small =
     let v : View = m.0 in
     let c = r.state in
@@ -503,7 +614,18 @@ samples_mask_there z slots id j m is has_it t r deep at small =
         passes = refl;
         shows = record { count = w.count; mark = w.mark; registers = w.registers; masks = w.masks };
         grows = record { history = grows.history; logs = grows.logs; taken = grows.taken };
-        only = pass_only c d p (pass v) record { pass = λ q other. put_else c.pass p q _ other; phase = refl; log = refl; bucket = refl; counters = refl; history = refl; stamped = refl; taken = refl; visits = refl; mark = le_refl _ };
+        only = pass_only c d p (pass v) record {
+          pass = λ q other. put_else c.pass p q _ other;
+          phase = refl;
+          log = refl;
+          bucket = refl;
+          counters = refl;
+          history = refl;
+          stamped = refl;
+          taken = refl;
+          visits = refl;
+          mark = le_refl _;
+        };
         counts = λ k. refl;
         shared = refl;
         shown = ((put_here c.pass p _ ∙ (λ i. record (own.0 i) { loaded = masked_in j (mask i) (own.0 i).loaded }), own.1), tt);
@@ -525,7 +647,8 @@ pub tries : (z : Sizes) (slots id j old new n : ℕ) (mask : Option ℕ) (m : Se
 tries z slots id j old new n mask m room is inside few has_it was becomes t r deep at small = dite (ℕ_discrete x old)
     (λ (hit : x ≡ old).
     let from : Register = registers.Live n true false in
-    let shown : c.register j ≡ from = sym (word_back (c.register j) (register_small z c j room r.sized r.steady)) ∙ (ap register_of (sym (r.words.registers j inside) ∙ (hit ∙ was)) ∙ word_back from few) in
+    let shown : c.register j ≡ from = sym (word_back (c.register j) (register_small z c j room r.sized r.steady)) ∙
+    (ap register_of (sym (r.words.registers j inside) ∙ (hit ∙ was)) ∙ word_back from few) in
     let own = own_pass z t r id v at is in
     let part : PassPart = moving j (pass v) in
     let d : CoreState = happens c (Move p j) in
@@ -542,14 +665,29 @@ tries z slots id j old new n mask m room is inside few has_it was becomes t r de
             passes = refl;
             shows = record { count = w.count; mark = w.mark; registers = w.registers; masks = w.masks };
             grows = record { history = grows.history; logs = grows.logs; taken = grows.taken };
-            only = pass_only c d p (pass v) record { pass = λ q other. put_else c.pass p q _ other; phase = refl; log = refl; bucket = refl; counters = refl; history = refl; stamped = refl; taken = refl; visits = refl; mark = le_refl _ };
+            only = pass_only c d p (pass v) record {
+              pass = λ q other. put_else c.pass p q _ other;
+              phase = refl;
+              log = refl;
+              bucket = refl;
+              counters = refl;
+              history = refl;
+              stamped = refl;
+              taken = refl;
+              visits = refl;
+              mark = le_refl _;
+            };
             counts = λ k. refl;
             shared = refl;
             shown = ((put_here c.pass p _ ∙ (λ i. record (own.0 i) { loaded = moved_in j (own.0 i).loaded }), own.1), tt);
             known = tt;
             stands = tt;
           }),
-      ((λ q same. subst (λ q. Moves v q k (eqb x old) after) (one_register j q same) (λ i. then_has v (after_try (sym (eq-eqb x old hit) i) j v) [] (events.Move p j k (sym (eq-eqb x old hit) i)))), refl),
+      (
+        (λ q same. subst (λ q. Moves v q k (eqb x old) after) (one_register j q same)
+            (λ i. then_has v (after_try (sym (eq-eqb x old hit) i) j v) [] (events.Move p j k (sym (eq-eqb x old hit) i)))),
+        refl,
+      ),
     ))
     (λ (miss : x ≢ old).
     let after : View = then_has v v.parts [] (events.Move p j k false) in
@@ -571,7 +709,11 @@ tries z slots id j old new n mask m room is inside few has_it was becomes t r de
             known = tt;
             stands = tt;
           }),
-      ((λ q same. subst (λ q. Moves v q k (eqb x old) after) (one_register j q same) (λ i. then_has v (after_try (sym (ne_eqb x old miss) i) j v) [] (events.Move p j k (sym (ne_eqb x old miss) i)))), refl),
+      (
+        (λ q same. subst (λ q. Moves v q k (eqb x old) after) (one_register j q same)
+            (λ i. then_has v (after_try (sym (ne_eqb x old miss) i) j v) [] (events.Move p j k (sym (ne_eqb x old miss) i)))),
+        refl,
+      ),
     ))
   where
     v : View
@@ -614,14 +756,16 @@ has_register r None h = absurd h
 has_register r (Some loaded) h = (loaded.mask, λ i. Some (record { register = h i; mask = loaded.mask }))
 
 -- the same of a movable register, at the word that the call tries
-pub tries_register : (z : Sizes) (slots id j i old new : ℕ) (from : Register) (m : Seated) → HasRoom z → HasPass m.0 → IsSession z.sessions j → IsMovable from → IsRegister from → HasRegister from (found j (pass m.0).loaded) → i ≡ register_at j → old ≡ word_of from → new ≡ word_of (moved from)
+pub tries_register : (z : Sizes) (slots id j i old new : ℕ) (from : Register) (m : Seated) → HasRoom z → HasPass m.0 → IsSession z.sessions j → IsMovable from → IsRegister from →
+    HasRegister from (found j (pass m.0).loaded) → i ≡ register_at j → old ≡ word_of from → new ≡ word_of (moved from)
     → Allows (Rule z) slots id m i (λ n. either (eqb n old) new n) (tried (step slots i old new none) m)
 tries_register z slots id j i old new from m room is inside may has_word has_it there was becomes =
     let f = movable from may in
     let e = f.1 in
     let one = has_register from (found j (pass m.0).loaded) has_it in
     subst (λ i. Allows (Rule z) slots id m i (λ n. either (eqb n old) new n) (tried (step slots i old new none) m)) (sym there)
-    (tries z slots id j old new f.0 one.0 m room is inside (subst IsRegister e has_word) (one.1 ∙ ap (λ (r : Register). Some (record { register = r; mask = one.0 })) e) (was ∙ ap word_of e) (becomes ∙ ap (λ (r : Register). word_of (moved r)) e))
+    (tries z slots id j old new f.0 one.0 m room is inside (subst IsRegister e has_word) (one.1 ∙ ap (λ (r : Register). Some (record { register = r; mask = one.0 })) e) (was ∙
+    ap word_of e) (becomes ∙ ap (λ (r : Register). word_of (moved r)) e))
 
 -- the pass's own part stays first
 pub own_tried : (moved : Bool) (v w : View) (j n : ℕ) → HasPass v → Moves v j n moved w → HasPass w

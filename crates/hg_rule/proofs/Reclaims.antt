@@ -34,7 +34,8 @@ use Rattle.hg_rule.proofs.Playing.{own_pass, log_stays}
 use Rattle.hg_rule.proofs.Works.{counters_else}
 
 reclaim_leaves : (c d : CoreState) (p b : ℕ) (old : PassPart) (part : BucketPart) → d.phase ≡ c.phase → d.log ≡ c.log → d.stamped_list ≡ c.stamped_list
-    → ((k : ℕ) → (k ≡ b → ⊥) → d.bucket k ≡ c.bucket k) → ((k : ℕ) → (k ≡ b → ⊥) → d.counters k ≡ c.counters k) → d.history ≡ c.history → d.taken ≡ c.taken → d.pass ≡ c.pass → ((q : ℕ) → (q ≡ p → ⊥) → d.visits q ≡ c.visits q) → c.mark ≤ d.mark
+    → ((k : ℕ) → (k ≡ b → ⊥) → d.bucket k ≡ c.bucket k) → ((k : ℕ) → (k ≡ b → ⊥) → d.counters k ≡ c.counters k) → d.history ≡ c.history → d.taken ≡ c.taken → d.pass ≡ c.pass →
+    ((q : ℕ) → (q ≡ p → ⊥) → d.visits q ≡ c.visits q) → c.mark ≤ d.mark
     → Leaves c d (OfPass p old ∷ OfBucket b part ∷ [])
 reclaim_leaves c d p b old part phase logs list bucket counters history taken pass visits more = record {
   phase = λ k away i. phase i k;
@@ -50,7 +51,8 @@ reclaim_leaves c d p b old part phase logs list bucket counters history taken pa
   home = λ k part n away s. away_same c d k part n (λ i. phase i k) (λ i. logs i k) more s;
 }
 
-pub reclaims : (z : Sizes) (slots id : ℕ) (rid : Rid) (kind : Kind) (m : Seated) → HasPass m.0 → IsWhole z.sessions (record_of (pass m.0)) → HasBucket m.0 → bucket_of z.buckets rid ≡ bucket_number m.0 → IsVisiting (bucket_number m.0) (pass m.0).visits
+pub reclaims : (z : Sizes) (slots id : ℕ) (rid : Rid) (kind : Kind) (m : Seated) → HasPass m.0 → IsWhole z.sessions (record_of (pass m.0)) → HasBucket m.0 →
+    bucket_of z.buckets rid ≡ bucket_number m.0 → IsVisiting (bucket_number m.0) (pass m.0).visits
     → Allows (Rule z) slots id m 0 (λ n. n) (removed rid kind (step slots 0 0 0 none) m)
 reclaims z slots id rid kind m is whole bucketed place here t r deep at small =
     let v : View = m.0 in
@@ -63,7 +65,8 @@ reclaims z slots id rid kind m is whole bucketed place here t r deep at small =
     let place' : bucket_of c.buckets rid ≡ b = ap (λ n. bucket_of n rid) r.sized.buckets ∙ place in
     let vs : versions c.buckets c.bucket rid ≡ held v rid = held_versions c 0 z.buckets b (bucket v).content rid r.sized.buckets place there.0 in
     let left : reclaimed kind rid.table (c.pass p) (versions c.buckets c.bucket rid) ≡ left_of v rid kind = λ i. reclaimed kind rid.table (own.0 i) (vs i) in
-    let many : length (versions c.buckets c.bucket rid) - length (reclaimed kind rid.table (c.pass p) (versions c.buckets c.bucket rid)) ≡ removed_of v rid kind = λ i. length (vs i) - length (left i) in
+    let many : length (versions c.buckets c.bucket rid) - length (reclaimed kind rid.table (c.pass p) (versions c.buckets c.bucket rid)) ≡ removed_of v rid kind = λ i. length
+    (vs i) - length (left i) in
     let d : CoreState = happens c (Reclaim p kind rid) in
     let new : PassPart = visiting kind (removed_of v rid kind) (pass v) in
     let part : BucketPart = shortening rid kind (left_of v rid kind) (removed_of v rid kind) (bucket v) in
@@ -87,7 +90,8 @@ reclaims z slots id rid kind m is whole bucketed place here t r deep at small =
             passes = refl;
             shows = record { count = words.count; mark = words.mark; registers = words.registers; masks = words.masks };
             grows = record { history = grows.history; logs = grows.logs; taken = grows.taken };
-            only = leaves_only c d _ (reclaim_leaves c d p b (pass v) (bucket v) refl refl refl (λ k other. stored_else c.buckets c.bucket rid _ b k place' other) (λ k other. counters_else c.counters _ b k _ place' other) refl refl refl
+            only = leaves_only c d _ (reclaim_leaves c d p b (pass v) (bucket v) refl refl refl (λ k other. stored_else c.buckets c.bucket rid _ b k place' other)
+                (λ k other. counters_else c.counters _ b k _ place' other) refl refl refl
                 (λ q other. put_else c.visits p q _ other) (le_refl _));
             counts = λ k. refl;
             shared = refl;

@@ -1,5 +1,5 @@
 -- The words after a step, and what a word says.
-use Rattle.std.proofs.Common.{◌≡◌, ℕ, ◌+◌, ◌*◌, ◌^◌, ◌<◌, List, length, get_or, set, refl, sym, ◌∙◌, subst, arith, length-set, get_or-set_other, get_or-set_same, true, false}
+use Rattle.std.proofs.Common.{◌≡◌, ℕ, ◌*◌, ◌^◌, ◌<◌, List, length, get_or, set, refl, sym, ◌∙◌, subst, arith, length-set, get_or-set_other, get_or-set_same, true, false}
 use Rattle.std.specs.Prelude.{if◌then◌else◌}
 use lib.Seq.{set-get_or}
 use Rattle.std.proofs.lemmas.Bool.Decides.{nat_tests}
@@ -31,7 +31,8 @@ pub loaded_words : (z : Sizes) (s : CoreState) (ws : List ℕ) (i : ℕ) → Sho
 loaded_words z s ws i w = subst (ShowsWords z s) (sym (set-get_or ws i 0)) w
 
 -- after a store in a register
-pub stored_words : (z : Sizes) (s : CoreState) (ws : List ℕ) (j x : ℕ) (to : Register) → IsSession z.sessions j → x ≡ word_of to → ShowsWords z s ws → ShowsWords z (record s { register = put s.register j to }) (set ws (register_at j) x)
+pub stored_words : (z : Sizes) (s : CoreState) (ws : List ℕ) (j x : ℕ) (to : Register) → IsSession z.sessions j → x ≡ word_of to → ShowsWords z s ws →
+    ShowsWords z (record s { register = put s.register j to }) (set ws (register_at j) x)
 stored_words z s ws j x to inside is w = record {
   count = length-set ws (register_at j) x ∙ w.count;
   mark = get_or-set_other ws (register_at j) 0 x 0 (λ (e : 0 ≡ register_at j). let l = inside.first in omega arith) ∙ w.mark;
@@ -42,7 +43,8 @@ stored_words z s ws j x to inside is w = record {
 }
 
 -- after a store in a mask
-pub masked_words : (z : Sizes) (s : CoreState) (ws : List ℕ) (j x mask : ℕ) → IsSession z.sessions j → x ≡ mask → ShowsWords z s ws → ShowsWords z (record s { mask = put s.mask j mask }) (set ws (mask_at j) x)
+pub masked_words : (z : Sizes) (s : CoreState) (ws : List ℕ) (j x mask : ℕ) → IsSession z.sessions j → x ≡ mask → ShowsWords z s ws →
+    ShowsWords z (record s { mask = put s.mask j mask }) (set ws (mask_at j) x)
 masked_words z s ws j x mask inside is w = record {
   count = length-set ws (mask_at j) x ∙ w.count;
   mark = get_or-set_other ws (mask_at j) 0 x 0 (λ (e : 0 ≡ mask_at j). omega arith) ∙ w.mark;

@@ -89,11 +89,13 @@ deals z id v = may_split z id v (left_tail v) (right_first v) record {
 
 pub second_count : (k : Key) (ps : List Part) → count k (but_second ps) + count k (second_of ps) ≡ count k ps
 second_count k [] = refl
-second_count k (p ∷ ps) = let a : ℕ = one (has k p) in let b : ℕ = count k ps in let x : ℕ = count k (after_first ps) in let y : ℕ = count k (first_of ps) in let e : x + y ≡ b = first_count k ps in omega arith
+second_count k (p ∷ ps) = let a : ℕ = one (has k p) in let b : ℕ = count k ps in let x : ℕ = count k (after_first ps) in let y : ℕ = count k (first_of ps) in
+    let e : x + y ≡ b = first_count k ps in omega arith
 
 pub second_shares : (ps : List Part) → shares (but_second ps) + shares (second_of ps) ≡ shares ps
 second_shares [] = refl
-second_shares (p ∷ ps) = let a : ℕ = share_of p in let b : ℕ = shares ps in let x : ℕ = shares (after_first ps) in let y : ℕ = shares (first_of ps) in let e : x + y ≡ b = first_shares ps in omega arith
+second_shares (p ∷ ps) = let a : ℕ = share_of p in let b : ℕ = shares ps in let x : ℕ = shares (after_first ps) in let y : ℕ = shares (first_of ps) in
+    let e : x + y ≡ b = first_shares ps in omega arith
 
 pub second_each : (P : Part → Type 0) (ps : List Part) → Each P ps → Each P (but_second ps) × Each P (second_of ps)
 second_each P [] e = (tt, tt)
@@ -125,4 +127,5 @@ pub back_left : (v w u : View) → 0 < length v.parts → length w.parts ≡ 1 �
 back_left v w u l e is = ap left_but_second is ∙ ap (λ (ps : List Part). seeing ps (v.sights ++ w.sights) v.events) (back_parts v.parts w.parts l e)
 
 pub back_right : (v w u t : View) → 0 < length v.parts → length w.parts ≡ 1 → u ≡ joined v w → t ≡ meeting v w → joined (left_bare w) (right_second u) ≡ meeting w t
-back_right v w u t l e is left = ap (λ (x : View). joined (left_bare w) (right_second x)) is ∙ (ap (λ (ps : List Part). seeing ps (w.sights ++ (v.sights ++ w.sights)) w.events) (second_parts v.parts w.parts l e) ∙ ap (meeting w) (sym left))
+back_right v w u t l e is left = ap (λ (x : View). joined (left_bare w) (right_second x)) is ∙
+    (ap (λ (ps : List Part). seeing ps (w.sights ++ (v.sights ++ w.sights)) w.events) (second_parts v.parts w.parts l e) ∙ ap (meeting w) (sym left))

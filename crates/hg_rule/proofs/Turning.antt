@@ -30,7 +30,8 @@ use Rattle.hg_rule.specs.Rules.{Rule}
 use Rattle.hg_rule.specs.Views.{seeing, first_in, others, part_number}
 use Rattle.hg_rule.specs.Moves.{put_in, joined, spent}
 use Rattle.hg_rule.specs.Holding.{bucket, bucket_number, beyond, commit}
-use Rattle.hg_rule.specs.Places.{HasFirst, arriving, arrive, arrive_first, with_bucket, departing, depart, without_bucket, IsThere, HoldsBucket, bucket_alone, without_commit, commit_alone, HoldsCommit}
+use Rattle.hg_rule.specs.Places.{HasFirst, arriving, arrive, arrive_first, with_bucket, departing, depart, without_bucket, IsThere, HoldsBucket, bucket_alone, without_commit, commit_alone}
+use Rattle.hg_rule.specs.Places.{HoldsCommit}
 use Rattle.hg_rule.proofs.Counts.{another, count_self, one_true}
 use Rattle.hg_rule.proofs.Found.{ltb_less}
 use Rattle.hg_rule.proofs.Growing.{Grows}
@@ -51,7 +52,8 @@ set_twice (x ∷ views) zero v w = refl
 set_twice (x ∷ views) (suc id) v w = ap (λ l. x ∷ l) (set_twice views id v w)
 
 pub there : (z : Sizes) (t : Table) (r : Rule z t) (id : ℕ) (v : View) (k : Key) → get_elem? t.views id ≡ some v → 0 < count k v.parts → 0 < expected z r.used k
-there z t r id v k at l = let a : ℕ = count k v.parts in let b : ℕ = tally k t.views in let c : ℕ = expected z r.used k in let h : a ≤ b = tally_one k t.views id v at in let e : b ≡ c = r.exact k in omega arith
+there z t r id v k at l = let a : ℕ = count k v.parts in let b : ℕ = tally k t.views in let c : ℕ = expected z r.used k in let h : a ≤ b = tally_one k t.views id v at in
+    let e : b ≡ c = r.exact k in omega arith
 
 pub has_part : (p : Part) (ps qs : List Part) → qs ≡ p ∷ ps → 0 < count (key_of p) qs
 has_part p ps qs e = subst (λ l. 0 < count (key_of p) l) (sym e) (count_self p ps)
@@ -98,8 +100,10 @@ turned z t r id v p part ps visits at is steady = turn z t r id v (seeing (OfPas
     own = (subst (Each (Shown c)) is (r.shown id v at).parts).0
 
 -- the part is the same, or is a pass's with other visits
-same_view : (z : Sizes) (t : Table) (id : ℕ) (v : View) (parts : List Part) → get_elem? t.views id ≡ some v → v.parts ≡ parts → Rule z t → Rule z record { words = t.words; homes = t.homes; views = set t.views id (seeing parts v.sights v.events) }
-same_view z t id v parts at is r = subst (λ (l : List View). Rule z record { words = t.words; homes = t.homes; views = l }) (sym (ap (λ (ps : List Part). set t.views id (seeing ps v.sights v.events)) (sym is) ∙ set_again t.views id v at)) r
+same_view : (z : Sizes) (t : Table) (id : ℕ) (v : View) (parts : List Part) → get_elem? t.views id ≡ some v → v.parts ≡ parts → Rule z t →
+    Rule z record { words = t.words; homes = t.homes; views = set t.views id (seeing parts v.sights v.events) }
+same_view z t id v parts at is r = subst (λ (l : List View). Rule z record { words = t.words; homes = t.homes; views = l })
+    (sym (ap (λ (ps : List Part). set t.views id (seeing ps v.sights v.events)) (sym is) ∙ set_again t.views id v at)) r
 
 arrived : (z : Sizes) (t : Table) (id : ℕ) (v : View) (b : ℕ) (parts : List Part) → get_elem? t.views id ≡ some v → v.parts ≡ parts → (r : Rule z t) → 0 < expected z r.used (bucket_key b)
     → Rule z record { words = t.words; homes = t.homes; views = set t.views id (seeing (arrive_first b parts) v.sights v.events) }
@@ -118,7 +122,8 @@ arrived z t id v b (OfPass p part ∷ ps) at is r l =
     turned z t r id v p part ps (arriving b part).visits at is
     (subst (λ (visits : List Visit). IsSteady (record c { visits = put c.visits p visits })) (λ i. record { bucket = b; mark = (own.0 i).mark; removed = none_removed; given = None } ∷ own.1.0 i) kept)
 
-departed : (z : Sizes) (t : Table) (id : ℕ) (v : View) (b : ℕ) (part : BucketPart) (ps : List Part) (p : Part) → get_elem? t.views id ≡ some v → v.parts ≡ p ∷ OfBucket b part ∷ ps → (r : Rule z t) → IsThere b p
+departed : (z : Sizes) (t : Table) (id : ℕ) (v : View) (b : ℕ) (part : BucketPart) (ps : List Part) (p : Part) → get_elem? t.views id ≡ some v →
+    v.parts ≡ p ∷ OfBucket b part ∷ ps → (r : Rule z t) → IsThere b p
     → Rule z record { words = t.words; homes = t.homes; views = set t.views id (seeing (depart part.content p ∷ OfBucket b part ∷ ps) v.sights v.events) }
 departed z t id v b part ps (OfSession j s) at is r l = same_view z t id v (OfSession j s ∷ OfBucket b part ∷ ps) at is r
 departed z t id v b part ps (OfBucket c s) at is r l = same_view z t id v (OfBucket c s ∷ OfBucket b part ∷ ps) at is r
@@ -132,7 +137,8 @@ departed z t id v b part ps (OfPass p s) at is r l =
     turned z t r id v p s (OfBucket b part ∷ ps) (departing part.content s).visits at is
     (subst (λ (visits : List Visit). IsSteady (record c { visits = put c.visits p visits })) (given c.bucket part.content b s.visits l own.1.0.0 (c.visits p) own.0.1.0) kept)
   where
-    given : (bucket : ℕ → Content) (content : Content) (b : ℕ) (visits : List Visit) → IsVisiting b visits → bucket b ≡ content → (vs : List Visit) → vs ≡ visits → giving bucket vs ≡ giving (λ b. content) visits
+    given : (bucket : ℕ → Content) (content : Content) (b : ℕ) (visits : List Visit) → IsVisiting b visits → bucket b ≡ content → (vs : List Visit) → vs ≡ visits →
+        giving bucket vs ≡ giving (λ b. content) visits
     given bucket content b [] l e vs is = absurd l
     given bucket content b (x ∷ visits) l e vs is = ap (giving bucket) is ∙ ap (λ (c : Content). record x { given = Some c } ∷ visits) (ap bucket l.0 ∙ e)
 
@@ -182,7 +188,8 @@ departs z id v b holds t r at =
 
 pub resigns : (z : Sizes) (id : ℕ) (v : View) → HoldsCommit v → Splits (Rule z) id v (without_commit v) (commit_alone v)
 resigns z id v holds = may_split z id v (without_commit v) (commit_alone v) record {
-  counts = λ k. let a : ℕ = count k v.parts in let x : ℕ = one (has k (first_in v.parts)) in let y : ℕ = one (has k (OfCommit (commit v))) in let n : ℕ = count k (beyond v) in let e : a ≡ x + (y + n) = ap (count k) is in omega arith;
+  counts = λ k. let a : ℕ = count k v.parts in let x : ℕ = one (has k (first_in v.parts)) in let y : ℕ = one (has k (OfCommit (commit v))) in let n : ℕ = count k (beyond v) in
+      let e : a ≡ x + (y + n) = ap (count k) is in omega arith;
   shared = let a : ℕ = shares v.parts in let x : ℕ = share_of (first_in v.parts) in let n : ℕ = shares (beyond v) in let e : a ≡ x + (0 + n) = ap shares is in omega arith;
   left = λ s h. let ps = subst (Each (Shown s)) is h.parts in record {
     parts = (ps.0, ps.1.1);
@@ -210,7 +217,8 @@ holds_bucket v w u b part first only e = subst (HoldsBucket b) (sym e) (go v.par
 
     go : (ps qs : List Part) → ps ≡ first_in v.parts ∷ others v → qs ≡ OfBucket b part ∷ [] → HoldsBucket b (seeing (put_in (arrive_first (part_number qs) ps) qs) (v.sights ++ w.sights) v.events)
     go ps qs is is' = subst (λ (ps : List Part). HoldsBucket b (seeing (put_in (arrive_first (part_number qs) ps) qs) (v.sights ++ w.sights) v.events)) (sym is)
-        (subst (λ (qs : List Part). HoldsBucket b (seeing (put_in (arrive_first (part_number qs) (first_in v.parts ∷ others v)) qs) (v.sights ++ w.sights) v.events)) (sym is') (refl, (refl, here (first_in v.parts) b)))
+        (subst (λ (qs : List Part). HoldsBucket b (seeing (put_in (arrive_first (part_number qs) (first_in v.parts ∷ others v)) qs) (v.sights ++ w.sights) v.events)) (sym is')
+        (refl, (refl, here (first_in v.parts) b)))
 
 pub holds_commit : (v w u : View) (part : CommitPart) → HasFirst v → w.parts ≡ OfCommit part ∷ [] → u ≡ joined v w → HoldsCommit u
 holds_commit v w u part first only e = subst HoldsCommit (sym e) (go v.parts w.parts first only)

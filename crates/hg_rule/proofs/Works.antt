@@ -71,7 +71,8 @@ newest_seen mark at w (v ∷ vs) h = go v.stamp h.0 (newest_seen mark at w vs h.
     pick true n (Oldest m) e le rest = let same : m ≡ n = (let z = e in cc) in omega (arith, le)
     pick false n x e le rest = rest
 
-    go : (x : Stamp) → IsOwnOrSeen w at (record { stamp = x; image = v.image }) → IfSome (newest_at mark vs) (λ pair. pair.0 ≤ at) → IfSome (newest_at mark (record { stamp = x; image = v.image } ∷ vs)) (λ pair. pair.0 ≤ at)
+    go : (x : Stamp) → IsOwnOrSeen w at (record { stamp = x; image = v.image }) → IfSome (newest_at mark vs) (λ pair. pair.0 ≤ at) →
+        IfSome (newest_at mark (record { stamp = x; image = v.image } ∷ vs)) (λ pair. pair.0 ≤ at)
     go (Written by) k rest = rest
     go (Numbered n by) k rest = pick (nat_le n mark) n (Numbered n by) refl k rest
     go (Oldest n) k rest = pick (nat_le n mark) n (Oldest n) refl k rest
@@ -82,7 +83,8 @@ snapshot_low mark p at scope e h = subst (PhaseUpTo mark) e h
 -- ---- what a write changes
 
 entry_leaves : (c d : CoreState) (j b : ℕ) (old : SessionPart) (part : BucketPart) (log : List LogEntry) → d.phase ≡ c.phase → d.log ≡ put c.log j log → d.stamped_list ≡ c.stamped_list
-    → ((k : ℕ) → (k ≡ b → ⊥) → d.bucket k ≡ c.bucket k) → ((k : ℕ) → (k ≡ b → ⊥) → d.counters k ≡ c.counters k) → d.history ≡ c.history → d.taken ≡ c.taken → d.pass ≡ c.pass → d.visits ≡ c.visits → c.mark ≤ d.mark
+    → ((k : ℕ) → (k ≡ b → ⊥) → d.bucket k ≡ c.bucket k) → ((k : ℕ) → (k ≡ b → ⊥) → d.counters k ≡ c.counters k) → d.history ≡ c.history → d.taken ≡ c.taken → d.pass ≡ c.pass →
+    d.visits ≡ c.visits → c.mark ≤ d.mark
     → Leaves c d (OfSession j old ∷ OfBucket b part ∷ [])
 entry_leaves c d j b old part log phase logs list bucket counters history taken pass visits more = record {
   phase = λ k away i. phase i k;
@@ -101,8 +103,10 @@ entry_leaves c d j b old part log phase logs list bucket counters history taken 
 pub counters_else : (counters : ℕ → Counters) (at b k : ℕ) (new : Counters) → at ≡ b → (k ≡ b → ⊥) → put counters at new k ≡ counters k
 counters_else counters at b k new e other = put_else counters at k new (λ (s : k ≡ at). other (s ∙ e))
 
-pub installs : (z : Sizes) (slots id : ℕ) (rid : Rid) (image : Image) (m : Seated) → HasSession m.0 → IsSome (snapshot_in (session m.0).phase) → IsTrue (is_plain (session m.0).log) → (session m.0).stamped ≡ false
-    → HasBucket m.0 → bucket_of z.buckets rid ≡ bucket_number m.0 → IsTrue (has (tables m.0) rid.table) → rid.table.0 < z.tables → wrotes (session m.0).log < z.quota → Each (IsOwnOrSeen (writer m.0) (snapshot m.0)) (held m.0 rid)
+pub installs : (z : Sizes) (slots id : ℕ) (rid : Rid) (image : Image) (m : Seated) → HasSession m.0 → IsSome (snapshot_in (session m.0).phase) →
+    IsTrue (is_plain (session m.0).log) → (session m.0).stamped ≡ false
+    → HasBucket m.0 → bucket_of z.buckets rid ≡ bucket_number m.0 → IsTrue (has (tables m.0) rid.table) → rid.table.0 < z.tables → wrotes (session m.0).log < z.quota →
+    Each (IsOwnOrSeen (writer m.0) (snapshot m.0)) (held m.0 rid)
     → Allows (Rule z) slots id m 0 (λ n. n) (wrote rid image (step slots 0 0 0 none) m)
 installs z slots id rid image m is live plain unstamped bucketed place table low room free t r deep at small =
     let v : View = m.0 in
@@ -127,36 +131,40 @@ installs z slots id rid image m is live plain unstamped bucketed place table low
       then_has v (OfSession j new ∷ OfBucket b part ∷ beyond v) (sights.Heard j new.log ∷ []) (events.Install j rid image),
       keeps,
       tt,
-      keep z t r id v (OfSession j (session v) ∷ OfBucket b (bucket v) ∷ []) (OfSession j new ∷ OfBucket b part ∷ []) (beyond v) (sights.Heard j new.log ∷ []) (events.Install j rid image) 0 n d at (is ∙ ap (λ (l : List Part). OfSession j (session v) ∷ l) bucketed) record {
-        steady = install_kept c j rid image r.steady (
-          snapshot v,
-          tables v,
-          record {
-            live = own.0 ∙ live_is (session v).phase live;
-            table = table;
-            there = subst (λ n. rid.table.0 < n) (sym r.sized.tables) low;
-            plain = subst (λ l. IsTrue (is_plain l)) (sym own.1.0) plain;
-            unstamped = own.1.1 ∙ unstamped;
-            room = omega (arith, room, ap wrotes own.1.0, r.sized.quota);
-            free = subst (λ w. IsFreeFor c.mark w (versions c.buckets c.bucket rid)) (sym w) (subst (IsFreeFor c.mark (writer v)) (sym vs) (free_for c.mark (snapshot v) (writer v) (held v rid) snap free));
-            newest = subst (λ l. IfSome (newest_at c.mark l) (λ pair. pair.0 ≤ snapshot v)) (sym vs) (newest_seen c.mark (snapshot v) (writer v) (held v rid) free);
+      keep z t r id v (OfSession j (session v) ∷ OfBucket b (bucket v) ∷ []) (OfSession j new ∷ OfBucket b part ∷ []) (beyond v) (sights.Heard j new.log ∷ [])
+          (events.Install j rid image) 0 n d at (is ∙ ap (λ (l : List Part). OfSession j (session v) ∷ l) bucketed) record {
+            steady = install_kept c j rid image r.steady (
+              snapshot v,
+              tables v,
+              record {
+                live = own.0 ∙ live_is (session v).phase live;
+                table = table;
+                there = subst (λ n. rid.table.0 < n) (sym r.sized.tables) low;
+                plain = subst (λ l. IsTrue (is_plain l)) (sym own.1.0) plain;
+                unstamped = own.1.1 ∙ unstamped;
+                room = omega (arith, room, ap wrotes own.1.0, r.sized.quota);
+                free = subst (λ w. IsFreeFor c.mark w (versions c.buckets c.bucket rid)) (sym w)
+                    (subst (IsFreeFor c.mark (writer v)) (sym vs) (free_for c.mark (snapshot v) (writer v) (held v rid) snap free));
+                newest = subst (λ l. IfSome (newest_at c.mark l) (λ pair. pair.0 ≤ snapshot v)) (sym vs) (newest_seen c.mark (snapshot v) (writer v) (held v rid) free);
+              },
+            );
+            sized = record { sessions = r.sized.sessions; tables = r.sized.tables; buckets = r.sized.buckets; quota = r.sized.quota };
+            passes = refl;
+            shows = record { count = words.count; mark = words.mark; registers = words.registers; masks = words.masks };
+            grows = record { history = starts_same c.history; logs = log_put c j _ (entries.Wrote rid image ∷ [], refl); taken = omega arith };
+            only = leaves_only c d _ (entry_leaves c d j b (session v) (bucket v) _ refl refl refl (λ k other. stored_else c.buckets c.bucket rid _ b k place' other)
+                (λ k other. counters_else c.counters _ b k _ place' other) refl refl refl refl (le_refl _));
+            counts = λ k. refl;
+            shared = refl;
+            shown = ((own.0, (log, own.1.1)), ((content, counts), tt));
+            known = (subst (λ l. EndsWith l new.log) (sym log) (ends_same new.log), tt);
+            stands = tt;
           },
-        );
-        sized = record { sessions = r.sized.sessions; tables = r.sized.tables; buckets = r.sized.buckets; quota = r.sized.quota };
-        passes = refl;
-        shows = record { count = words.count; mark = words.mark; registers = words.registers; masks = words.masks };
-        grows = record { history = starts_same c.history; logs = log_put c j _ (entries.Wrote rid image ∷ [], refl); taken = omega arith };
-        only = leaves_only c d _ (entry_leaves c d j b (session v) (bucket v) _ refl refl refl (λ k other. stored_else c.buckets c.bucket rid _ b k place' other) (λ k other. counters_else c.counters _ b k _ place' other) refl refl refl refl (le_refl _));
-        counts = λ k. refl;
-        shared = refl;
-        shown = ((own.0, (log, own.1.1)), ((content, counts), tt));
-        known = (subst (λ l. EndsWith l new.log) (sym log) (ends_same new.log), tt);
-        stands = tt;
-      },
       (refl, refl),
     )
 
-pub undoes : (z : Sizes) (slots id : ℕ) (rid : Rid) (m : Seated) → HasSession m.0 → (session m.0).stamped ≡ false → HasBucket m.0 → bucket_of z.buckets rid ≡ bucket_number m.0 → IsOpenBy (writer m.0) (held m.0 rid)
+pub undoes : (z : Sizes) (slots id : ℕ) (rid : Rid) (m : Seated) → HasSession m.0 → (session m.0).stamped ≡ false → HasBucket m.0 → bucket_of z.buckets rid ≡ bucket_number m.0 →
+    IsOpenBy (writer m.0) (held m.0 rid)
     → Allows (Rule z) slots id m 0 (λ n. n) (undid rid (step slots 0 0 0 none) m)
 undoes z slots id rid m is unstamped bucketed place mine t r deep at small =
     let v : View = m.0 in
@@ -179,21 +187,23 @@ undoes z slots id rid m is unstamped bucketed place mine t r deep at small =
       then_has v (OfSession j new ∷ OfBucket b part ∷ beyond v) (sights.Heard j new.log ∷ []) (events.Undo j rid),
       keeps,
       tt,
-      keep z t r id v (OfSession j (session v) ∷ OfBucket b (bucket v) ∷ []) (OfSession j new ∷ OfBucket b part ∷ []) (beyond v) (sights.Heard j new.log ∷ []) (events.Undo j rid) 0 n d at (is ∙ ap (λ (l : List Part). OfSession j (session v) ∷ l) bucketed) record {
-        steady = undo_kept c j rid r.steady record {
-          mine = subst (λ w. IsOpenBy w (versions c.buckets c.bucket rid)) (sym w) (subst (IsOpenBy (writer v)) (sym vs) mine);
-          unstamped = own.1.1 ∙ unstamped;
-        };
-        sized = record { sessions = r.sized.sessions; tables = r.sized.tables; buckets = r.sized.buckets; quota = r.sized.quota };
-        passes = refl;
-        shows = record { count = words.count; mark = words.mark; registers = words.registers; masks = words.masks };
-        grows = record { history = starts_same c.history; logs = log_put c j _ (entries.Undid rid ∷ [], refl); taken = omega arith };
-        only = leaves_only c d _ (entry_leaves c d j b (session v) (bucket v) _ refl refl refl (λ k other. stored_else c.buckets c.bucket rid _ b k place' other) (λ k other. counters_else c.counters _ b k _ place' other) refl refl refl refl (le_refl _));
-        counts = λ k. refl;
-        shared = refl;
-        shown = ((own.0, (log, own.1.1)), ((content, counts), tt));
-        known = (subst (λ l. EndsWith l new.log) (sym log) (ends_same new.log), tt);
-        stands = tt;
-      },
+      keep z t r id v (OfSession j (session v) ∷ OfBucket b (bucket v) ∷ []) (OfSession j new ∷ OfBucket b part ∷ []) (beyond v) (sights.Heard j new.log ∷ [])
+          (events.Undo j rid) 0 n d at (is ∙ ap (λ (l : List Part). OfSession j (session v) ∷ l) bucketed) record {
+            steady = undo_kept c j rid r.steady record {
+              mine = subst (λ w. IsOpenBy w (versions c.buckets c.bucket rid)) (sym w) (subst (IsOpenBy (writer v)) (sym vs) mine);
+              unstamped = own.1.1 ∙ unstamped;
+            };
+            sized = record { sessions = r.sized.sessions; tables = r.sized.tables; buckets = r.sized.buckets; quota = r.sized.quota };
+            passes = refl;
+            shows = record { count = words.count; mark = words.mark; registers = words.registers; masks = words.masks };
+            grows = record { history = starts_same c.history; logs = log_put c j _ (entries.Undid rid ∷ [], refl); taken = omega arith };
+            only = leaves_only c d _ (entry_leaves c d j b (session v) (bucket v) _ refl refl refl (λ k other. stored_else c.buckets c.bucket rid _ b k place' other)
+                (λ k other. counters_else c.counters _ b k _ place' other) refl refl refl refl (le_refl _));
+            counts = λ k. refl;
+            shared = refl;
+            shown = ((own.0, (log, own.1.1)), ((content, counts), tt));
+            known = (subst (λ l. EndsWith l new.log) (sym log) (ends_same new.log), tt);
+            stands = tt;
+          },
       (refl, refl),
     )

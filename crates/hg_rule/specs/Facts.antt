@@ -106,3 +106,7 @@ Known s (Saw h) = StartsWith s.history h.list
 Known s (Heard j log) = EndsWith (s.log j) log
 Known s (Took n) = n ≤ s.taken
 Known s (Did e) = Stands s e
+
+-- the whole log of session j was heard, unless it is empty
+abbrev pub IsHeard : ℕ → List LogEntry → List Sight → Type 0
+IsHeard j log sights = (log ≡ []) ⊎ IsAmong (Heard j log) sights

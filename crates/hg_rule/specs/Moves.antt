@@ -26,6 +26,7 @@ abbrev pub did : List Event → List Sight
 did [] = []
 did (e ∷ events) = Did e ∷ did events
 
+-- as joined, and the other's steps are known as seen
 abbrev pub merged : View → View → View
 merged v w = seeing (put_in v.parts w.parts) (v.sights ++ (w.sights ++ did w.events)) v.events
 
@@ -39,35 +40,44 @@ spent = seeing [] [] []
 abbrev pub meeting : View → View → View
 meeting v w = seeing v.parts (v.sights ++ w.sights) v.events
 
+-- what the giver keeps: no part, and all else
 abbrev pub left_bare : View → View
 left_bare v = seeing [] v.sights v.events
 
+-- what it gives: all its parts, with what it has seen
 abbrev pub right_given : View → View
 right_given v = seeing v.parts v.sights []
 
+-- the first part alone, if there is one
 abbrev pub first_of : List Part → List Part
 first_of [] = []
 first_of (p ∷ parts) = p ∷ []
 
+-- the second part alone, if there is one
 abbrev pub second_of : List Part → List Part
 second_of [] = []
 second_of (p ∷ parts) = first_of parts
 
+-- all parts but the second
 abbrev pub but_second : List Part → List Part
 but_second [] = []
 but_second (p ∷ parts) = p ∷ after_first parts
 
+-- what is left when the second part leaves
 abbrev pub left_but_second : View → View
 left_but_second v = seeing (but_second v.parts) v.sights v.events
 
+-- what leaves then: the second part, with what was seen
 abbrev pub right_second : View → View
 right_second v = seeing (second_of v.parts) v.sights []
 
 -- ---- a new board: its parts are dealt one by one
 
+-- what is left when the first part is dealt
 abbrev pub left_tail : View → View
 left_tail v = seeing (after_first v.parts) v.sights v.events
 
+-- what is dealt: the first part, with what was seen
 abbrev pub right_first : View → View
 right_first v = seeing (first_of v.parts) v.sights []
 
@@ -76,12 +86,15 @@ abbrev pub run : (ℕ → Part) → ℕ → ℕ → List Part
 run f i zero = []
 run f i (suc n) = f i ∷ run f (suc i) n
 
+-- the part of session j on a new board
 abbrev pub session_part : ℕ → Part
 session_part j = new_part (session_key j)
 
+-- the part of bucket b on a new board
 abbrev pub bucket_part : ℕ → Part
 bucket_part b = new_part (bucket_key b)
 
+-- the part of pass p on a new board
 abbrev pub pass_part : ℕ → Part
 pass_part p = new_part (pass_key p)
 

@@ -22,6 +22,7 @@ HasFirst v = v.parts ≡ first_in v.parts ∷ others v
 abbrev pub arriving : ℕ → PassPart → PassPart
 arriving b part = record part { visits = record { bucket = b; mark = part.mark; removed = none_removed; given = None } ∷ part.visits }
 
+-- a part after bucket b was joined to it: only a pass's begins a visit
 abbrev pub arrive : ℕ → Part → Part
 arrive b (OfSession j part) = OfSession j part
 arrive b (OfBucket c part) = OfBucket c part
@@ -30,6 +31,7 @@ arrive b (OfPass p part) = OfPass p (arriving b part)
 arrive b (Away j part n) = Away j part n
 arrive b (Lent j part) = Lent j part
 
+-- parts after bucket b was joined to the first of them
 abbrev pub arrive_first : ℕ → List Part → List Part
 arrive_first b [] = []
 arrive_first b (p ∷ parts) = arrive b p ∷ parts
@@ -42,6 +44,7 @@ with_bucket v w = seeing (put_in (arrive_first (part_number w.parts) v.parts) w.
 abbrev pub departing : Content → PassPart → PassPart
 departing content part = record part { visits = giving (λ b. content) part.visits }
 
+-- a part after a bucket with this content left it: only a pass's visit is over
 abbrev pub depart : Content → Part → Part
 depart content (OfSession j part) = OfSession j part
 depart content (OfBucket c part) = OfBucket c part
@@ -77,8 +80,10 @@ bucket_alone v = seeing (OfBucket (bucket_number v) (bucket v) ∷ []) v.sights 
 abbrev pub without_commit : View → View
 without_commit v = seeing (first_in v.parts ∷ beyond v) (v.sights ++ Saw (commit v).history ∷ Took (commit v).taken ∷ []) v.events
 
+-- the committer's part alone, which has seen what the view had seen
 abbrev pub commit_alone : View → View
 commit_alone v = seeing (OfCommit (commit v) ∷ []) v.sights []
 
+-- a view whose last joined part is the committer's
 abbrev pub HoldsCommit : View → Type 0
 HoldsCommit v = HasFirst v × (others v ≡ OfCommit (commit v) ∷ beyond v)

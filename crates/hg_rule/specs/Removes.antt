@@ -36,14 +36,16 @@ abbrev pub visiting : Kind → ℕ → PassPart → PassPart
 visiting kind n part = record part { visits = removing kind n part.visits }
 
 abbrev pub Reclaims : View → Rid → Kind → View → Type 0
-Reclaims v rid kind w = w ≡ then_has v (OfPass (number v) (visiting kind (removed_of v rid kind) (pass v)) ∷ OfBucket (bucket_number v) (shortening rid kind (left_of v rid kind) (removed_of v rid kind) (bucket v)) ∷ beyond v) []
+Reclaims v rid kind w = w ≡ then_has v (OfPass (number v) (visiting kind (removed_of v rid kind) (pass v)) ∷ OfBucket (bucket_number v)
+    (shortening rid kind (left_of v rid kind) (removed_of v rid kind) (bucket v)) ∷ beyond v) []
     (Reclaim (number v) kind rid (removed_of v rid kind))
 
 abbrev pub taking : CommitPart → CommitPart
 taking part = record part { taken = suc part.taken }
 
 abbrev pub Takes : View → ℕ → View → Type 0
-Takes v n w = IsHistoryAt v n (commit v).history.list × (w ≡ then_has v (OfPass (number v) (pass v) ∷ OfCommit (taking (commit v)) ∷ beyond v) (Saw (commit v).history ∷ Took (suc (commit v).taken) ∷ []) (Take (number v) n))
+Takes v n w = IsHistoryAt v n (commit v).history.list × (w ≡ then_has v (OfPass (number v) (pass v) ∷ OfCommit (taking (commit v)) ∷ beyond v)
+    (Saw (commit v).history ∷ Took (suc (commit v).taken) ∷ []) (Take (number v) n))
 
 -- ---- the same as a step of the table tells it
 

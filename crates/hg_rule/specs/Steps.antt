@@ -48,9 +48,11 @@ pub record IsHistoryAt (v : View) (n : ℕ) (h : History) : Type 0 where
 
 -- ---- a session's
 
+-- a session's part in this phase, and else the same
 abbrev pub in_phase : Phase → SessionPart → SessionPart
 in_phase phase part = record part { phase = phase }
 
+-- a session's part in this phase, with this entry as the newest of its log
 abbrev pub logging : LogEntry → Phase → SessionPart → SessionPart
 logging entry phase part = record part { phase = phase; log = entry ∷ part.log }
 
@@ -72,21 +74,30 @@ entered_in (Entered scope f) = f
 entered_in (Fixed scope f m) = f
 entered_in (Live at scope) = 0
 
+-- w is v after the session declared the tables of this scope
 abbrev pub Declares : View → Scope → View → Type 0
 Declares v scope w = w ≡ then_has v (OfSession (number v) (in_phase (Declared scope) (session v)) ∷ others v) [] (Declare (number v) scope)
 
+-- w is v after the session loaded the mark for the first time: n, and it has seen the history of that length
 abbrev pub Probes : View → ℕ → View → Type 0
-Probes v n w = (h : History) × (IsHistoryAt v n h × (w ≡ then_has v (OfSession (number v) (in_phase (Probed (declared_in (session v).phase) n) (session v)) ∷ others v) (Saw (groups h) ∷ []) (Probe (number v) n)))
+Probes v n w = (h : History) × (IsHistoryAt v n h × (w ≡ then_has v (OfSession (number v) (in_phase (Probed (declared_in (session v).phase) n) (session v)) ∷ others v)
+    (Saw (groups h) ∷ []) (Probe (number v) n)))
 
+-- w is v after the session's register shows that it enters at f
 abbrev pub Enters : View → ℕ → View → Type 0
 Enters v f w = w ≡ then_has v (OfSession (number v) (in_phase (Entered (declared_in (session v).phase) f) (session v)) ∷ others v) [] (Enter (number v) f)
 
+-- w is v after the session loaded the mark again: n, and it has seen the history of that length
 abbrev pub Fixes : View → ℕ → View → Type 0
-Fixes v n w = (h : History) × (IsHistoryAt v n h × (w ≡ then_has v (OfSession (number v) (in_phase (Fixed (declared_in (session v).phase) (loaded_in (session v).phase) n) (session v)) ∷ others v) (Saw (groups h) ∷ []) (Fix (number v) n)))
+Fixes v n w = (h : History) × (IsHistoryAt v n h × (w ≡ then_has v
+    (OfSession (number v) (in_phase (Fixed (declared_in (session v).phase) (loaded_in (session v).phase) n) (session v)) ∷ others v) (Saw (groups h) ∷ []) (Fix (number v) n)))
 
+-- w is v after the session went live at m, which is logged as begun
 abbrev pub GoesLive : View → ℕ → Scope → View → Type 0
-GoesLive v m scope w = w ≡ then_has v (OfSession (number v) (logging (Began m scope) (Live m scope) (session v)) ∷ others v) (Heard (number v) (Began m scope ∷ (session v).log) ∷ []) (GoLive (number v) m scope)
+GoesLive v m scope w = w ≡ then_has v (OfSession (number v) (logging (Began m scope) (Live m scope) (session v)) ∷ others v)
+    (Heard (number v) (Began m scope ∷ (session v).log) ∷ []) (GoLive (number v) m scope)
 
+-- w is v after the session went to rest, which is logged as over
 abbrev pub Ends : View → View → Type 0
 Ends v w = w ≡ then_has v (OfSession (number v) (logging Over Idle (session v)) ∷ others v) (Heard (number v) (Over ∷ (session v).log) ∷ []) (End (number v))
 
@@ -96,6 +107,7 @@ Ends v w = w ≡ then_has v (OfSession (number v) (logging Over Idle (session v)
 abbrev pub beginning : ℕ → List Sight → PassPart → PassPart
 beginning mark seen part = record part { mark = mark; seen = seen; loaded = [] }
 
+-- the first entry is session j's, with this register and no mask yet
 abbrev pub loading : ℕ → Register → PassPart → PassPart
 loading j register part = record part { loaded = (j, record { register = register; mask = None }) ∷ part.loaded }
 
@@ -107,12 +119,15 @@ masking j mask part = record part { loaded = masked_in j mask part.loaded }
 abbrev pub moving : ℕ → PassPart → PassPart
 moving j part = record part { loaded = moved_in j part.loaded }
 
+-- w is v after the pass loaded the mark, n, and began a record; it has seen the history of that length
 abbrev pub Marks : View → ℕ → View → Type 0
 Marks v n w = (h : History) × (IsHistoryAt v n h × (w ≡ then_has v (OfPass (number v) (beginning n v.sights (pass v)) ∷ others v) (Saw (groups h) ∷ []) (Mark (number v) n)))
 
+-- w is v after the pass loaded session j's register, and found this one
 abbrev pub Samples : View → ℕ → Register → View → Type 0
 Samples v j register w = w ≡ then_has v (OfPass (number v) (loading j register (pass v)) ∷ others v) [] (Sample (number v) j register)
 
+-- w is v after the pass loaded session j's mask word, and found this mask
 abbrev pub SamplesMask : View → ℕ → ℕ → View → Type 0
 SamplesMask v j mask w = w ≡ then_has v (OfPass (number v) (masking j mask (pass v)) ∷ others v) [] (SampleMask (number v) j mask)
 
@@ -121,6 +136,7 @@ abbrev pub after_try : Bool → ℕ → View → List Part
 after_try true j v = OfPass (number v) (moving j (pass v)) ∷ others v
 after_try false j v = v.parts
 
+-- w is v after the pass tried to move session j's snapshot n; `moved` says whether it did
 abbrev pub Moves : View → ℕ → ℕ → Bool → View → Type 0
 Moves v j n moved w = w ≡ then_has v (after_try moved j v) [] (Move (number v) j n moved)
 
@@ -144,33 +160,43 @@ HasRegister register (Some loaded) = loaded.register ≡ register
 
 -- ---- the same as a step of the table tells it: of the step, the seat before, the number found or stored, the seat after
 
+-- a view, and what else the seat has, which these steps leave as it is
 abbrev pub Seated : Type 0
 Seated = Me ℕ View
 
+-- the step of `Declares`
 abbrev pub declared : Scope → Step ℕ → Seated → ℕ → Seated → Type 0
 declared scope step m n w = Declares m.0 scope w.0 × (w.1 ≡ m.1)
 
+-- the step of `Probes`, by the mark that was found
 abbrev pub probed : Step ℕ → Seated → ℕ → Seated → Type 0
 probed step m n w = Probes m.0 n w.0 × (w.1 ≡ m.1)
 
+-- the step of `Enters`, at the number that the phase has as loaded
 abbrev pub entered : Step ℕ → Seated → ℕ → Seated → Type 0
 entered step m n w = Enters m.0 (loaded_in (session m.0).phase) w.0 × (w.1 ≡ m.1)
 
+-- the step of `Fixes`, by the mark that was found
 abbrev pub fixed : Step ℕ → Seated → ℕ → Seated → Type 0
 fixed step m n w = Fixes m.0 n w.0 × (w.1 ≡ m.1)
 
+-- the step of `GoesLive`, at the number and with the scope that the phase has
 abbrev pub went_live : Step ℕ → Seated → ℕ → Seated → Type 0
 went_live step m n w = GoesLive m.0 (loaded_in (session m.0).phase) (declared_in (session m.0).phase) w.0 × (w.1 ≡ m.1)
 
+-- the step of `Ends`
 abbrev pub ended : Step ℕ → Seated → ℕ → Seated → Type 0
 ended step m n w = Ends m.0 w.0 × (w.1 ≡ m.1)
 
+-- the step of `Marks`, by the mark that was found
 abbrev pub marked : Step ℕ → Seated → ℕ → Seated → Type 0
 marked step m n w = Marks m.0 n w.0 × (w.1 ≡ m.1)
 
+-- the step of `Samples`, for the session at whose register's place the word is
 abbrev pub sampled : Step ℕ → Seated → ℕ → Seated → Type 0
 sampled step m n w = ((j : ℕ) → step.word ≡ register_at j → Samples m.0 j (register_of n) w.0) × IsRegister (register_of n) × (w.1 ≡ m.1)
 
+-- the step of `SamplesMask`, for the session at whose mask's place the word is
 abbrev pub masked : Step ℕ → Seated → ℕ → Seated → Type 0
 masked step m n w = ((j : ℕ) → step.word ≡ mask_at j → SamplesMask m.0 j n w.0) × (w.1 ≡ m.1)
 

@@ -28,7 +28,7 @@ use Rattle.hg_rule.specs.declared.view.Sight.TheVariants.{Saw, Heard, Took, Did}
 use Rattle.hg_rule.specs.declared.view.Event.TheVariants.{Look, Install, Undo}
 use Rattle.hg_rule.specs.declared.view.View.{View}
 use Rattle.hg_rule.specs.declared.view.Sizes.{Sizes}
-use Rattle.hg_rule.specs.Facts.{groups}
+use Rattle.hg_rule.specs.Facts.{groups, IsHeard}
 use Rattle.hg_rule.specs.Rules.{IsBacked}
 use Rattle.hg_rule.specs.Views.{number, session, others, then_has}
 use Rattle.hg_rule.specs.Steps.{IsHistoryAt, Seated}
@@ -61,12 +61,23 @@ log_asked v (Read table low high) n rows = entries.Saw table low high (bucket_nu
 log_asked v (Write rid) n rows = with_refusal rid (refusal n (writer v) (snapshot v) (held v rid)) (session v).log
 log_asked v (Outside table) n rows = entries.Outside table ∷ (session v).log
 
+-- A look hears every session's log as it then is, its own with what was logged.
 pub record Looks (v : View) (ask : Ask) (n : ℕ) (w : View) : Type 0 where
   pub history : History
   pub whole : IsHistoryAt v n history
   pub rows : List (ℕ × List Value)
   pub shown : AreShown v ask rows
-  pub after : w ≡ then_has v (OfSession (number v) (with_log (log_asked v ask n rows) (session v)) ∷ others v) (Saw (groups history) ∷ Heard (number v) (log_asked v ask n rows) ∷ []) (Look (number v) ask n)
+  pub logs : ℕ → List LogEntry
+  pub heard : List Sight
+  pub all : (k : ℕ) → IsHeard k (logs k) heard
+  pub after : w ≡ then_has v (OfSession (number v) (with_log (log_asked v ask n rows) (session v)) ∷ others v)
+      (Saw (groups history) ∷ Heard (number v) (log_asked v ask n rows) ∷ heard) (Look (number v) ask n)
+
+-- A look at a state that backs the view, and whose logs are those that it heard.
+pub record TrulyLooks (z : Sizes) (v : View) (ask : Ask) (n : ℕ) (w : View) : Type 0 where
+  pub looks : Looks v ask n w
+  pub backed : IsBacked z n w
+  pub logs_are : (k : ℕ) → backed.state.log k ≡ looks.logs k
 
 -- ---- a write
 
@@ -117,7 +128,7 @@ listing j rid part = record part { stamped = (j, rid) ∷ part.stamped }
 
 -- and the view is true
 abbrev pub asked : Sizes → Ask → Step ℕ → Seated → ℕ → Seated → Type 0
-asked z ask step m n w = Looks m.0 ask n w.0 × (IsBacked z n w.0 × (w.1 ≡ m.1))
+asked z ask step m n w = TrulyLooks z m.0 ask n w.0 × (w.1 ≡ m.1)
 
 abbrev pub wrote : Rid → Image → Step ℕ → Seated → ℕ → Seated → Type 0
 wrote rid image step m n w = Installs m.0 rid image w.0 × (w.1 ≡ m.1)

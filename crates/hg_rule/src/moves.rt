@@ -1,76 +1,107 @@
-//! Moves of seats, and a look at what a view says.
+//! What each join and each split of seats makes of their views.
 
-ghost use Rattle.std.specs.Prelude.{◌≡◌, ◌<◌, ◌++◌, length};
-ghost use Rattle.hg_rule.specs.Rules.{IsBacked};
-ghost use Rattle.hg_rule.specs.Moves.{joined, merged, meeting};
-ghost use Rattle.hg_rule.specs.Seats.{board_id, sizes_of, view, IsSeatOf};
+ghost use Rattle.hg_rule.specs.Moves.{joined, merged, spent, left_bare, right_given, left_but_second, right_second, left_tail, right_first};
+ghost use Rattle.hg_rule.specs.Places.{with_bucket, without_bucket, bucket_alone, without_commit, commit_alone};
+ghost use Rattle.hg_rule.specs.Handing.{received, hands_back};
+ghost use Rattle.hg_rule.specs.Sharing.{rejoined};
 
-use crate::board::Board;
-use crate::pass::Pass;
-use crate::picks::Sized;
-use crate::plays::{Giving, Joining, Looking, Merging, Returning};
 use crate::view::View;
-use atomic_table::Seat;
-use std::marker::Brand;
+use atomic_table::{Join, Split};
 
-impl Board {
-    fn look_as<P: Pass, A: Sized>(&self, pass: &mut P) -> u64
-        requires own { IsSeatOf (board_id self.now) (P.seat_of pass.old) }
-        requires sizes { A.sizes ≡ sizes_of self.now }
-        ensures backed { IsBacked (sizes_of self.now) result (view (P.seat_of pass.new)) }
-        ensures stays { view (P.seat_of pass.new) ≡ view (P.seat_of pass.old) }
-        ensures own { IsSeatOf (board_id self.now) (P.seat_of pass.new) ×
-            (P.rest_of pass.new ≡ P.rest_of pass.old) }
-    {
-        self.table.shared.load::<Looking<A>>(pass.seat(), 0)
-    }
+pub(crate) struct Joining;
 
-    /// Loads the mark, and leaves the view. All that the rule says of the view is known then.
-    pub fn look_at<P: Pass>(&self, pass: &mut P) -> u64
-        requires own { IsSeatOf (board_id self.now) (P.seat_of pass.old) }
-        ensures backed { IsBacked (sizes_of self.now) result (view (P.seat_of pass.new)) }
-        ensures stays { view (P.seat_of pass.new) ≡ view (P.seat_of pass.old) }
-        ensures own { IsSeatOf (board_id self.now) (P.seat_of pass.new) ×
-            (P.rest_of pass.new ≡ P.rest_of pass.old) }
-    {
-        self.look_as::<P, Brand>(pass)
-    }
+impl Join<View> for Joining {
+    ghost both = { joined };
 
-    /// One split and one join on each side, and a load between them, where one view has the parts of both.
-    pub fn meet<P: Pass, Q: Pass>(&self, pass: &mut P, other: &mut Q) -> u64
-        requires own { IsSeatOf (board_id self.now) (P.seat_of pass.old) ×
-            IsSeatOf (board_id self.now) (Q.seat_of other.old) }
-        requires parts { (0 < length (view (P.seat_of pass.old)).parts) ×
-            (length (view (Q.seat_of other.old)).parts ≡ 1) }
-        ensures backed { IsBacked (sizes_of self.now) result
-            (joined (view (P.seat_of pass.old)) (view (Q.seat_of other.old))) }
-        ensures pass { view (P.seat_of pass.new) ≡
-            meeting (view (P.seat_of pass.old)) (view (Q.seat_of other.old)) }
-        ensures other { view (Q.seat_of other.new) ≡
-            meeting (view (Q.seat_of other.old)) (view (P.seat_of pass.new)) }
-        ensures own { IsSeatOf (board_id self.now) (P.seat_of pass.new) ×
-            (P.rest_of pass.new ≡ P.rest_of pass.old) }
-        ensures others { IsSeatOf (board_id self.now) (Q.seat_of other.new) ×
-            (Q.rest_of other.new ≡ Q.rest_of other.old) }
-    {
-        let gift = self.table.shared.split_seat::<Giving>(other.seat());
-        self.table.shared.join_seat::<Joining>(pass.seat(), gift);
-        let mark = self.look_at(pass);
-        let back = self.table.shared.split_seat::<Returning>(pass.seat());
-        self.table.shared.join_seat::<Joining>(other.seat(), back);
-        mark
-    }
+    ghost spent = { spent };
+}
 
-    /// The other's parts come behind the first, and what it had seen and done is known.
-    pub(crate) fn take_in<P: Pass>(&self, pass: &mut P, other: Seat<u8, View>) -> u64
-        requires own { IsSeatOf (board_id self.now) (P.seat_of pass.old) ×
-            IsSeatOf (board_id self.now) other }
-        ensures backed { IsBacked (sizes_of self.now) result (view (P.seat_of pass.new)) }
-        ensures pass { view (P.seat_of pass.new) ≡ merged (view (P.seat_of pass.old)) (view other) }
-        ensures own { IsSeatOf (board_id self.now) (P.seat_of pass.new) ×
-            (P.rest_of pass.new ≡ P.rest_of pass.old) }
-    {
-        self.table.shared.join_seat::<Merging>(pass.seat(), other);
-        self.look_at(pass)
-    }
+/// What the other did stays known.
+pub(crate) struct Merging;
+
+impl Join<View> for Merging {
+    ghost both = { merged };
+
+    ghost spent = { spent };
+}
+
+/// All parts leave.
+pub(crate) struct Giving;
+
+impl Split<View> for Giving {
+    ghost left = { left_bare };
+
+    ghost right = { right_given };
+}
+
+/// The part behind the first leaves.
+pub(crate) struct Returning;
+
+impl Split<View> for Returning {
+    ghost left = { left_but_second };
+
+    ghost right = { right_second };
+}
+
+/// The first part leaves.
+pub(crate) struct Dealing;
+
+impl Split<View> for Dealing {
+    ghost left = { left_tail };
+
+    ghost right = { right_first };
+}
+
+/// A bucket's part comes behind the first, and a collector's visit begins.
+pub(crate) struct Arriving;
+
+impl Join<View> for Arriving {
+    ghost both = { with_bucket };
+
+    ghost spent = { spent };
+}
+
+/// The bucket's part leaves, and a collector's visit is over.
+pub(crate) struct Departing;
+
+impl Split<View> for Departing {
+    ghost left = { without_bucket };
+
+    ghost right = { bucket_alone };
+}
+
+/// The committer's part leaves.
+pub(crate) struct Resigning;
+
+impl Split<View> for Resigning {
+    ghost left = { without_commit };
+
+    ghost right = { commit_alone };
+}
+
+/// What was handed over comes behind all else.
+pub(crate) struct Receiving;
+
+impl Join<View> for Receiving {
+    ghost both = { received };
+
+    ghost spent = { spent };
+}
+
+/// The part behind the first is handed back.
+pub(crate) struct HandingBack;
+
+impl Split<View> for HandingBack {
+    ghost left = { hands_back };
+
+    ghost right = { right_second };
+}
+
+/// What was split off comes behind the first. What it did is the pass's own.
+pub(crate) struct Rejoining;
+
+impl Join<View> for Rejoining {
+    ghost both = { rejoined };
+
+    ghost spent = { spent };
 }

@@ -1,7 +1,15 @@
-//! Seats at the board, each with its part of the state.
+//! The seats at the board, each with its part of the state; the trait of all of them; and the lists in which a new board returns them.
+
+ghost use Rattle.std.specs.Prelude.{◌≡◌, ℕ};
+ghost use Rattle.std.specs.Borrow.{sem};
+ghost use Rattle.atomic_table.specs.declared.shared.Seat.{Seat};
+ghost use Rattle.hg_rule.specs.declared.view.View.{View};
+ghost use Rattle.hg_rule.specs.Lending.{LendsSeat};
+ghost use Rattle.hg_rule.specs.Seats.{session_seat, with_session_seat, session_rest, pass_seat, with_pass_seat, bucket_seat, with_bucket_seat, bucket_rest, commit_seat, with_commit_seat};
 
 use crate::view::View;
 use atomic_table::Seat;
+use std::marker::Model;
 
 /// A session's place at the board.
 #[derive(Drop)]
@@ -35,4 +43,159 @@ pub struct CommitSeat {
 pub struct TxSeat {
     pub(crate) number: u32,
     pub(crate) seat: Seat<u8, View>,
+}
+
+/// Who owns a seat lends it to the board's calls. What it says besides stays.
+pub trait Pass {
+    ghost seat_of: { Self → Seat ℕ View };
+
+    ghost with_seat: { Self → Seat ℕ View → Self };
+
+    /// What stands beside the seat.
+    ghost rest_of: { Self → ℕ × ℕ };
+
+    fn seat(&mut self) -> &mut Seat<u8, View>
+        ensures* lends { sem 𝓛 (LendsSeat Self.row self.entry result (with_seat self.old)) }
+        ensures now { result.now ≡ seat_of self.old };
+
+    ghost has_it: { (p : Self) (s : Seat ℕ View) → seat_of (with_seat p s) ≡ s };
+
+    ghost keeps_rest: { (p : Self) (s : Seat ℕ View) → rest_of (with_seat p s) ≡ rest_of p };
+}
+
+impl Pass for SessionPass {
+    ghost seat_of = { session_seat };
+
+    ghost with_seat = { with_session_seat };
+
+    ghost rest_of = { session_rest };
+
+    fn seat(&mut self) -> &mut Seat<u8, View> {
+        &mut self.seat
+    }
+
+    ghost has_it = { λ p s i. s };
+
+    ghost keeps_rest = { λ p s i. session_rest p };
+}
+
+impl Pass for CollectorPass {
+    ghost seat_of = { pass_seat };
+
+    ghost with_seat = { with_pass_seat };
+
+    ghost rest_of = { λ p. (0, 0) };
+
+    fn seat(&mut self) -> &mut Seat<u8, View> {
+        &mut self.seat
+    }
+
+    ghost has_it = { λ p s i. s };
+
+    ghost keeps_rest = { λ p s i. (0, 0) };
+}
+
+impl Pass for BucketSeat {
+    ghost seat_of = { bucket_seat };
+
+    ghost with_seat = { with_bucket_seat };
+
+    ghost rest_of = { bucket_rest };
+
+    fn seat(&mut self) -> &mut Seat<u8, View> {
+        &mut self.seat
+    }
+
+    ghost has_it = { λ p s i. s };
+
+    ghost keeps_rest = { λ p s i. bucket_rest p };
+}
+
+impl Pass for CommitSeat {
+    ghost seat_of = { commit_seat };
+
+    ghost with_seat = { with_commit_seat };
+
+    ghost rest_of = { λ p. (0, 0) };
+
+    fn seat(&mut self) -> &mut Seat<u8, View> {
+        &mut self.seat
+    }
+
+    ghost has_it = { λ p s i. s };
+
+    ghost keeps_rest = { λ p s i. (0, 0) };
+}
+
+/// Sessions' passes by ascending number.
+#[derive(Drop)]
+pub struct SessionPassList {
+    passes: Vec<SessionPass>,
+}
+
+impl Model for SessionPassList {
+    ghost use Rattle.std.specs.Prelude.{List};
+    ghost use Rattle.hg_rule.specs.declared.passes.SessionPass.{SessionPass};
+
+    ghost Value = { List SessionPass };
+
+    ghost view = { λ a. a.passes.items };
+}
+
+impl From<Vec<SessionPass>> for SessionPassList {
+    ghost from_gives = { λ passes list. list ≡ passes.items };
+
+    fn from(passes: Vec<SessionPass>) -> SessionPassList {
+        SessionPassList { passes }
+    }
+}
+
+impl SessionPassList {
+    pub fn into_vec(self) -> Vec<SessionPass>
+        ensures { result.items ≡ self }
+    {
+        self.passes
+    }
+}
+
+/// Buckets' seats by ascending number.
+#[derive(Drop)]
+pub struct BucketSeatList {
+    seats: Vec<BucketSeat>,
+}
+
+impl Model for BucketSeatList {
+    ghost use Rattle.std.specs.Prelude.{List};
+    ghost use Rattle.hg_rule.specs.declared.passes.BucketSeat.{BucketSeat};
+
+    ghost Value = { List BucketSeat };
+
+    ghost view = { λ a. a.seats.items };
+}
+
+impl From<Vec<BucketSeat>> for BucketSeatList {
+    ghost from_gives = { λ seats list. list ≡ seats.items };
+
+    fn from(seats: Vec<BucketSeat>) -> BucketSeatList {
+        BucketSeatList { seats }
+    }
+}
+
+impl BucketSeatList {
+    pub fn into_vec(self) -> Vec<BucketSeat>
+        ensures { result.items ≡ self }
+    {
+        self.seats
+    }
+}
+
+/// Each seat of a board, once.
+#[derive(Drop)]
+pub struct Seats {
+    pub sessions: SessionPassList,
+    pub buckets: BucketSeatList,
+    pub commit: CommitSeat,
+    pub group: CollectorPass,
+    pub table: CollectorPass,
+    pub interval: CollectorPass,
 }

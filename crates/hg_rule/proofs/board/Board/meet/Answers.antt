@@ -33,5 +33,6 @@ returns-clause-other g c =
     let t = view (g.P.Pass.seat_of (g.P.Pass.with_seat c.look_at-mark.new.pass c.split_seat-back.new.seat)) in
     let is : u ≡ joined v w = search rules in
     let done : t ≡ left_but_second u = search rules in
-    let end : view (g.Q.Pass.seat_of (g.Q.Pass.with_seat (g.Q.Pass.with_seat c.args.other.now c.split_seat-gift.new.seat) c.join_seat-2.new.seat)) ≡ joined (left_bare w) (right_second u) = search rules in
+    let end : view (g.Q.Pass.seat_of (g.Q.Pass.with_seat (g.Q.Pass.with_seat c.args.other.now c.split_seat-gift.new.seat) c.join_seat-2.new.seat)) ≡ joined (left_bare w)
+    (right_second u) = search rules in
     end ∙ back_right v w u t c.requires.parts.0 c.requires.parts.1 is (done ∙ back_left v w u c.requires.parts.0 c.requires.parts.1 is)

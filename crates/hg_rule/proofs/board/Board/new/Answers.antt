@@ -39,8 +39,10 @@ left_two c =
     let h : (view c.deal-2.new.maker).events ≡ (view c.deal.new.maker).events = search rules in
     (f ∙ (ap (drop c.args.buckets) (e ∙ run_past session_part 1 c.args.sessions b) ∙ run_past bucket_part 0 c.args.buckets passes_left), h ∙ g)
 
-dealt_three : (c : goal.After-drop-words-2) → ((view c.deal_pass-group.new.maker).parts ≡ drop 1 passes_left) × ((view c.deal_pass-table.new.maker).parts ≡ drop 1 (drop 1 passes_left)) × (view c.deal_pass-interval.new.maker ≡ seeing (new_part commit_key ∷ []) [] [])
-dealt_three c = passes_dealt (view c.deal-2.new.maker) (view c.deal_pass-group.new.maker) (view c.deal_pass-table.new.maker) (view c.deal_pass-interval.new.maker) (left_two c).0 (left_two c).1 c.deal_pass-group.ensures.left.1 c.deal_pass-table.ensures.left.1 c.deal_pass-interval.ensures.left.1
+dealt_three : (c : goal.After-drop-words-2) → ((view c.deal_pass-group.new.maker).parts ≡ drop 1 passes_left) ×
+    ((view c.deal_pass-table.new.maker).parts ≡ drop 1 (drop 1 passes_left)) × (view c.deal_pass-interval.new.maker ≡ seeing (new_part commit_key ∷ []) [] [])
+dealt_three c = passes_dealt (view c.deal-2.new.maker) (view c.deal_pass-group.new.maker) (view c.deal_pass-table.new.maker) (view c.deal_pass-interval.new.maker) (left_two c).0
+    (left_two c).1 c.deal_pass-group.ensures.left.1 c.deal_pass-table.ensures.left.1 c.deal_pass-interval.ensures.left.1
 
 pub returns-clause-sessions : goal.returns-clause-sessions
 returns-clause-sessions c =

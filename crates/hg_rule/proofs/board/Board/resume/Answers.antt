@@ -14,17 +14,20 @@ join_seat-requires c = (search rules, search rules, search rules, search rules, 
 
 pub load-requires : goal.load-requires
 load-requires c =
-    let a = awaits (session_view c.args.pass.now) (tx_view c.args.seat) (view c.join_seat.new.seat) c.args.seat.number c.requires.own.3 c.requires.tx.0.1 (c.requires.tx.1 ∙ sym c.requires.own.1.0) (search rules) in
+    let a = awaits (session_view c.args.pass.now) (tx_view c.args.seat) (view c.join_seat.new.seat) c.args.seat.number c.requires.own.3 c.requires.tx.0.1 (c.requires.tx.1 ∙
+    sym c.requires.own.1.0) (search rules) in
     (search rules, search rules, may_retake _ _ _ _ a.has a.next)
 
 pub returns-clause-step : goal.returns-clause-step
 returns-clause-step c =
-    let a = awaits (session_view c.args.pass.now) (tx_view c.args.seat) (view c.join_seat.new.seat) c.args.seat.number c.requires.own.3 c.requires.tx.0.1 (c.requires.tx.1 ∙ sym c.requires.own.1.0) (search rules) in
+    let a = awaits (session_view c.args.pass.now) (tx_view c.args.seat) (view c.join_seat.new.seat) c.args.seat.number c.requires.own.3 c.requires.tx.0.1 (c.requires.tx.1 ∙
+    sym c.requires.own.1.0) (search rules) in
     (resumed (session_view c.args.pass.now) (tx_view c.args.seat) (view c.join_seat.new.seat) (view c.load.new.seat) a (search rules)).0
 
 pub returns-clause-back : goal.returns-clause-back
 returns-clause-back c =
-    let a = awaits (session_view c.args.pass.now) (tx_view c.args.seat) (view c.join_seat.new.seat) c.args.seat.number c.requires.own.3 c.requires.tx.0.1 (c.requires.tx.1 ∙ sym c.requires.own.1.0) (search rules) in
+    let a = awaits (session_view c.args.pass.now) (tx_view c.args.seat) (view c.join_seat.new.seat) c.args.seat.number c.requires.own.3 c.requires.tx.0.1 (c.requires.tx.1 ∙
+    sym c.requires.own.1.0) (search rules) in
     (resumed (session_view c.args.pass.now) (tx_view c.args.seat) (view c.join_seat.new.seat) (view c.load.new.seat) a (search rules)).1
 
 pub returns-clause-own : goal.returns-clause-own

@@ -6,7 +6,12 @@ use Rattle.hg_rule.proofs.Playing.{samples}
 use Rattle.hg_rule.proofs.board.Board.sample.Goals as goal
 
 pub load-word-requires : goal.load-word-requires
-load-word-requires c = (search rules, omega (arith, c.requires.session.last, c.args.self.now.words, c.register_at.ensures), samples _ _ _ _ _ _ c.args.self.now.room c.requires.own.1 c.requires.session c.requires.fresh c.register_at.ensures)
+load-word-requires c = (
+  search rules,
+  omega (arith, c.requires.session.last, c.args.self.now.words, c.register_at.ensures),
+  samples _ _ _ _ _ _ c.args.self.now.room
+      c.requires.own.1 c.requires.session c.requires.fresh c.register_at.ensures,
+)
 
 loaded : (c : goal.After-from_word) → Samples (pass_view c.args.pass.now) c.args.j c.from_word.result c.load-word.new.seat.me.0
 loaded c = subst (λ register. Samples (pass_view c.args.pass.now) c.args.j register c.load-word.new.seat.me.0) (sym c.from_word.ensures) (c.load-word.ensures.2.0 c.args.j c.register_at.ensures)

@@ -1,7 +1,7 @@
 use Rattle.std.proofs.Common.{subst}
 use Rattle.hg_core.specs.Invariant.{IsSteady}
 use Rattle.hg_rule.proofs.Found.{reads}
-use Rattle.hg_rule.proofs.meets.state_is_read.Goals as goal
+use Rattle.hg_rule.proofs.board.state_is_read.Goals as goal
 
 pub returns-clause-state : goal.returns-clause-state
 returns-clause-state c z t room r = reads z t room r
