@@ -1,5 +1,6 @@
 -- Steps, one after another.
-use Rattle.std.proofs.Common.{◌≡◌, ℕ, zero, suc, ◌<◌, ◌≤◌, List, [], ◌∷◌, ◌++◌, length, map, drop, get_or, None, Some, Bool, true, false, ◌==◌, if◌then◌else◌, refl, sym, ap, ◌∙◌, subst, arith, append_assoc, append-nil, length-append, inl}
+use Rattle.std.proofs.Common.{◌≡◌, ℕ, zero, suc, ◌<◌, ◌≤◌, List, [], ◌∷◌, ◌++◌, length, map, drop, get_or, None, Some, Bool, true, false, ◌==◌, if◌then◌else◌, refl, sym, ap, ◌∙◌, subst}
+use Rattle.std.proofs.Common.{arith, append_assoc, append-nil, length-append, inl}
 use Rattle.std.specs.Prelude.{IsSome, IsTrue, IfSome}
 use native.Mathlib.Decide.{dec_le}
 use Rattle.std.proofs.lemmas.Bool.Decides.{nat_tests}
@@ -59,8 +60,18 @@ begins_all v v0 v1 v2 v3 w f m scope de p en fi li = subst (λ (v0 : View). Prob
 -- ---- a gather
 
 pub loads_none : (v w : View) (m : ℕ) → Marks v m w → HasLoaded v m 0 (pass w).loaded w × ((pass w).loaded ≡ [])
-loads_none v w m is = subst (λ (w : View). HasLoaded v m 0 (pass w).loaded w × ((pass w).loaded ≡ [])) (sym is.1.1)
-    (record { parts = refl; keys = refl; registers = tt; most = most v m is.0 is.1.0; saw = (is.0, is.1.0.is_length, among_later _ v.sights (Saw (groups is.0) ∷ []) (inl refl)); kept = (_, refl); events = sym (append-nil _) }, refl)
+loads_none v w m is = subst (λ (w : View). HasLoaded v m 0 (pass w).loaded w × ((pass w).loaded ≡ [])) (sym is.1.1) (
+  record {
+    parts = refl;
+    keys = refl;
+    registers = tt;
+    most = most v m is.0 is.1.0;
+    saw = (is.0, is.1.0.is_length, among_later _ v.sights (Saw (groups is.0) ∷ []) (inl refl));
+    kept = (_, refl);
+    events = sym (append-nil _);
+  },
+  refl,
+)
 
 -- a session more
 pub loads_one : (v w w' : View) (m n : ℕ) (loaded : List (ℕ × Loaded)) (r : Loaded) → HasLoaded v m n loaded w → Loads w (suc n) r w' → IsFull r → HasLoaded v m (suc n) ((suc n, r) ∷ loaded) w'

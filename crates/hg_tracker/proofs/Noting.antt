@@ -1,5 +1,6 @@
 -- What a gather's lists have of a record.
-use Rattle.std.proofs.Common.{◌≡◌, ◌⊎◌, inl, inr, ℕ, zero, suc, ◌+◌, ◌<◌, ◌≤◌, Bool, true, false, true≢false, Option, Some, None, List, [], ◌∷◌, ◌++◌, length, map, filter, get_or, min, ◌==◌, if◌then◌else◌, not, ◌||◌, refl, sym, ap, ◌∙◌, subst, arith, length-append, append-nil, Vec}
+use Rattle.std.proofs.Common.{◌≡◌, ◌⊎◌, inl, inr, ℕ, zero, suc, ◌+◌, ◌<◌, ◌≤◌, Bool, true, false, true≢false, Option, Some, None, List, [], ◌∷◌, ◌++◌, length, map, filter, get_or, min, ◌==◌}
+use Rattle.std.proofs.Common.{if◌then◌else◌, not, ◌||◌, refl, sym, ap, ◌∙◌, subst, arith, length-append, append-nil, Vec}
 use Rattle.std.specs.declared.alloc.Global.{Global}
 use Rattle.std.specs.Prelude.{IsPermutation, is_some, ⊤}
 use Rattle.std.specs.List.{sum_by}
@@ -29,7 +30,8 @@ use Rattle.hg_tracker.specs.Gathers.{IsFull, AreEmpty, AreListsOf, IsGatherOf}
 
 -- ---- lengths
 
-picked_most : (b : Bool) (e : Entry) (table : ℕ) (es : List Entry) → length (numbers_for table es) ≤ length es → length (map (λ (x : Entry). x.number) (if b then e ∷ filter (counts_for table) es else filter (counts_for table) es)) ≤ suc (length es)
+picked_most : (b : Bool) (e : Entry) (table : ℕ) (es : List Entry) → length (numbers_for table es) ≤ length es →
+    length (map (λ (x : Entry). x.number) (if b then e ∷ filter (counts_for table) es else filter (counts_for table) es)) ≤ suc (length es)
 picked_most true e table es h = omega arith
 picked_most false e table es h = omega arith
 
@@ -48,7 +50,8 @@ entries_most (e ∷ loaded) = omega (arith, entries_most loaded, live_most e.0 e
 
 -- ---- lists of tables
 
-pub lists_snoc : (t : ℕ) (common : List ℕ) (ranked : List Entry) (lists : List (Vec ℕ Global)) (list : Vec ℕ Global) → AreListsOf t common ranked lists → served common list.items ≡ numbers_for (t + length lists) ranked → AreListsOf t common ranked (lists ++ list ∷ [])
+pub lists_snoc : (t : ℕ) (common : List ℕ) (ranked : List Entry) (lists : List (Vec ℕ Global)) (list : Vec ℕ Global) → AreListsOf t common ranked lists →
+    served common list.items ≡ numbers_for (t + length lists) ranked → AreListsOf t common ranked (lists ++ list ∷ [])
 lists_snoc t common ranked [] list h e = (e ∙ ap (λ n. numbers_for n ranked) (plain t), tt)
   where
     plain : (n : ℕ) → n + 0 ≡ n
@@ -58,7 +61,8 @@ lists_snoc t common ranked (l ∷ lists) list h e = (h.0, lists_snoc (suc t) com
     shift : (a n : ℕ) → a + suc n ≡ suc a + n
     shift a n = omega arith
 
-pub list_at : (t : ℕ) (common : List ℕ) (ranked : List Entry) (lists : List (Vec ℕ Global)) (k : ℕ) (d : Vec ℕ Global) → k < length lists → AreListsOf t common ranked lists → served common (get_or lists k d).items ≡ numbers_for (t + k) ranked
+pub list_at : (t : ℕ) (common : List ℕ) (ranked : List Entry) (lists : List (Vec ℕ Global)) (k : ℕ) (d : Vec ℕ Global) → k < length lists → AreListsOf t common ranked lists →
+    served common (get_or lists k d).items ≡ numbers_for (t + k) ranked
 list_at t common ranked [] k d l h = absurd (omega arith)
 list_at t common ranked (x ∷ lists) zero d l h = h.0 ∙ ap (λ n. numbers_for n ranked) (plain t)
   where
@@ -75,7 +79,8 @@ pub common_most : (es : List Entry) → length (common_numbers es) ≤ length es
 common_most [] = omega arith
 common_most (e ∷ es) = go e.moved (common_most es)
   where
-    go : (m : Bool) → length (common_numbers es) ≤ length es → length (map (λ (x : Entry). x.number) (if not m then e ∷ filter (λ x. not x.moved) es else filter (λ x. not x.moved) es)) ≤ suc (length es)
+    go : (m : Bool) → length (common_numbers es) ≤ length es → length
+        (map (λ (x : Entry). x.number) (if not m then e ∷ filter (λ x. not x.moved) es else filter (λ x. not x.moved) es)) ≤ suc (length es)
     go true h = omega (arith, h)
     go false h = omega (arith, h)
 
@@ -104,7 +109,8 @@ none_own t (e ∷ es) h = go e.moved (counts_for t e) refl (unmoved_counts t e) 
     F : List Entry
     F = filter (counts_for t) es
 
-    go : (m c : Bool) → c ≡ counts_for t e → (m ≡ false → c ≡ true) → numbers_for t (if m then e ∷ moved_of es else moved_of es) ≡ [] → (numbers_for t (moved_of es) ≡ [] → U ≡ F) → (if not m then e ∷ U else U) ≡ (if c then e ∷ F else F)
+    go : (m c : Bool) → c ≡ counts_for t e → (m ≡ false → c ≡ true) → numbers_for t (if m then e ∷ moved_of es else moved_of es) ≡ [] → (numbers_for t (moved_of es) ≡ [] → U ≡ F) →
+        (if not m then e ∷ U else U) ≡ (if c then e ∷ F else F)
     go false true q k h f = ap (λ l. e ∷ l) (f h)
     go false false q k h f = absurd (let bad : false ≡ true = k refl in grind (arith, bad))
     go true c q k h f =
@@ -124,7 +130,8 @@ none_common t (e ∷ es) h = go e.moved (unmoved_counts t e) (none_common t es)
     d : (counts_for t e ≡ false) × (numbers_for t es ≡ [])
     d = left_out (counts_for t e) e (filter (counts_for t) es) h
 
-    go : (m : Bool) → (m ≡ false → counts_for t e ≡ true) → (numbers_for t es ≡ [] → common_numbers es ≡ []) → map (λ (x : Entry). x.number) (if not m then e ∷ filter (λ x. not x.moved) es else filter (λ x. not x.moved) es) ≡ []
+    go : (m : Bool) → (m ≡ false → counts_for t e ≡ true) → (numbers_for t es ≡ [] → common_numbers es ≡ []) →
+        map (λ (x : Entry). x.number) (if not m then e ∷ filter (λ x. not x.moved) es else filter (λ x. not x.moved) es) ≡ []
     go true k f = f d.1
     go false k f = absurd (let bad : false ≡ true = sym d.0 ∙ k refl in grind (arith, bad))
 
@@ -140,7 +147,10 @@ none_of t (e ∷ es) l = absurd (omega (arith, l))
 
 pub none_listed : (t : ℕ) (ranked : List Entry) (lists : List (Vec ℕ Global)) → length (moved_of ranked) ≡ 0 → AreEmpty lists → AreListsOf t (common_numbers ranked) ranked lists
 none_listed t ranked [] none h = tt
-none_listed t ranked (list ∷ lists) none h = (served_common t ranked list.items (same list.items h.0 (numbers_for t (moved_of ranked)) (none_of t (moved_of ranked) none)) h.0, none_listed (suc t) ranked lists none h.1)
+none_listed t ranked (list ∷ lists) none h = (
+  served_common t ranked list.items (same list.items h.0 (numbers_for t (moved_of ranked)) (none_of t (moved_of ranked) none)) h.0,
+  none_listed (suc t) ranked lists none h.1,
+)
   where
     same : (xs : List ℕ) → length xs ≡ 0 → (ys : List ℕ) → length ys ≡ 0 → xs ≡ ys
     same [] a [] b = refl
@@ -164,13 +174,15 @@ picked n true m ms w e = go (m == n)
     go true = omega (arith, e)
     go false = omega (arith, e)
 
-push_in : (b : Bool) (e : Entry) (es : List Entry) → map (λ (x : Entry). x.number) (if b then e ∷ es else es) ≡ (if b then e.number ∷ map (λ (x : Entry). x.number) es else map (λ (x : Entry). x.number) es)
+push_in : (b : Bool) (e : Entry) (es : List Entry) → map (λ (x : Entry). x.number) (if b then e ∷ es else es) ≡
+    (if b then e.number ∷ map (λ (x : Entry). x.number) es else map (λ (x : Entry). x.number) es)
 push_in true e es = refl
 push_in false e es = refl
 
 times_filter : (n : ℕ) (test : Entry → Bool) (es : List Entry) → times n (map (λ (x : Entry). x.number) (filter test es)) ≡ sum_by (weight n test) es
 times_filter n test [] = refl
-times_filter n test (e ∷ es) = ap (times n) (push_in (test e) e (filter test es)) ∙ (picked n (test e) e.number (map (λ (x : Entry). x.number) (filter test es)) (sum_by (weight n test) es) (times_filter n test es) ∙ sym (sum_by-cons (weight n test) e es))
+times_filter n test (e ∷ es) = ap (times n) (push_in (test e) e (filter test es)) ∙
+    (picked n (test e) e.number (map (λ (x : Entry). x.number) (filter test es)) (sum_by (weight n test) es) (times_filter n test es) ∙ sym (sum_by-cons (weight n test) e es))
 
 -- ---- what a record's registers count
 
@@ -181,7 +193,8 @@ Agrees test pick (Entering f) mask = ⊤
 Agrees test pick (Live number declared moved) mask = test moved mask ≡ pick (masked_scope mask) moved
 
 -- a moved entry has a mask
-has_is : (table : TableId) (register : Register) (mask : Option ℕ) → IsRegister register → is_some mask ≡ shows_declared register → Agrees (λ moved mask. not moved || mask_has table mask) (λ scope moved. not moved || has_number scope table.0) register mask
+has_is : (table : TableId) (register : Register) (mask : Option ℕ) → IsRegister register → is_some mask ≡ shows_declared register →
+    Agrees (λ moved mask. not moved || mask_has table mask) (λ scope moved. not moved || has_number scope table.0) register mask
 has_is table Idle mask h full = tt
 has_is table (Entering f) mask h full = tt
 has_is table (Live number declared false) mask h full = refl
@@ -189,9 +202,11 @@ has_is table (Live number declared true) None h full = absurd (true≢false (sym
 has_is table (Live number declared true) (Some mask) h full = refl
 
 sum_by-snoc : (f : Entry → ℕ) (es : List Entry) (e : Entry) → sum_by f (es ++ e ∷ []) ≡ sum_by f es + f e
-sum_by-snoc f es e = let a : ℕ = sum_by f es in let b : ℕ = sum_by f (e ∷ []) in let c : ℕ = f e in let h : b ≡ c + 0 = sum_by-cons f e [] in let k : sum_by f (es ++ e ∷ []) ≡ a + b = sum_by-append f es (e ∷ []) in k ∙ (let g : a + b ≡ a + c = omega arith in g)
+sum_by-snoc f es e = let a : ℕ = sum_by f es in let b : ℕ = sum_by f (e ∷ []) in let c : ℕ = f e in let h : b ≡ c + 0 = sum_by-cons f e [] in
+    let k : sum_by f (es ++ e ∷ []) ≡ a + b = sum_by-append f es (e ∷ []) in k ∙ (let g : a + b ≡ a + c = omega arith in g)
 
-recorded_weight : (n : ℕ) (test : Bool → Option ℕ → Bool) (pick : Scope → Bool → Bool) (loaded : List (ℕ × Loaded)) → Each (λ e. Agrees test pick e.1.register e.1.mask) loaded → times n (live_numbers test loaded) ≡ sum_by (weight n (λ e. pick e.scope e.moved)) (entries_of loaded)
+recorded_weight : (n : ℕ) (test : Bool → Option ℕ → Bool) (pick : Scope → Bool → Bool) (loaded : List (ℕ × Loaded)) → Each (λ e. Agrees test pick e.1.register e.1.mask) loaded →
+    times n (live_numbers test loaded) ≡ sum_by (weight n (λ e. pick e.scope e.moved)) (entries_of loaded)
 recorded_weight n test pick [] agree = refl
 recorded_weight n test pick (e ∷ loaded) agree = go e.0 e.1.register e.1.mask agree.0 (recorded_weight n test pick loaded agree.1)
   where
@@ -201,7 +216,8 @@ recorded_weight n test pick (e ∷ loaded) agree = go e.0 e.1.register e.1.mask 
     es : List Entry
     es = entries_of loaded
 
-    go : (j : ℕ) (register : Register) (mask : Option ℕ) → Agrees test pick register mask → times n (live_numbers test loaded) ≡ sum_by W es → times n (if_live test register mask (live_numbers test loaded)) ≡ sum_by W (es ++ live_entry j register mask)
+    go : (j : ℕ) (register : Register) (mask : Option ℕ) → Agrees test pick register mask → times n (live_numbers test loaded) ≡ sum_by W es →
+        times n (if_live test register mask (live_numbers test loaded)) ≡ sum_by W (es ++ live_entry j register mask)
     go j Idle mask agree h = h ∙ ap (sum_by W) (sym (append-nil es))
     go j (Entering f) mask agree h = h ∙ ap (sum_by W) (sym (append-nil es))
     go j (Live number declared moved) mask agree h =
@@ -212,11 +228,13 @@ recorded_weight n test pick (e ∷ loaded) agree = go e.0 e.1.register e.1.mask 
         turn : (a b : ℕ) → a + b ≡ b + a
         turn a b = omega arith
 
-pub recorded_times : (n : ℕ) (table : TableId) (loaded : List (ℕ × Loaded)) (ranked : List Entry) → Each (λ e. IsFull e.1) loaded → IsPermutation (entries_of loaded) ranked → times n (numbers_for table.0 ranked) ≡ times n (live_numbers (λ moved mask. not moved || mask_has table mask) loaded)
+pub recorded_times : (n : ℕ) (table : TableId) (loaded : List (ℕ × Loaded)) (ranked : List Entry) → Each (λ e. IsFull e.1) loaded → IsPermutation (entries_of loaded) ranked →
+    times n (numbers_for table.0 ranked) ≡ times n (live_numbers (λ moved mask. not moved || mask_has table mask) loaded)
 recorded_times n table loaded ranked full p =
     times_filter n (counts_for table.0) ranked
     ∙ (sum_by-IsPermutation (weight n (counts_for table.0)) (entries_of loaded) ranked p
-    ∙ sym (recorded_weight n (λ moved mask. not moved || mask_has table mask) (λ scope moved. not moved || has_number scope table.0) loaded (each_map _ _ (λ e h. has_is table e.1.register e.1.mask h.0 h.1) loaded full)))
+    ∙ sym (recorded_weight n (λ moved mask. not moved || mask_has table mask) (λ scope moved. not moved || has_number scope table.0) loaded
+    (each_map _ _ (λ e h. has_is table e.1.register e.1.mask h.0 h.1) loaded full)))
 
 every : (loaded : List (ℕ × Loaded)) → Each (λ e. Agrees (λ moved mask. true) (λ scope moved. true) e.1.register e.1.mask) loaded
 every [] = tt
@@ -231,8 +249,10 @@ times_numbers : (n : ℕ) (es : List Entry) → times n (map (λ (x : Entry). x.
 times_numbers n [] = refl
 times_numbers n (e ∷ es) = picked n true e.number (map (λ (x : Entry). x.number) es) (sum_by (weight n (λ x. true)) es) (times_numbers n es) ∙ sym (sum_by-cons (weight n (λ x. true)) e es)
 
-pub all_times : (n : ℕ) (loaded : List (ℕ × Loaded)) (ranked : List Entry) → IsPermutation (entries_of loaded) ranked → times n (map (λ (x : Entry). x.number) ranked) ≡ times n (live_numbers (λ moved mask. true) loaded)
-all_times n loaded ranked p = times_numbers n ranked ∙ (sum_by-IsPermutation (weight n (λ e. true)) (entries_of loaded) ranked p ∙ sym (recorded_weight n (λ moved mask. true) (λ scope moved. true) loaded (every loaded)))
+pub all_times : (n : ℕ) (loaded : List (ℕ × Loaded)) (ranked : List Entry) → IsPermutation (entries_of loaded) ranked →
+    times n (map (λ (x : Entry). x.number) ranked) ≡ times n (live_numbers (λ moved mask. true) loaded)
+all_times n loaded ranked p = times_numbers n ranked ∙ (sum_by-IsPermutation (weight n (λ e. true)) (entries_of loaded) ranked p ∙
+    sym (recorded_weight n (λ moved mask. true) (λ scope moved. true) loaded (every loaded)))
 
 -- ---- the least of a list
 
@@ -315,21 +335,28 @@ shuffled_of sessions part g h = subst (λ es. IsPermutation es g.ranked.items) h
 abbrev pub at_table : Gathered → ℕ → Vec ℕ Global → List ℕ
 at_table g t d = served g.common.items (get_or g.lists.items t d).items
 
-pub list_numbers : (sessions : ℕ) (part : PassPart) (g : Gathered) (t : TableId) (d : Vec ℕ Global) → IsGatherOf sessions part g → t.0 < length g.lists.items → (n : ℕ) → times n (at_table g t.0 d) ≡ times n (recorded t (record_of part))
-list_numbers sessions part g t d h l n = ap (times n) (list_at 0 g.common.items g.ranked.items g.lists.items t.0 d l h.lists ∙ ap (λ k. numbers_for k g.ranked.items) (none_less t.0)) ∙ recorded_times n t part.loaded g.ranked.items h.loaded.1 (shuffled_of sessions part g h)
+pub list_numbers : (sessions : ℕ) (part : PassPart) (g : Gathered) (t : TableId) (d : Vec ℕ Global) → IsGatherOf sessions part g → t.0 < length g.lists.items → (n : ℕ) →
+    times n (at_table g t.0 d) ≡ times n (recorded t (record_of part))
+list_numbers sessions part g t d h l n = ap (times n) (list_at 0 g.common.items g.ranked.items g.lists.items t.0 d l h.lists ∙
+    ap (λ k. numbers_for k g.ranked.items) (none_less t.0)) ∙ recorded_times n t part.loaded g.ranked.items h.loaded.1 (shuffled_of sessions part g h)
   where
     none_less : (n : ℕ) → 0 + n ≡ n
     none_less n = omega arith
 
 pub list_rises : (sessions : ℕ) (part : PassPart) (g : Gathered) (t : TableId) (d : Vec ℕ Global) → IsGatherOf sessions part g → t.0 < length g.lists.items → IsNonDecreasing (at_table g t.0 d)
-list_rises sessions part g t d h l = subst IsNonDecreasing (sym (list_at 0 g.common.items g.ranked.items g.lists.items t.0 d l h.lists)) (mapped_rises (filter (counts_for (0 + t.0)) g.ranked.items) (IsNonDecreasingBy-filter (λ (e : Entry). e.number) (counts_for (0 + t.0)) g.ranked.items h.rises))
+list_rises sessions part g t d h l = subst IsNonDecreasing (sym (list_at 0 g.common.items g.ranked.items g.lists.items t.0 d l h.lists))
+    (mapped_rises (filter (counts_for (0 + t.0)) g.ranked.items) (IsNonDecreasingBy-filter (λ (e : Entry). e.number) (counts_for (0 + t.0)) g.ranked.items h.rises))
 
-pub bound_is : (sessions : ℕ) (part : PassPart) (g : Gathered) (t : TableId) (d : Vec ℕ Global) → IsGatherOf sessions part g → t.0 < length g.lists.items → lowest g.horizon (at_table g t.0 d) ≡ table_bound t (record_of part)
+pub bound_is : (sessions : ℕ) (part : PassPart) (g : Gathered) (t : TableId) (d : Vec ℕ Global) → IsGatherOf sessions part g → t.0 < length g.lists.items →
+    lowest g.horizon (at_table g t.0 d) ≡ table_bound t (record_of part)
 bound_is sessions part g t d h l =
     let xs = at_table g t.0 d in
-    lowest_least g.horizon xs (list_rises sessions part g t d h l) ∙ (least_same g.horizon xs (recorded t (record_of part)) (list_numbers sessions part g t d h l) ∙ ap (λ n. least n (recorded t (record_of part))) h.noted.1)
+    lowest_least g.horizon xs (list_rises sessions part g t d h l) ∙ (least_same g.horizon xs (recorded t (record_of part)) (list_numbers sessions part g t d h l) ∙
+    ap (λ n. least n (recorded t (record_of part))) h.noted.1)
 
 pub least_is_bound : (sessions : ℕ) (part : PassPart) (g : Gathered) → IsGatherOf sessions part g → lowest g.horizon (map (λ (e : Entry). e.number) g.ranked.items) ≡ group_bound (record_of part)
 least_is_bound sessions part g h =
     let xs = map (λ (e : Entry). e.number) g.ranked.items in
-    lowest_least g.horizon xs (mapped_rises g.ranked.items h.rises) ∙ (least_same g.horizon xs (all_recorded (record_of part)) (λ n. all_times n part.loaded g.ranked.items (shuffled_of sessions part g h)) ∙ ap (λ n. least n (all_recorded (record_of part))) h.noted.1)
+    lowest_least g.horizon xs (mapped_rises g.ranked.items h.rises) ∙
+    (least_same g.horizon xs (all_recorded (record_of part)) (λ n. all_times n part.loaded g.ranked.items (shuffled_of sessions part g h)) ∙
+    ap (λ n. least n (all_recorded (record_of part))) h.noted.1)

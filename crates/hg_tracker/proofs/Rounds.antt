@@ -26,19 +26,23 @@ no_marks p [] = tt
 no_marks p (e ∷ loaded) = each_append (samples_of p loaded) (sample_of p e.0 e.1) (no_marks p loaded) (tt, mask_no_mark p e.0 e.1.mask)
 
 -- a mask joins the register that was loaded last
-pub mask_joins : (j mask : ℕ) (register : Register) (loaded : List (ℕ × Loaded)) → masked_in j mask ((j, record { register = register; mask = None }) ∷ loaded) ≡ (j, record { register = register; mask = Some mask }) ∷ loaded
-mask_joins j mask register loaded = ap (λ (b : Bool). if b then (j, record { register = register; mask = Some mask }) ∷ loaded else (j, record { register = register; mask = None }) ∷ masked_in j mask loaded) here
+pub mask_joins : (j mask : ℕ) (register : Register) (loaded : List (ℕ × Loaded)) →
+    masked_in j mask ((j, record { register = register; mask = None }) ∷ loaded) ≡ (j, record { register = register; mask = Some mask }) ∷ loaded
+mask_joins j mask register loaded = ap (λ (b : Bool). if b then (j, record { register = register; mask = Some mask }) ∷ loaded else
+    (j, record { register = register; mask = None }) ∷ masked_in j mask loaded) here
   where
     here : (j == j) ≡ true
     here = grind (arith, nat_tests)
 
-sample_loaded : (p j : ℕ) (register : Register) (mask : Option ℕ) (loaded : List (ℕ × Loaded)) → loaded_after loaded (sample_of p j (record { register = register; mask = mask })) ≡ (j, record { register = register; mask = mask }) ∷ loaded
+sample_loaded : (p j : ℕ) (register : Register) (mask : Option ℕ) (loaded : List (ℕ × Loaded)) → loaded_after loaded (sample_of p j (record { register = register; mask = mask })) ≡
+    (j, record { register = register; mask = mask }) ∷ loaded
 sample_loaded p j register None loaded = refl
 sample_loaded p j register (Some mask) loaded = mask_joins j mask register loaded
 
 samples_loaded : (p : ℕ) (loaded : List (ℕ × Loaded)) → loaded_after [] (samples_of p loaded) ≡ loaded
 samples_loaded p [] = refl
-samples_loaded p (e ∷ loaded) = loaded_append [] (samples_of p loaded) (sample_of p e.0 e.1) ∙ (ap (λ l. loaded_after l (sample_of p e.0 e.1)) (samples_loaded p loaded) ∙ sample_loaded p e.0 e.1.register e.1.mask loaded)
+samples_loaded p (e ∷ loaded) = loaded_append [] (samples_of p loaded) (sample_of p e.0 e.1) ∙
+    (ap (λ l. loaded_after l (sample_of p e.0 e.1)) (samples_loaded p loaded) ∙ sample_loaded p e.0 e.1.register e.1.mask loaded)
 
 sample_removes : (p j : ℕ) (register : Register) (mask : Option ℕ) → gone_in (sample_of p j (record { register = register; mask = mask })) ≡ 0
 sample_removes p j register None = refl

@@ -1,5 +1,6 @@
 -- A try to move an entry, in the record and in what was gathered.
-use Rattle.std.proofs.Common.{◌≡◌, ◌⊎◌, inl, inr, ℕ, zero, suc, ◌+◌, ◌<◌, ◌≤◌, List, [], ◌∷◌, ◌++◌, length, map, filter, take, drop, get_or, set, Option, Some, None, Bool, true, false, ◌==◌, if◌then◌else◌, refl, sym, ap, ◌∙◌, subst, arith, append_assoc, append-nil, length-append}
+use Rattle.std.proofs.Common.{◌≡◌, ◌⊎◌, inl, inr, ℕ, zero, suc, ◌+◌, ◌<◌, ◌≤◌, List, [], ◌∷◌, ◌++◌, length, map, filter, take, drop, get_or, set, Option, Some, None, Bool, true, false, ◌==◌}
+use Rattle.std.proofs.Common.{if◌then◌else◌, refl, sym, ap, ◌∙◌, subst, arith, append_assoc, append-nil, length-append}
 use native.Mathlib.Decide.{dec_le}
 use Rattle.std.proofs.lemmas.Bool.Decides.{nat_tests}
 use Rattle.std.proofs.lemmas.List.{set-append_left, get_or_append_left}
@@ -56,27 +57,39 @@ pub record IsEntryOf (loaded : List (ℕ × Loaded)) (e : Entry) (declared : Boo
   pub there : found e.session loaded ≡ Some (record { register = Live e.number declared e.moved; mask = mask })
   pub tables : e.scope ≡ masked_scope mask
 
-pub entry_found : (n : ℕ) (loaded : List (ℕ × Loaded)) (i : ℕ) (e : Entry) → map (λ e. e.0) loaded ≡ down_from n → StandsAt i e (entries_of loaded) → (declared : Bool) × (mask : Option ℕ) × IsEntryOf loaded e declared mask
+pub entry_found : (n : ℕ) (loaded : List (ℕ × Loaded)) (i : ℕ) (e : Entry) → map (λ e. e.0) loaded ≡ down_from n → StandsAt i e (entries_of loaded) → (declared : Bool) ×
+    (mask : Option ℕ) × IsEntryOf loaded e declared mask
 entry_found n [] i e keys at = absurd (let l = at.0 in omega arith)
 entry_found zero (x ∷ loaded) i e keys at = absurd (let m : suc (length (map (λ e. e.0) loaded)) ≡ 0 = ap length keys in omega arith)
 entry_found (suc n) (x ∷ loaded) i e keys at = go x.1.register refl at (λ a. entry_found n loaded i e (first_key x loaded n keys).1 a)
   where
     later : (declared : Bool) × (mask : Option ℕ) × IsEntryOf loaded e declared mask → (declared : Bool) × (mask : Option ℕ) × IsEntryOf (x ∷ loaded) e declared mask
-    later (declared, mask, h) = (declared, mask, record { there = ap (λ b. if b then Some x.1 else found e.session loaded) (other_found n x loaded e.session _ keys h.there) ∙ h.there; tables = h.tables })
+    later (declared, mask, h) = (
+      declared,
+      mask,
+      record {
+        there = ap (λ b. if b then Some x.1 else found e.session loaded) (other_found n x loaded e.session _ keys h.there) ∙
+            h.there;
+        tables = h.tables;
+      },
+    )
 
-    go : (r : Register) → x.1.register ≡ r → StandsAt i e (entries_of loaded ++ live_entry x.0 r x.1.mask) → (StandsAt i e (entries_of loaded) → (declared : Bool) × (mask : Option ℕ) × IsEntryOf loaded e declared mask) → (declared : Bool) × (mask : Option ℕ) × IsEntryOf (x ∷ loaded) e declared mask
+    go : (r : Register) → x.1.register ≡ r → StandsAt i e (entries_of loaded ++ live_entry x.0 r x.1.mask) →
+        (StandsAt i e (entries_of loaded) → (declared : Bool) × (mask : Option ℕ) × IsEntryOf loaded e declared mask) → (declared : Bool) × (mask : Option ℕ) × IsEntryOf (x ∷ loaded) e declared mask
     go Idle q at ih = later (ih (subst (StandsAt i e) (append-nil (entries_of loaded)) at))
     go (Entering f) q at ih = later (ih (subst (StandsAt i e) (append-nil (entries_of loaded)) at))
     go (Live number declared was) q at ih = pick (split_at (entries_of loaded) (record { session = x.0; number = number; scope = masked_scope x.1.mask; moved = was }) e i at)
       where
-        pick : StandsAt i e (entries_of loaded) ⊎ ((i ≡ length (entries_of loaded)) × (record { session = x.0; number = number; scope = masked_scope x.1.mask; moved = was } ≡ e)) → (declared : Bool) × (mask : Option ℕ) × IsEntryOf (x ∷ loaded) e declared mask
+        pick : StandsAt i e (entries_of loaded) ⊎ ((i ≡ length (entries_of loaded)) × (record { session = x.0; number = number; scope = masked_scope x.1.mask; moved = was } ≡ e)) →
+            (declared : Bool) × (mask : Option ℕ) × IsEntryOf (x ∷ loaded) e declared mask
         pick (inl a) = later (ih a)
         pick (inr a) =
             let same : (e.session == x.0) ≡ true = (let k : x.0 ≡ e.session = ap (λ (y : Entry). y.session) a.1 in grind (arith, nat_tests)) in (
               declared,
               x.1.mask,
               record {
-                there = ap (λ b. if b then Some x.1 else found e.session loaded) same ∙ (ap (λ r. Some (record { register = r; mask = x.1.mask })) q ∙ ap (λ (y : Entry). Some (record { register = Live y.number declared y.moved; mask = x.1.mask })) a.1);
+                there = ap (λ b. if b then Some x.1 else found e.session loaded) same ∙
+                    (ap (λ r. Some (record { register = r; mask = x.1.mask })) q ∙ ap (λ (y : Entry). Some (record { register = Live y.number declared y.moved; mask = x.1.mask })) a.1);
                 tables = sym (ap (λ (y : Entry). y.scope) a.1);
               },
             )
@@ -87,7 +100,8 @@ pub horizon_moved : (mark j : ℕ) (loaded : List (ℕ × Loaded)) → least_ent
 horizon_moved mark j [] = refl
 horizon_moved mark j (x ∷ loaded) = go (j == x.0) x.1.register (horizon_moved mark j loaded)
   where
-    go : (b : Bool) (r : Register) → least_entering mark (moved_in j loaded) ≡ least_entering mark loaded → least_entering mark (if b then (x.0, record x.1 { register = moved r }) ∷ loaded else (x.0, record x.1 { register = r }) ∷ moved_in j loaded) ≡ lower (least_entering mark loaded) r
+    go : (b : Bool) (r : Register) → least_entering mark (moved_in j loaded) ≡ least_entering mark loaded →
+        least_entering mark (if b then (x.0, record x.1 { register = moved r }) ∷ loaded else (x.0, record x.1 { register = r }) ∷ moved_in j loaded) ≡ lower (least_entering mark loaded) r
     go true Idle h = refl
     go true (Entering f) h = refl
     go true (Live n declared was) h = refl
@@ -97,7 +111,8 @@ pub keys_moved : (j : ℕ) (loaded : List (ℕ × Loaded)) → map (λ e. e.0) (
 keys_moved j [] = refl
 keys_moved j (x ∷ loaded) = go (j == x.0) (keys_moved j loaded)
   where
-    go : (b : Bool) → map (λ e. e.0) (moved_in j loaded) ≡ map (λ e. e.0) loaded → map (λ e. e.0) (if b then (x.0, record x.1 { register = moved x.1.register }) ∷ loaded else x ∷ moved_in j loaded) ≡ x.0 ∷ map (λ e. e.0) loaded
+    go : (b : Bool) → map (λ e. e.0) (moved_in j loaded) ≡ map (λ e. e.0) loaded →
+        map (λ e. e.0) (if b then (x.0, record x.1 { register = moved x.1.register }) ∷ loaded else x ∷ moved_in j loaded) ≡ x.0 ∷ map (λ e. e.0) loaded
     go true h = refl
     go false h = ap (λ ks. x.0 ∷ ks) h
 
@@ -120,7 +135,8 @@ pub registers_moved : (j : ℕ) (loaded : List (ℕ × Loaded)) → IsLiveDeclar
 registers_moved j [] d h = tt
 registers_moved j (x ∷ loaded) d h = go (j == x.0) d (λ d. registers_moved j loaded d h.1)
   where
-    go : (b : Bool) → IsLiveDeclared (if b then Some x.1 else found j loaded) → (IsLiveDeclared (found j loaded) → Each (λ e. IsFull e.1) (moved_in j loaded)) → Each (λ e. IsFull e.1) (if b then (x.0, record x.1 { register = moved x.1.register }) ∷ loaded else x ∷ moved_in j loaded)
+    go : (b : Bool) → IsLiveDeclared (if b then Some x.1 else found j loaded) → (IsLiveDeclared (found j loaded) → Each (λ e. IsFull e.1) (moved_in j loaded)) →
+        Each (λ e. IsFull e.1) (if b then (x.0, record x.1 { register = moved x.1.register }) ∷ loaded else x ∷ moved_in j loaded)
     go true d k = ((word_moved x.1.register d h.0.0, h.0.1 ∙ sym (shows_moved x.1.register)), h.1)
     go false d k = (h.0, k d)
 
@@ -141,7 +157,8 @@ found_session (suc n) k r (x ∷ loaded) keys f = go (k == x.0) refl f (λ g. fo
     go true q f ih = let same : k ≡ x.0 = grind (arith, nat_tests) in let key = (first_key x loaded n keys).0 in record { first = omega arith; last = omega arith }
     go false q f ih = let h = ih f in record { first = h.first; last = omega (arith, h.last) }
 
-pub entries_moved : (n : ℕ) (loaded : List (ℕ × Loaded)) (i : ℕ) (e : Entry) → map (λ e. e.0) loaded ≡ down_from n → StandsAt i e (entries_of loaded) → entries_of (moved_in e.session loaded) ≡ set (entries_of loaded) i (record e { moved = true })
+pub entries_moved : (n : ℕ) (loaded : List (ℕ × Loaded)) (i : ℕ) (e : Entry) → map (λ e. e.0) loaded ≡ down_from n → StandsAt i e (entries_of loaded) →
+    entries_of (moved_in e.session loaded) ≡ set (entries_of loaded) i (record e { moved = true })
 entries_moved n [] i e keys at = absurd (let l = at.0 in omega arith)
 entries_moved zero (x ∷ loaded) i e keys at = absurd (let m : suc (length (map (λ e. e.0) loaded)) ≡ 0 = ap length keys in omega arith)
 entries_moved (suc n) (x ∷ loaded) i e keys at = go x.1.register refl at (λ a. entries_moved n loaded i e (first_key x loaded n keys).1 a)
@@ -156,9 +173,11 @@ entries_moved (suc n) (x ∷ loaded) i e keys at = go x.1.register refl at (λ a
     later : StandsAt i e es → (entries_of (moved_in e.session loaded) ≡ set es i e') → entries_of (moved_in e.session (x ∷ loaded)) ≡ set (es ++ live_entry x.0 x.1.register x.1.mask) i e'
     later a ih =
         let apart : (e.session == x.0) ≡ false = other_found n x loaded e.session _ keys (entry_found n loaded i e (first_key x loaded n keys).1 a).2.there in
-        ap (λ b. entries_of (if b then (x.0, record x.1 { register = moved x.1.register }) ∷ loaded else x ∷ moved_in e.session loaded)) apart ∙ (ap (λ l. l ++ live_entry x.0 x.1.register x.1.mask) ih ∙ sym (set-append_left es (live_entry x.0 x.1.register x.1.mask) i e' a.0))
+        ap (λ b. entries_of (if b then (x.0, record x.1 { register = moved x.1.register }) ∷ loaded else x ∷ moved_in e.session loaded)) apart ∙
+        (ap (λ l. l ++ live_entry x.0 x.1.register x.1.mask) ih ∙ sym (set-append_left es (live_entry x.0 x.1.register x.1.mask) i e' a.0))
 
-    go : (r : Register) → x.1.register ≡ r → StandsAt i e (es ++ live_entry x.0 r x.1.mask) → (StandsAt i e es → entries_of (moved_in e.session loaded) ≡ set es i e') → entries_of (moved_in e.session (x ∷ loaded)) ≡ set (es ++ live_entry x.0 x.1.register x.1.mask) i e'
+    go : (r : Register) → x.1.register ≡ r → StandsAt i e (es ++ live_entry x.0 r x.1.mask) → (StandsAt i e es → entries_of (moved_in e.session loaded) ≡ set es i e') →
+        entries_of (moved_in e.session (x ∷ loaded)) ≡ set (es ++ live_entry x.0 x.1.register x.1.mask) i e'
     go Idle q at ih = let a = subst (StandsAt i e) (append-nil es) at in later a (ih a)
     go (Entering f) q at ih = let a = subst (StandsAt i e) (append-nil es) at in later a (ih a)
     go (Live number declared was) q at ih = pick (split_at es (record { session = x.0; number = number; scope = masked_scope x.1.mask; moved = was }) e i at)
@@ -180,7 +199,8 @@ declared_scope : (mask : Option ℕ) → is_declared (masked_scope mask) ≡ is_
 declared_scope None = refl
 declared_scope (Some mask) = refl
 
-pub movable_found : (n : ℕ) (loaded : List (ℕ × Loaded)) (i : ℕ) (e : Entry) → IsLoaded n loaded → StandsAt i e (entries_of loaded) → IsTrue (is_declared e.scope) → e.moved ≡ false → (mask : Option ℕ) × (found e.session loaded ≡ Some (record { register = Live e.number true false; mask = mask }))
+pub movable_found : (n : ℕ) (loaded : List (ℕ × Loaded)) (i : ℕ) (e : Entry) → IsLoaded n loaded → StandsAt i e (entries_of loaded) → IsTrue (is_declared e.scope) →
+    e.moved ≡ false → (mask : Option ℕ) × (found e.session loaded ≡ Some (record { register = Live e.number true false; mask = mask }))
 movable_found n loaded i e h at d unmoved =
     let at_one = entry_found n loaded i e h.0 at in
     let one = at_one.2 in
@@ -193,7 +213,8 @@ movable_found n loaded i e h at d unmoved =
 pub moved_pass : (v w : View) (j n : ℕ) → Moves v j n true w → ((pass w).loaded ≡ moved_in j (pass v).loaded) × ((pass w).mark ≡ (pass v).mark)
 moved_pass v w j n is = (ap (λ (u : View). (pass u).loaded) is, ap (λ (u : View). (pass u).mark) is)
 
-pub noted_moved : (n : ℕ) (v w : View) (g : Gathered) (position : ℕ) (e x : Entry) → x ≡ e → IsNotedOf (pass v).mark (pass v).loaded g → map (λ e. e.0) (pass v).loaded ≡ down_from n → StandsAt position e g.entries.items → Moves v e.session e.number true w
+pub noted_moved : (n : ℕ) (v w : View) (g : Gathered) (position : ℕ) (e x : Entry) → x ≡ e → IsNotedOf (pass v).mark (pass v).loaded g →
+    map (λ e. e.0) (pass v).loaded ≡ down_from n → StandsAt position e g.entries.items → Moves v e.session e.number true w
     → (g.mark ≡ (pass w).mark) × (g.horizon ≡ least_entering (pass w).mark (pass w).loaded) × (set g.entries.items position (record x { moved = true }) ≡ entries_of (pass w).loaded)
 noted_moved n v w g position e x same noted keys at is =
     let after = moved_pass v w e.session e.number is in
@@ -203,7 +224,8 @@ noted_moved n v w g position e x same noted keys at is =
       (λ i. set (noted.2 i) position (record (same i) { moved = true })) ∙ (sym (entries_moved n (pass v).loaded position e keys at') ∙ ap entries_of (sym after.0)),
     )
 
-pub loaded_moved : (n : ℕ) (v w : View) (j k : ℕ) (mask : Option ℕ) → found j (pass v).loaded ≡ Some (record { register = Live k true false; mask = mask }) → IsLoaded n (pass v).loaded → Moves v j k true w → IsLoaded n (pass w).loaded
+pub loaded_moved : (n : ℕ) (v w : View) (j k : ℕ) (mask : Option ℕ) → found j (pass v).loaded ≡ Some (record { register = Live k true false; mask = mask }) →
+    IsLoaded n (pass v).loaded → Moves v j k true w → IsLoaded n (pass w).loaded
 loaded_moved n v w j k mask there h is =
     let after = moved_pass v w j k is in
     subst (IsLoaded n) (sym after.0) (keys_moved j (pass v).loaded ∙ h.0, registers_moved j (pass v).loaded (subst IsLiveDeclared (sym there) refl) h.1)
@@ -216,7 +238,8 @@ tries_snoc p [] (c ∷ bs) e b l = absurd (omega arith)
 tries_snoc p (x ∷ es) [] e b l = absurd (omega arith)
 tries_snoc p (x ∷ es) (c ∷ bs) e b l = ap (λ ts. Move p x.session x.number c ∷ ts) (tries_snoc p es bs e b (omega arith))
 
-moved_snoc : (es : List Entry) (bs : List Bool) (e : Entry) (b : Bool) (loaded : List (ℕ × Loaded)) → length bs ≡ length es → moved_by (es ++ e ∷ []) (bs ++ b ∷ []) loaded ≡ (if b then moved_in e.session (moved_by es bs loaded) else moved_by es bs loaded)
+moved_snoc : (es : List Entry) (bs : List Bool) (e : Entry) (b : Bool) (loaded : List (ℕ × Loaded)) → length bs ≡ length es →
+    moved_by (es ++ e ∷ []) (bs ++ b ∷ []) loaded ≡ (if b then moved_in e.session (moved_by es bs loaded) else moved_by es bs loaded)
 moved_snoc [] [] e b loaded l = refl
 moved_snoc [] (c ∷ bs) e b loaded l = absurd (omega arith)
 moved_snoc (x ∷ es) [] e b loaded l = absurd (omega arith)
@@ -228,7 +251,8 @@ successes_snoc (true ∷ bs) true = ap suc (successes_snoc bs true)
 successes_snoc (true ∷ bs) false = ap suc (successes_snoc bs false)
 successes_snoc (false ∷ bs) b = successes_snoc bs b
 
-parts_tried : (b : Bool) (j : ℕ) (w : View) (n : ℕ) (r : PassPart) (ps : List Part) → w.parts ≡ OfPass n r ∷ ps → after_try b j w ≡ OfPass n (record r { loaded = if b then moved_in j r.loaded else r.loaded }) ∷ ps
+parts_tried : (b : Bool) (j : ℕ) (w : View) (n : ℕ) (r : PassPart) (ps : List Part) → w.parts ≡ OfPass n r ∷ ps →
+    after_try b j w ≡ OfPass n (record r { loaded = if b then moved_in j r.loaded else r.loaded }) ∷ ps
 parts_tried true j w n r ps e = ap (λ (qs : List Part). after_try true j (seeing qs [] [])) e
 parts_tried false j w n r ps e = e
 
@@ -237,9 +261,11 @@ tried_one v w w' es c e b h is = subst (HasTried v (es ++ e ∷ []) (if b then s
   outcomes = h.outcomes ++ b ∷ [];
   each = let a = length-append h.outcomes (b ∷ []) in let d = length-append es (e ∷ []) in omega (arith, h.each, a, d);
   count_is = ap (λ n. if b then suc n else n) h.count_is ∙ sym (successes_snoc h.outcomes b);
-  parts = parts_tried b e.session w (number v) (record (pass v) { loaded = moved_by es h.outcomes (pass v).loaded }) (others v) h.parts ∙ ap (λ l. OfPass (number v) (record (pass v) { loaded = l }) ∷ others v) (sym (moved_snoc es h.outcomes e b (pass v).loaded h.each));
+  parts = parts_tried b e.session w (number v) (record (pass v) { loaded = moved_by es h.outcomes (pass v).loaded }) (others v) h.parts ∙
+      ap (λ l. OfPass (number v) (record (pass v) { loaded = l }) ∷ others v) (sym (moved_snoc es h.outcomes e b (pass v).loaded h.each));
   sights = append-nil w.sights ∙ h.sights;
-  events = (λ i. h.events i ++ Move (same i) e.session e.number b ∷ []) ∙ (append_assoc v.events (tries_of (number v) es h.outcomes) (Move (number v) e.session e.number b ∷ []) ∙ ap (λ ts. v.events ++ ts) (sym (tries_snoc (number v) es h.outcomes e b h.each)));
+  events = (λ i. h.events i ++ Move (same i) e.session e.number b ∷ []) ∙ (append_assoc v.events (tries_of (number v) es h.outcomes) (Move (number v) e.session e.number b ∷ []) ∙
+      ap (λ ts. v.events ++ ts) (sym (tries_snoc (number v) es h.outcomes e b h.each)));
 }
   where
     same : number w ≡ number v
@@ -253,7 +279,8 @@ long_snoc : (p : Entry → Bool) (es : List Entry) (e : Entry) (b : Bool) → p 
 long_snoc p es e true q = filter-append p es (e ∷ []) ∙ ap (λ (c : Bool). filter p es ++ (if c then e ∷ [] else [])) q
 long_snoc p es e false q = filter-append p es (e ∷ []) ∙ (ap (λ (c : Bool). filter p es ++ (if c then e ∷ [] else [])) q ∙ append-nil (filter p es))
 
-pub long_more : (p : Entry → Bool) (es : List Entry) (k : ℕ) (e : Entry) (b : Bool) → k < length es → get_or es k e ≡ e → p e ≡ b → filter p (take (k + 1) es) ≡ (if b then filter p (take k es) ++ e ∷ [] else filter p (take k es))
+pub long_more : (p : Entry → Bool) (es : List Entry) (k : ℕ) (e : Entry) (b : Bool) → k < length es → get_or es k e ≡ e → p e ≡ b →
+    filter p (take (k + 1) es) ≡ (if b then filter p (take k es) ++ e ∷ [] else filter p (take k es))
 long_more p es k e b l at q = ap (filter p) (take_more es k e l ∙ ap (λ x. take k es ++ x ∷ []) at) ∙ long_snoc p (take k es) e b q
 
 -- two lists with the same end have the same element there
@@ -279,7 +306,8 @@ drop_more k xs ys e = one k xs ∙ (ap (drop 1) e ∙ sym (one k ys))
     one : (k : ℕ) (zs : List Entry) → drop (k + 1) zs ≡ drop 1 (drop k zs)
     one k zs = ap (λ n. drop n zs) (up k) ∙ next k zs
 
-pub next_tried : (v w w' : View) (mark long k count count' : ℕ) (es : List Entry) (e : Entry) (b : Bool) → mark ≡ (pass w).mark → k < length es → get_or es k e ≡ e → HasTried v (filter (is_long (pass v).mark long) (take k es)) count w
+pub next_tried : (v w w' : View) (mark long k count count' : ℕ) (es : List Entry) (e : Entry) (b : Bool) → mark ≡ (pass w).mark → k < length es → get_or es k e ≡ e →
+    HasTried v (filter (is_long (pass v).mark long) (take k es)) count w
     → is_long mark long e ≡ true → Moves w e.session e.number b w' → count' ≡ (if b then suc count else count) → HasTried v (filter (is_long (pass v).mark long) (take (k + 1) es)) count' w'
 next_tried v w w' mark long k count count' es e b same l at h long_is is counted =
     let test : is_long (pass v).mark long e ≡ true = ap (λ m. is_long m long e) (sym (same ∙ mark_tried v w _ count h)) ∙ long_is in
@@ -287,7 +315,8 @@ next_tried v w w' mark long k count count' es e b same l at h long_is is counted
     subst (λ n. HasTried v (filter (is_long (pass v).mark long) (take (k + 1) es)) n w') (sym counted)
     (subst (λ l. HasTried v l (if b then suc count else count) w') (sym (long_more (is_long (pass v).mark long) es k e true l at test)) done)
 
-pub skip_tried : (v w : View) (mark long k count : ℕ) (es : List Entry) (e : Entry) → mark ≡ (pass w).mark → k < length es → get_or es k e ≡ e → HasTried v (filter (is_long (pass v).mark long) (take k es)) count w
+pub skip_tried : (v w : View) (mark long k count : ℕ) (es : List Entry) (e : Entry) → mark ≡ (pass w).mark → k < length es → get_or es k e ≡ e →
+    HasTried v (filter (is_long (pass v).mark long) (take k es)) count w
     → is_long mark long e ≡ false → HasTried v (filter (is_long (pass v).mark long) (take (k + 1) es)) count w
 skip_tried v w mark long k count es e same l at h long_is =
     let test : is_long (pass v).mark long e ≡ false = ap (λ m. is_long m long e) (sym (same ∙ mark_tried v w _ count h)) ∙ long_is in

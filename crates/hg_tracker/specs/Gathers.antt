@@ -1,5 +1,5 @@
 -- What a gather is of a pass's record.
-use Rattle.std.specs.Prelude.{◌≡◌, ℕ, suc, ◌<◌, ◌≤◌, slice_index_or, is_some, false, List, [], ◌∷◌, map, length, Vec, vec_capacity, All, IsPermutation, ⊤}
+use Rattle.std.specs.Prelude.{◌≡◌, ℕ, suc, ◌+◌, ◌<◌, ◌≤◌, slice_index_or, is_some, false, List, [], ◌∷◌, map, drop, length, Vec, vec_capacity, All, IsPermutation, ⊤}
 use Rattle.std.specs.declared.alloc.Global.{Global}
 use Rattle.std.specs.List.Sorted.{IsNonDecreasingBy}
 use Rattle.hg_base.specs.declared.report.Entry.{Entry}
@@ -42,6 +42,13 @@ IsLoaded sessions loaded = (map (λ e. e.0) loaded ≡ down_from sessions) × Ea
 -- the entry stands at that place of a list
 abbrev pub StandsAt : ℕ → Entry → List Entry → Type 0
 StandsAt position e entries = (position < length entries) × ((other : Entry) → slice_index_or entries position other ≡ e)
+
+-- a try for the entry at that place leaves the later entries, and how many there are, and what the gather is made for
+abbrev pub LeavesRest : ℕ → Gathered → Gathered → Type 0
+LeavesRest position before after =
+    (drop (position + 1) after.entries.items ≡ drop (position + 1) before.entries.items)
+    × (length after.entries.items ≡ length before.entries.items)
+    × ((sessions tables : ℕ) → IsMadeFor sessions tables before → IsMadeFor sessions tables after)
 
 -- what each table is served are its numbers, from number t on
 abbrev pub AreListsOf : ℕ → List ℕ → List Entry → List (Vec ℕ Global) → Type 0

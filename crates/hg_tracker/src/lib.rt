@@ -24,6 +24,7 @@
 #![tactic(auto)]
 
 mod gathered;
+mod lists;
 mod trackers;
 
 pub use gathered::Gathered;

@@ -1,6 +1,6 @@
 //! Begins, ends and gathers.
 
-ghost use Rattle.std.specs.Prelude.{◌≡◌, ℕ, ◌+◌, ◌<◌, false, drop, length, None, IsSome, IsTrue};
+ghost use Rattle.std.specs.Prelude.{◌≡◌, ◌<◌, false, None, IsSome, IsTrue};
 ghost use Rattle.hg_base.specs.Freshness.{is_declared};
 ghost use Rattle.hg_base.specs.declared.rid.Rid.{Rid};
 ghost use Rattle.hg_core.specs.declared.phase.Phase.TheVariants.{Idle};
@@ -12,7 +12,7 @@ ghost use Rattle.hg_rule.specs.Facts.{record_of};
 ghost use Rattle.hg_rule.specs.Views.{session, pass as own_pass};
 ghost use Rattle.hg_rule.specs.Steps.{Ends, Moves};
 ghost use Rattle.hg_rule.specs.Seats.{session_view, pass_view, IsSessionOf, IsPassOf};
-ghost use Rattle.hg_tracker.specs.Gathers.{IsMadeFor, IsNotedOf, IsGatherOf, IsFull, IsLoaded, StandsAt};
+ghost use Rattle.hg_tracker.specs.Gathers.{IsMadeFor, IsNotedOf, IsGatherOf, IsFull, IsLoaded, StandsAt, LeavesRest};
 ghost use Rattle.hg_tracker.specs.Begun.{HasBegun, HasGathered, Loads};
 ghost use Rattle.hg_tracker.specs.Tries.{is_long, HasMoved};
 
@@ -155,11 +155,7 @@ impl Trackers {
             (own_pass (pass_view pass.new)).loaded gathered.new }
         ensures loaded { IsLoaded (board_sizes self.now).sessions
             (own_pass (pass_view pass.new)).loaded }
-        ensures later { (drop (position + 1) gathered.new.entries.items ≡
-            drop (position + 1) gathered.old.entries.items) ×
-            (length gathered.new.entries.items ≡ length gathered.old.entries.items) }
-        ensures made { (sessions tables : ℕ) → IsMadeFor sessions tables gathered.old →
-            IsMadeFor sessions tables gathered.new }
+        ensures rest { LeavesRest position gathered.old gathered.new }
         ensures own { IsPassOf (trackers_board_id self.now) pass.new }
     {
         let register = Register::Live {

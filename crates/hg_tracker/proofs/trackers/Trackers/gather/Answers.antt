@@ -28,7 +28,8 @@ note-requires c = record { room = let made = (c.start.ensures.made _ _ c.require
 
 pub loop-j-preserved : goal.loop-j-preserved
 loop-j-preserved c =
-    let both = noted_one (pass_view c.args.pass.now) (pass_view c.loop-j.pass) (pass_view c.load-loaded.new.pass) c.mark-mark.result c.loop-j.j (c.loop-j.j + 1) c.load-loaded.result c.loop-j.into c.note.new.self
+    let both = noted_one (pass_view c.args.pass.now) (pass_view c.loop-j.pass) (pass_view c.load-loaded.new.pass) c.mark-mark.result c.loop-j.j
+    (c.loop-j.j + 1) c.load-loaded.result c.loop-j.into c.note.new.self
     (omega arith) c.loop-j.invariant.0 c.load-loaded.ensures.step c.load-loaded.ensures.full c.loop-j.invariant.1 c.note.ensures.mark c.note.ensures.horizon c.note.ensures.entries in
     (both.0, both.1, c.note.ensures.made _ _ c.loop-j.invariant.2, c.load-loaded.ensures.own)
 

@@ -11,10 +11,12 @@ use Rattle.hg_tracker.proofs.Trying.{found_session, full_found, movable_found, n
 use Rattle.hg_tracker.proofs.trackers.Trackers.try_move.Goals as goal
 
 -- what was loaded of the entry's session
-one : (c : goal.After-move_one-arg-1) → (mask : Option ℕ) × (found c.args.entry.session (pass (pass_view c.args.pass.now)).loaded ≡ Some (record { register = Live c.args.entry.number true false; mask = mask }))
+one : (c : goal.After-move_one-arg-1) → (mask : Option ℕ) × (found c.args.entry.session (pass (pass_view c.args.pass.now)).loaded ≡ Some
+    (record { register = Live c.args.entry.number true false; mask = mask }))
 one c =
     let loaded = (pass (pass_view c.args.pass.now)).loaded in
-    movable_found (board_sizes c.args.self.now).sessions loaded c.args.position c.args.entry c.requires.loaded (subst (StandsAt c.args.position c.args.entry) c.requires.noted.2 c.requires.position) c.requires.movable.0 c.requires.movable.1
+    movable_found (board_sizes c.args.self.now).sessions loaded c.args.position c.args.entry c.requires.loaded
+    (subst (StandsAt c.args.position c.args.entry) c.requires.noted.2 c.requires.position) c.requires.movable.0 c.requires.movable.1
 
 pub move_one-moved-requires-clause-loaded : goal.move_one-moved-requires-clause-loaded
 move_one-moved-requires-clause-loaded c = subst (HasRegister (Live c.args.entry.number true false)) (sym (one c).1) refl
@@ -39,5 +41,7 @@ returns-then-moved-clause-loaded c =
     let v = pass_view c.args.pass.now in
     let w = pass_view c.move_one-moved.new.pass in
     let e = c.args.entry in
-    let there = movable_found (board_sizes c.args.self.now).sessions (pass v).loaded c.args.position e c.requires.loaded (subst (StandsAt c.args.position e) c.requires.noted.2 c.requires.position) c.requires.movable.0 c.requires.movable.1 in
-    loaded_moved (board_sizes c.args.self.now).sessions v w e.session e.number there.0 there.1 c.requires.loaded (subst (λ b. Moves v e.session e.number b w) c.if-moved.true c.move_one-moved.ensures.step)
+    let there = movable_found (board_sizes c.args.self.now).sessions (pass v).loaded c.args.position e c.requires.loaded
+    (subst (StandsAt c.args.position e) c.requires.noted.2 c.requires.position) c.requires.movable.0 c.requires.movable.1 in
+    loaded_moved (board_sizes c.args.self.now).sessions v w e.session e.number there.0 there.1 c.requires.loaded
+    (subst (λ b. Moves v e.session e.number b w) c.if-moved.true c.move_one-moved.ensures.step)

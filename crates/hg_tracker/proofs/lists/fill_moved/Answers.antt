@@ -1,6 +1,6 @@
 use Rattle.std.proofs.Common.{rules, take}
 use Rattle.hg_tracker.proofs.Noting.{moved_most}
-use Rattle.hg_tracker.proofs.gathered.fill_moved.Goals as goal
+use Rattle.hg_tracker.proofs.lists.fill_moved.Goals as goal
 
 pub unreachable-requires : goal.unreachable-requires
 unreachable-requires c = let most = moved_most (take c.loop-entry.entry-index c.args.ranked.now) in search rules
