@@ -75,9 +75,11 @@ same_number at (Some x) None e k = absurd cc
 same_number at (Some x) (Some y) e k = let same : x.0 ≡ y.0 = cc in omega (arith, same, k)
 
 -- what is published of a record that a live session has open is at or below its snapshot
-pub newest_seen : (s : CoreState) → IsSteady s → (j at : ℕ) (scope : Scope) (r : Rid) (image : Image) → s.phase j ≡ Live at scope → open_in r (s.log j) ≡ Some image → IfSome (newest_at s.mark (versions s.buckets s.bucket r)) (λ pair. pair.0 ≤ at)
+pub newest_seen : (s : CoreState) → IsSteady s → (j at : ℕ) (scope : Scope) (r : Rid) (image : Image) → s.phase j ≡ Live at scope → open_in r (s.log j) ≡ Some image →
+    IfSome (newest_at s.mark (versions s.buckets s.bucket r)) (λ pair. pair.0 ≤ at)
 newest_seen s h j at scope r image live own = elim (h.covered r).newest [
-  | inl e ↦ same_number at (newest_at s.mark (versions s.buckets s.bucket r)) (last_pair (writes s.history r)) e (last_each (λ x. x.0 ≤ at) (writes s.history r) (subst (MayCommit s.history r) live (h.open_writes_may_commit j r image own)).1)
+  | inl e ↦ same_number at (newest_at s.mark (versions s.buckets s.bucket r)) (last_pair (writes s.history r)) e
+      (last_each (λ x. x.0 ≤ at) (writes s.history r) (subst (MayCommit s.history r) live (h.open_writes_may_commit j r image own)).1)
   | inr none ↦ subst (λ o. IfSome o (λ (x : ℕ × Image). x.0 ≤ at)) (sym none.0) tt
 ]
 
@@ -94,6 +96,7 @@ pub behind_seen : (w : Writer) (at mark : ℕ) (vs : List Version) → Falls (su
 behind_seen w at mark [] f k = tt
 behind_seen w at mark (v ∷ vs) f k =
     let low : nat_le f.0 mark ≡ true = (let less = f.2 in grind (arith, nat_tests)) in
-    let first : newest_at mark (v ∷ vs) ≡ Some (f.0, v.image) = ap (λ x. pair_of (cond (is_up_to mark x) (Some v) (first_at mark vs))) f.1 ∙ ap (λ b. pair_of (cond b (Some v) (first_at mark vs))) low ∙ ap (λ x. paired x v.image) f.1 in
+    let first : newest_at mark (v ∷ vs) ≡ Some (f.0, v.image) = ap (λ x. pair_of (cond (is_up_to mark x) (Some v) (first_at mark vs))) f.1 ∙
+    ap (λ b. pair_of (cond b (Some v) (first_at mark vs))) low ∙ ap (λ x. paired x v.image) f.1 in
     let le : f.0 ≤ at = subst (λ o. IfSome o (λ (x : ℕ × Image). x.0 ≤ at)) first k in
     (own_or_seen w at f.0 v.stamp v.image f.1 le, falls_seen w at f.0 vs (omega arith) f.3)

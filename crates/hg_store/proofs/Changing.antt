@@ -30,7 +30,8 @@ pub installed_kept : (mark : ℕ) (w : Writer) (image : Image) (vs : List Versio
 installed_kept mark w image [] free = refl
 installed_kept mark w image (v ∷ vs) free = go v.stamp free
   where
-    go : (x : Stamp) → IsFreeFor mark w (record { stamp = x; image = v.image } ∷ vs) → bucket.installed w image (map kept (record { stamp = x; image = v.image } ∷ vs)) ≡ map kept (installed w image (record { stamp = x; image = v.image } ∷ vs))
+    go : (x : Stamp) → IsFreeFor mark w (record { stamp = x; image = v.image } ∷ vs) → bucket.installed w image (map kept (record { stamp = x; image = v.image } ∷ vs)) ≡ map kept
+        (installed w image (record { stamp = x; image = v.image } ∷ vs))
     go (Written by) free = ap (λ b. bucket.open_write w image ∷ cond b (map kept vs) (kept_as (Written by) v.image ∷ map kept vs)) (own_open w by v.image free)
     go (Numbered n by) free = refl
     go (Oldest n) free = refl
@@ -39,7 +40,8 @@ pub added_kept : (mark : ℕ) (w : Writer) (vs : List Version) → IsFreeFor mar
 added_kept mark w [] free = refl
 added_kept mark w (v ∷ vs) free = go v.stamp free
   where
-    go : (x : Stamp) → IsFreeFor mark w (record { stamp = x; image = v.image } ∷ vs) → cond (begins_open w (map kept (record { stamp = x; image = v.image } ∷ vs))) 0 1 ≡ added (record { stamp = x; image = v.image } ∷ vs)
+    go : (x : Stamp) → IsFreeFor mark w (record { stamp = x; image = v.image } ∷ vs) → cond (begins_open w (map kept (record { stamp = x; image = v.image } ∷ vs))) 0 1 ≡ added
+        (record { stamp = x; image = v.image } ∷ vs)
     go (Written by) free = ap (λ b. cond b 0 1) (own_open w by v.image free)
     go (Numbered n by) free = refl
     go (Oldest n) free = refl
@@ -95,7 +97,8 @@ pub filter_kept : (n : ℕ) (vs : List Version) → filter (λ v. not (is_at_mos
 filter_kept n [] = refl
 filter_kept n (v ∷ vs) = go (is_at_most n (kept v)) (is_up_to n (stamp_number v.stamp)) (at_most_kept n v.stamp v.image) (filter_kept n vs)
   where
-    go : (a b : Bool) → a ≡ b → filter (λ v. not (is_at_most n v)) (map kept vs) ≡ map kept (past n vs) → cond (not a) (kept v ∷ filter (λ v. not (is_at_most n v)) (map kept vs)) (filter (λ v. not (is_at_most n v)) (map kept vs)) ≡ map kept (cond (not b) (v ∷ past n vs) (past n vs))
+    go : (a b : Bool) → a ≡ b → filter (λ v. not (is_at_most n v)) (map kept vs) ≡ map kept (past n vs) →
+        cond (not a) (kept v ∷ filter (λ v. not (is_at_most n v)) (map kept vs)) (filter (λ v. not (is_at_most n v)) (map kept vs)) ≡ map kept (cond (not b) (v ∷ past n vs) (past n vs))
     go true true e rest = rest
     go false false e rest = ap (λ ws. kept v ∷ ws) rest
     go true false e rest = absurd cc
@@ -119,7 +122,8 @@ survivor_kept bound (v ∷ vs) = go (is_up_to bound (stamp_number v.stamp)) refl
     one (Numbered n by) e = row_kept n v.image.row
     one (Oldest n) e = row_kept n v.image.row
 
-    go : (b : Bool) → is_up_to bound (stamp_number v.stamp) ≡ b → survivor (option_map kept (first_at bound vs)) ≡ map kept (as_oldest (first_at bound vs)) → survivor (option_map kept (cond b (Some v) (first_at bound vs))) ≡ map kept (as_oldest (cond b (Some v) (first_at bound vs)))
+    go : (b : Bool) → is_up_to bound (stamp_number v.stamp) ≡ b → survivor (option_map kept (first_at bound vs)) ≡ map kept (as_oldest (first_at bound vs)) →
+        survivor (option_map kept (cond b (Some v) (first_at bound vs))) ≡ map kept (as_oldest (cond b (Some v) (first_at bound vs)))
     go true e rest = one v.stamp e
     go false e rest = rest
 

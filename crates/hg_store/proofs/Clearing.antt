@@ -111,7 +111,8 @@ counts_more v w x kind gone r c step =
       same_number = ap number step ∙ c.same_number;
       visit = ap pass step ∙ ap (visiting kind n) c.visit ∙ ap (λ vs. record (pass v) { visits = vs }) (removing_more kind gone n (pass v).visits);
       same_bucket = ap bucket_number step ∙ c.same_bucket;
-      counters = ap (λ u. (bucket u).counters) step ∙ ap (λ (k : Counters). record k { removed = removed_more kind n k.removed }) c.counters ∙ ap (λ m. record (bucket v).counters { removed = m }) (more_more kind gone n (bucket v).counters.removed);
+      counters = ap (λ u. (bucket u).counters) step ∙ ap (λ (k : Counters). record k { removed = removed_more kind n k.removed }) c.counters ∙
+          ap (λ m. record (bucket v).counters { removed = m }) (more_more kind gone n (bucket v).counters.removed);
       versions = omega (arith, total_after w x r kind step, c.versions);
       rest = ap beyond step ∙ c.rest;
       sights = ap (λ (u : View). u.sights) step ∙ append_none w.sights ∙ c.sights;
@@ -134,7 +135,8 @@ long_there z n b v r placed long = go (bucket_of z.buckets r == b) refl
 
 -- ---- what it leaves, and how many go
 
-pub gone_fits : (z : Sizes) (n : ℕ) (kind : Kind) (v w x : View) (h : Held) (r : Rid) (gone : ℕ) → IsBacked z n v → Holds v h → Counts v kind gone w → Reclaims w r kind x → gone + removed_of w r kind ≤ z.sessions * z.quota
+pub gone_fits : (z : Sizes) (n : ℕ) (kind : Kind) (v w x : View) (h : Held) (r : Rid) (gone : ℕ) → IsBacked z n v → Holds v h → Counts v kind gone w → Reclaims w r kind x →
+    gone + removed_of w r kind ≤ z.sessions * z.quota
 gone_fits z n kind v w x h r gone backed hold c step = omega (arith, (counts_more v w x kind gone r c step).versions, total_at z n (held_number h) v backed hold.has)
 
 pub cut_left : (v : View) (r : Rid) (bound : ℕ) → bound ≡ table_bound r.table (record_of (pass v)) → IsCutAt bound (left_of v r Table)
@@ -143,4 +145,5 @@ cut_left v r bound is = subst (λ b. IsCutAt b (left_of v r Table)) (sym is) (cu
 pub clean_left : (v : View) (h : Held) (r : Rid) (from : ℕ) → Holds v h → from ≡ horizon (record_of (pass v)) → IsClean from (recorded r.table (record_of (pass v))) (left_of v r Interval)
 clean_left v h r from hold is =
     let order = hold.ordered r in
-    subst (λ b. IsClean b (recorded r.table (record_of (pass v))) (left_of v r Interval)) (sym is) (swept_is_clean order.0 (horizon (record_of (pass v))) (recorded r.table (record_of (pass v))) (held v r) order.1)
+    subst (λ b. IsClean b (recorded r.table (record_of (pass v))) (left_of v r Interval)) (sym is)
+    (swept_is_clean order.0 (horizon (record_of (pass v))) (recorded r.table (record_of (pass v))) (held v r) order.1)

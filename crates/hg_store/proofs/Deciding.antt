@@ -65,7 +65,7 @@ wrotes_same : (r : Rid) (o : Option Answer) (log : List LogEntry) → wrotes (wi
 wrotes_same r None log = refl
 wrotes_same r (Some a) log = refl
 
-live_is : (p : Phase) → IsSome (snapshot_in p) → (scope : Scope) × (p ≡ Live (loaded_in p) scope)
+pub live_is : (p : Phase) → IsSome (snapshot_in p) → (scope : Scope) × (p ≡ Live (loaded_in p) scope)
 live_is Idle l = absurd (let k = l in cc)
 live_is (Declared scope) l = absurd (let k = l in cc)
 live_is (Probed scope f) l = absurd (let k = l in cc)
@@ -81,7 +81,8 @@ pub record Decided (z : Sizes) (n : ℕ) (v : View) (r : Rid) : Type 0 where
   pub newest : (image : Image) → unpublished n (held v r) ≡ Some (writer v, image) → IfSome (newest_at n (held v r)) (λ pair. pair.0 ≤ snapshot v)
   pub made : IsSession z.sessions (number v) → wrotes (session v).log < z.quota → (bucket v).counters.made < z.sessions * z.quota
 
-pub decided : (z : Sizes) (n : ℕ) (v w : View) (h : Held) (r : Rid) → Holds v h → Looks v (Write r) n w → IsBacked z n w → bucket_of z.buckets r ≡ held_number h → (session v).stamped ≡ false → IsSome (snapshot_in (session v).phase) → Decided z n v r
+pub decided : (z : Sizes) (n : ℕ) (v w : View) (h : Held) (r : Rid) → Holds v h → Looks v (Write r) n w → IsBacked z n w → bucket_of z.buckets r ≡ held_number h →
+    (session v).stamped ≡ false → IsSome (snapshot_in (session v).phase) → Decided z n v r
 decided z n v w h r hold k backed here unstamped live =
     let b = subst (IsBacked z n) k.after backed in
     let s = b.state in
@@ -93,18 +94,21 @@ decided z n v w h r hold k backed here unstamped live =
     let back : (o : Option (Writer × Image)) → unpublished n (held v r) ≡ o → unpublished s.mark (versions s.buckets s.bucket r) ≡ o = λ o e. (λ i. unpublished (b.mark_is i) (same i)) ∙ e in
     let scope = live_is (session v).phase live in record {
       ordered = ordered_at z n (held_number h) _ b has r here;
-      unstamped = λ image e. subst (λ vs. is_numbered vs ≡ false) same (subst (λ x. IsUnstamped s.mark x (versions s.buckets s.bucket r)) own (unstamped_in s b.steady (number v) r (mine.1.1 ∙ unstamped)) image (back (Some (writer v, image)) e));
+      unstamped = λ image e. subst (λ vs. is_numbered vs ≡ false) same
+          (subst (λ x. IsUnstamped s.mark x (versions s.buckets s.bucket r)) own (unstamped_in s b.steady (number v) r (mine.1.1 ∙ unstamped)) image (back (Some (writer v, image)) e));
       goes = λ o image e. each_front (HasNoEnd o) v.sights _ (none_ends s b.steady o (owner_goes_on s b.steady r o image (back (Some (o, image)) e)) _ b.true_of.sights);
       newest = λ image e.
           let owned = b.steady.open_writes_stand.owned r (writer v) image (back (Some (writer v, image)) e) in
-          subst (λ o. IfSome o (λ (p : ℕ × Image). p.0 ≤ snapshot v)) (λ i. newest_at (b.mark_is i) (same i)) (newest_seen s b.steady (number v) (snapshot v) scope.0 r image (mine.0 ∙ scope.1) owned.1);
+          subst (λ o. IfSome o (λ (p : ℕ × Image). p.0 ≤ snapshot v)) (λ i. newest_at (b.mark_is i) (same i))
+          (newest_seen s b.steady (number v) (snapshot v) scope.0 r image (mine.0 ∙ scope.1) owned.1);
       made = λ is room.
           let counted = (subst (Each (Shown s)) hold.has.1.0 b.true_of.parts.1).0.1 in
           let is_there = subst (λ m. IsSession m (number v)) (sym b.sized.sessions) is in
           let same_wrotes = ap wrotes mine.1.0 ∙ wrotes_same r _ (session v).log in
           let same_each = b.sized.quota in
           let may : wrotes (s.log (number v)) < s.quota = omega (arith, same_wrotes, same_each, room) in
-          subst (λ x. x < z.sessions * z.quota) (ap (λ (c : Counters). c.made) counted) (subst (λ x. (s.counters (held_number h)).made < x) (λ i. b.sized.sessions i * b.sized.quota i) (made_below s b.steady (number v) (held_number h) is_there may));
+          subst (λ x. x < z.sessions * z.quota) (ap (λ (c : Counters). c.made) counted)
+          (subst (λ x. (s.counters (held_number h)).made < x) (λ i. b.sized.sessions i * b.sized.quota i) (made_below s b.steady (number v) (held_number h) is_there may));
     }
 
 -- ---- a write that isn't refused
@@ -116,15 +120,19 @@ over_none k at image e = go (nat_le k at) refl e
     go true s e = grind (arith, nat_tests)
     go false s e = absurd cc
 
-pub free_seen : (n : ℕ) (w : Writer) (at : ℕ) (vs : List Version) → IsOrdered n vs → IsUnstamped n w vs → ((image : Image) → unpublished n vs ≡ Some (w, image) → IfSome (newest_at n vs) (λ pair. pair.0 ≤ at)) → refusal n w at vs ≡ None → Each (IsOwnOrSeen w at) vs
+pub free_seen : (n : ℕ) (w : Writer) (at : ℕ) (vs : List Version) → IsOrdered n vs → IsUnstamped n w vs →
+    ((image : Image) → unpublished n vs ≡ Some (w, image) → IfSome (newest_at n vs) (λ pair. pair.0 ≤ at)) → refusal n w at vs ≡ None → Each (IsOwnOrSeen w at) vs
 free_seen n w at [] o u newest none = tt
 free_seen n w at (v ∷ vs) o u newest none = go v.stamp o newest none (free_of n w at (v ∷ vs) o u none)
   where
-    go : (x : Stamp) → IsOrdered n (record { stamp = x; image = v.image } ∷ vs) → ((image : Image) → unpublished n (record { stamp = x; image = v.image } ∷ vs) ≡ Some (w, image) → IfSome (newest_at n (record { stamp = x; image = v.image } ∷ vs)) (λ pair. pair.0 ≤ at)) → refusal n w at (record { stamp = x; image = v.image } ∷ vs) ≡ None → IsFreeFor n w (record { stamp = x; image = v.image } ∷ vs) → Each (IsOwnOrSeen w at) (record { stamp = x; image = v.image } ∷ vs)
+    go : (x : Stamp) → IsOrdered n (record { stamp = x; image = v.image } ∷ vs) → ((image : Image) → unpublished n (record { stamp = x; image = v.image } ∷ vs) ≡ Some (w, image) →
+        IfSome (newest_at n (record { stamp = x; image = v.image } ∷ vs)) (λ pair. pair.0 ≤ at)) → refusal n w at (record { stamp = x; image = v.image } ∷ vs) ≡ None →
+        IsFreeFor n w (record { stamp = x; image = v.image } ∷ vs) → Each (IsOwnOrSeen w at) (record { stamp = x; image = v.image } ∷ vs)
     go (Written by) f newest none free = (free, behind_seen w at n vs f (newest v.image (ap (λ x. Some (x, v.image)) free)))
     go (Numbered k by) f newest none free =
         let le : nat_le k n ≡ true = grind (arith, nat_tests, free) in
-        let seen : k ≤ at = over_none k at v.image ((λ i. refused_by w (cond (sym le i) None (Some (by, v.image))) (refused_over at (pair_of (cond (sym le i) (Some (record { stamp = Numbered k by; image = v.image })) (first_at n vs))))) ∙ none) in
+        let seen : k ≤ at = over_none k at v.image ((λ i. refused_by w (cond (sym le i) None (Some (by, v.image)))
+        (refused_over at (pair_of (cond (sym le i) (Some (record { stamp = Numbered k by; image = v.image })) (first_at n vs))))) ∙ none) in
         (seen, falls_seen w at k vs (omega arith) f.1)
     go (Oldest k) f newest none free =
         let le : nat_le k n ≡ true = grind (arith, nat_tests, f.0) in
@@ -133,10 +141,12 @@ free_seen n w at (v ∷ vs) o u newest none = go v.stamp o newest none (free_of 
 
 -- ---- as the bucket decides it
 
-pub told_conflict : {T : Type 0} (by : Writer) (at n : ℕ) (ks : List Kept) (answer : Result T WriteRefusal) → IfSome (holder by n ks) (λ w. answer ≡ Err (open_by w)) → (holder by n ks ≡ None → IfSome (newer at ks) (λ m. answer ≡ Err (Newer m))) → IfSome (conflict by at n ks) (λ e. answer ≡ Err e)
+pub told_conflict : {T : Type 0} (by : Writer) (at n : ℕ) (ks : List Kept) (answer : Result T WriteRefusal) → IfSome (holder by n ks) (λ w. answer ≡ Err (open_by w)) →
+    (holder by n ks ≡ None → IfSome (newer at ks) (λ m. answer ≡ Err (Newer m))) → IfSome (conflict by at n ks) (λ e. answer ≡ Err e)
 told_conflict by at n ks answer a b = go (holder by n ks) (newer at ks) a b
   where
-    go : (o : Option Writer) (m : Option ℕ) → IfSome o (λ w. answer ≡ Err (open_by w)) → (o ≡ None → IfSome m (λ m. answer ≡ Err (Newer m))) → IfSome (option_or (option_map open_by o) (option_map Newer m)) (λ e. answer ≡ Err e)
+    go : (o : Option Writer) (m : Option ℕ) → IfSome o (λ w. answer ≡ Err (open_by w)) → (o ≡ None → IfSome m (λ m. answer ≡ Err (Newer m))) →
+        IfSome (option_or (option_map open_by o) (option_map Newer m)) (λ e. answer ≡ Err e)
     go (Some w) m a b = a
     go None (Some m) a b = b refl
     go None None a b = tt
@@ -145,8 +155,10 @@ told_conflict by at n ks answer a b = go (holder by n ks) (newer at ks) a b
 pub same_conflict : (z : Sizes) (n : ℕ) (v : View) (h : Held) (r : Rid) → Holds v h → Decided z n v r → conflict (writer v) (snapshot v) n (versions_of (held_records h).records r) ≡ refused_at n v r
 same_conflict z n v h r hold d = ap (conflict (writer v) (snapshot v) n) (hold.keeps.versions r) ∙ conflict_kept n (writer v) (snapshot v) (held v r) d.ordered d.unstamped
 
-pub same_cause : (z : Sizes) (n : ℕ) (v : View) (h : Held) (r : Rid) (e : WriteRefusal) → Holds v h → Decided z n v r → bucket_words.IsCause (writer v) (snapshot v) n (versions_of (held_records h).records r) e → IsCause n v r e
-same_cause z n v h r (Open s x) hold d k = sym (same_conflict z n v h r hold d) ∙ ap (λ o. option_or (option_map open_by o) (option_map Newer (newer (snapshot v) (versions_of (held_records h).records r)))) k
+pub same_cause : (z : Sizes) (n : ℕ) (v : View) (h : Held) (r : Rid) (e : WriteRefusal) → Holds v h → Decided z n v r →
+    bucket_words.IsCause (writer v) (snapshot v) n (versions_of (held_records h).records r) e → IsCause n v r e
+same_cause z n v h r (Open s x) hold d k = sym (same_conflict z n v h r hold d) ∙
+    ap (λ o. option_or (option_map open_by o) (option_map Newer (newer (snapshot v) (versions_of (held_records h).records r)))) k
 same_cause z n v h r (Newer m) hold d k = sym (same_conflict z n v h r hold d) ∙ (λ i. option_or (option_map open_by (k.0 i)) (option_map Newer (k.1 i)))
 same_cause z n v h r NoMemory hold d k = (
   sym (same_conflict z n v h r hold d) ∙ (λ i. option_or (option_map open_by (k.0 i)) (option_map Newer (k.1 i))),
@@ -165,7 +177,8 @@ opened_by n w o at vs e = go (unpublished n vs) refl e
         late true e = none-some (open_by o) e
         late false e = cc
 
-    go : (p : Option (Writer × Image)) → unpublished n vs ≡ p → option_and_then refusal_of (refused_by w p (refused_over at (newest_at n vs))) ≡ Some (open_by o) → (image : Image) × (unpublished n vs ≡ Some (o, image))
+    go : (p : Option (Writer × Image)) → unpublished n vs ≡ p → option_and_then refusal_of (refused_by w p (refused_over at (newest_at n vs))) ≡ Some (open_by o) →
+        (image : Image) × (unpublished n vs ≡ Some (o, image))
     go None k e = absurd (none (newest_at n vs) e)
     go (Some p) k e = theirs (same_writer p.0 w) e
       where

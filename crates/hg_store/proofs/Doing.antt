@@ -107,7 +107,8 @@ swept_behind h xs ys same up (v ∷ vs) = go (goes h ys up n) refl (ap (λ m. sw
     test : goes h xs up (kept v).number ≡ goes h ys up n
     test = ap (goes h xs up) number ∙ goes_same h xs ys same up n
 
-    go : (b : Bool) → goes h ys up n ≡ b → swept_from h xs (kept v).number (map kept vs) ≡ map kept (core.swept h ys n vs) → swept_from h xs up (kept v ∷ map kept vs) ≡ map kept (if b then core.swept h ys n vs else v ∷ core.swept h ys n vs)
+    go : (b : Bool) → goes h ys up n ≡ b → swept_from h xs (kept v).number (map kept vs) ≡ map kept (core.swept h ys n vs) →
+        swept_from h xs up (kept v ∷ map kept vs) ≡ map kept (if b then core.swept h ys n vs else v ∷ core.swept h ys n vs)
     go true e rest = first_goes h xs up (kept v) (map kept vs) (test ∙ e) ∙ rest
     go false e rest = first_stays h xs up (kept v) (map kept vs) (test ∙ e) ∙ ap (λ ks. kept v ∷ ks) rest
 
@@ -128,8 +129,12 @@ pub does_table : (table : TableId) (p : PassRecord) (bound : ℕ) → bound ≡ 
 does_table table p bound is = record { alike = λ mark vs o. cut_kept mark bound vs o ∙ ap (λ b. map kept (core.cut b vs)) is; short = λ ks s. s.cut bound }
 
 pub does_interval : (table : TableId) (p : PassRecord) (h : ℕ) (xs : List ℕ) → h ≡ horizon p → HaveSame xs (recorded table p) → Does Interval table p (swept h xs)
-does_interval table p h xs is same = record { alike = λ mark vs o. swept_kept h xs (recorded table p) vs same ∙ ap (λ b. map kept (core.swept b (recorded table p) None vs)) is; short = λ ks s. s.swept h xs }
+does_interval table p h xs is same = record {
+  alike = λ mark vs o. swept_kept h xs (recorded table p) vs same ∙ ap (λ b. map kept (core.swept b (recorded table p) None vs)) is;
+  short = λ ks s. s.swept h xs;
+}
 
 -- what is short is as the kind leaves it
-pub short_left : (kind : Kind) (table : TableId) (p : PassRecord) (does : List Kept → List Kept) (mark : ℕ) (vs : List Version) → Does kind table p does → IsOrdered mark vs → IsShort (map kept vs) → vs ≡ reclaimed kind table p vs
+pub short_left : (kind : Kind) (table : TableId) (p : PassRecord) (does : List Kept → List Kept) (mark : ℕ) (vs : List Version) → Does kind table p does → IsOrdered mark vs →
+    IsShort (map kept vs) → vs ≡ reclaimed kind table p vs
 short_left kind table p does mark vs d o s = same_versions vs (reclaimed kind table p vs) (sym (d.short (map kept vs) s) ∙ d.alike mark vs o)

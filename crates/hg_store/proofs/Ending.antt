@@ -33,7 +33,8 @@ plain_goes_on (Refused r answer ∷ log) p o = plain_goes_on log p o
 plain_goes_on (Outside table ∷ log) p o = plain_goes_on log p o
 plain_goes_on (Wrote r image ∷ log) p o = plain_goes_on log p o
 
-pub open_goes_on : (buckets : ℕ) (h : History) (logs : ℕ → List LogEntry) (j : ℕ) (r : Rid) (log : List LogEntry) → AreReplied buckets h logs j log → Judged h log → IsSome (open_in r log) → has_end (begans log) log ≡ false
+pub open_goes_on : (buckets : ℕ) (h : History) (logs : ℕ → List LogEntry) (j : ℕ) (r : Rid) (log : List LogEntry) → AreReplied buckets h logs j log → Judged h log →
+    IsSome (open_in r log) → has_end (begans log) log ≡ false
 open_goes_on buckets h logs j r [] a d o = absurd (let k = o in cc)
 open_goes_on buckets h logs j r (Began at scope ∷ log) a d o = absurd (let k = o in cc)
 open_goes_on buckets h logs j r (Over ∷ log) a d o = absurd (let k = o in cc)

@@ -21,9 +21,14 @@ pub each_from_first : {A : Type 0} (P : ℕ → A → Type 0) (i : ℕ) (xs : Li
 each_from_first P i [] x some r e = absurd (omega arith)
 each_from_first P i (y ∷ xs) x some r e = subst (P i) (sym e) r.0
 
-pub fits_new : (t : BoardId) (tag : Snapshot BucketSeat) (n : ℕ) (seat : BucketSeat) (bucket : Box BucketModel Global) → seat_board_id tag.value ≡ t → IsNewBucket t n seat → bucket.value ≡ record { records = []; made = 0; undone = 0; group = 0; table = 0; interval = 0; long = [] } → SlotFits tag n (record { bucket = bucket; seat = seat })
+pub fits_new : (t : BoardId) (tag : Snapshot BucketSeat) (n : ℕ) (seat : BucketSeat) (bucket : Box BucketModel Global) → seat_board_id tag.value ≡ t → IsNewBucket t n seat →
+    bucket.value ≡ record { records = []; made = 0; undone = 0; group = 0; table = 0; interval = 0; long = [] } → SlotFits tag n (record { bucket = bucket; seat = seat })
 fits_new t tag n seat bucket same new empty =
     let at : (bucket_view seat).parts ≡ OfBucket n new_bucket ∷ [] = ap (λ m. m.0.parts) new.1.1 in (
       ((new.1.0 ∙ sym same, ap (λ m. m.1) new.1.1), at ∙ (λ i. OfBucket (sym new.0 i) (bucket_there (first_in (sym at i))) ∷ [])),
-      (new.0, subst (λ p. Keeps bucket.value p) (sym (ap (λ ps. bucket_there (first_in ps)) at)) (subst (λ b. Keeps b new_bucket) (sym empty) (record { versions = λ r. refl; made = refl; undone = refl; group = refl; table = refl; interval = refl }))),
+      (
+        new.0,
+        subst (λ p. Keeps bucket.value p) (sym (ap (λ ps. bucket_there (first_in ps)) at))
+            (subst (λ b. Keeps b new_bucket) (sym empty) (record { versions = λ r. refl; made = refl; undone = refl; group = refl; table = refl; interval = refl })),
+      ),
     )

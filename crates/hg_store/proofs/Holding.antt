@@ -60,7 +60,8 @@ held_is z n b v k h r here =
     ap (λ m. look r (k.state.bucket (bucket_of m r))) k.sized.buckets ∙ ap (λ m. look r (k.state.bucket m)) here ∙ ap (look r) shown.0
 
 pub ordered_at : (z : Sizes) (n b : ℕ) (v : View) → IsBacked z n v → HoldsBucket b v → (r : Rid) → bucket_of z.buckets r ≡ b → IsOrdered n (held v r)
-ordered_at z n b v k h r here = subst (λ vs. IsOrdered n vs) (held_is z n b v k h r here) (subst (λ m. IsOrdered m (versions k.state.buckets k.state.bucket r)) k.mark_is (k.steady.contents_are_ordered.ordered r))
+ordered_at z n b v k h r here = subst (λ vs. IsOrdered n vs) (held_is z n b v k h r here)
+    (subst (λ m. IsOrdered m (versions k.state.buckets k.state.bucket r)) k.mark_is (k.steady.contents_are_ordered.ordered r))
 
 -- a record of another bucket isn't there
 pub placed_at : (z : Sizes) (n b : ℕ) (v : View) → IsBacked z n v → HoldsBucket b v → Each (λ e. bucket_of z.buckets e.0 ≡ b) (bucket v).content
@@ -85,7 +86,8 @@ all_ordered z n b v k h r = go (bucket_of z.buckets r == b) refl
 bucket_joined : (v w : View) (b : ℕ) (part : BucketPart) → HasFirst v → w.parts ≡ OfBucket b part ∷ [] → bucket (with_bucket v w) ≡ part
 bucket_joined v w b part e f = λ i. bucket_there (first_in (after_first (put_in (arrive_first (part_number (f i)) (e i)) (f i))))
 
-pub taken_holds : (z : Sizes) (n : ℕ) (v w x : View) (b : ℕ) (part : BucketPart) (h : Held) → HasFirst v → w.parts ≡ OfBucket b part ∷ [] → x ≡ with_bucket v w → HoldsBucket b x → IsBacked z n x → held_number h ≡ b → Keeps (held_records h) part → Holds x h
+pub taken_holds : (z : Sizes) (n : ℕ) (v w x : View) (b : ℕ) (part : BucketPart) (h : Held) → HasFirst v → w.parts ≡ OfBucket b part ∷ [] → x ≡ with_bucket v w → HoldsBucket b x →
+    IsBacked z n x → held_number h ≡ b → Keeps (held_records h) part → Holds x h
 taken_holds z n v w x b part h first only is has backed same keeps = record {
   has = subst (λ m. HoldsBucket m x) (sym same) has;
   keeps = subst (Keeps (held_records h)) (sym (ap bucket is ∙ bucket_joined v w b part first only)) keeps;
@@ -94,15 +96,34 @@ taken_holds z n v w x b part h first only is has backed same keeps = record {
 
 -- ---- a step leaves it
 
-pub session_holds : (h : Held) (j b : ℕ) (s : SessionPart) (part : BucketPart) (rest : List Part) (sights : List Sight) (events : List Event) → b ≡ held_number h → Keeps (held_records h) part → AreOrdered part.content → Holds (seeing (OfSession j s ∷ OfBucket b part ∷ rest) sights events) h
-session_holds h j b s part rest sights events same k o = record { has = subst (λ m. HoldsBucket m (seeing (OfSession j s ∷ OfBucket b part ∷ rest) sights events)) same (refl, (refl, tt)); keeps = k; ordered = o }
+pub session_holds : (h : Held) (j b : ℕ) (s : SessionPart) (part : BucketPart) (rest : List Part) (sights : List Sight) (events : List Event) → b ≡ held_number h →
+    Keeps (held_records h) part → AreOrdered part.content → Holds (seeing (OfSession j s ∷ OfBucket b part ∷ rest) sights events) h
+session_holds h j b s part rest sights events same k o = record {
+  has = subst (λ m. HoldsBucket m (seeing (OfSession j s ∷ OfBucket b part ∷ rest) sights events)) same
+      (refl, (refl, tt));
+  keeps = k;
+  ordered = o;
+}
 
-pub away_holds : (h : Held) (j b n : ℕ) (s : SessionPart) (part : BucketPart) (rest : List Part) (sights : List Sight) (events : List Event) → b ≡ held_number h → Keeps (held_records h) part → AreOrdered part.content → Holds (seeing (Away j s n ∷ OfBucket b part ∷ rest) sights events) h
-away_holds h j b n s part rest sights events same k o = record { has = subst (λ m. HoldsBucket m (seeing (Away j s n ∷ OfBucket b part ∷ rest) sights events)) same (refl, (refl, tt)); keeps = k; ordered = o }
+pub away_holds : (h : Held) (j b n : ℕ) (s : SessionPart) (part : BucketPart) (rest : List Part) (sights : List Sight) (events : List Event) → b ≡ held_number h →
+    Keeps (held_records h) part → AreOrdered part.content → Holds (seeing (Away j s n ∷ OfBucket b part ∷ rest) sights events) h
+away_holds h j b n s part rest sights events same k o = record {
+  has = subst (λ m. HoldsBucket m (seeing (Away j s n ∷ OfBucket b part ∷ rest) sights events)) same
+      (refl, (refl, tt));
+  keeps = k;
+  ordered = o;
+}
 
 visiting_still : (b n : ℕ) (kind : Kind) (visits : List Visit) → IsVisiting b visits → IsVisiting b (removing kind n visits)
 visiting_still b n kind [] i = i
 visiting_still b n kind (x ∷ visits) i = i
 
-pub pass_holds : (h : Held) (p b n : ℕ) (kind : Kind) (r : PassPart) (part : BucketPart) (rest : List Part) (sights : List Sight) (events : List Event) → b ≡ held_number h → IsVisiting b r.visits → Keeps (held_records h) part → AreOrdered part.content → Holds (seeing (OfPass p (record r { visits = removing kind n r.visits }) ∷ OfBucket b part ∷ rest) sights events) h
-pass_holds h p b n kind r part rest sights events same visits k o = record { has = subst (λ m. HoldsBucket m (seeing (OfPass p (record r { visits = removing kind n r.visits }) ∷ OfBucket b part ∷ rest) sights events)) same (refl, (refl, visiting_still b n kind r.visits visits)); keeps = k; ordered = o }
+pub pass_holds : (h : Held) (p b n : ℕ) (kind : Kind) (r : PassPart) (part : BucketPart) (rest : List Part) (sights : List Sight) (events : List Event) → b ≡ held_number h →
+    IsVisiting b r.visits → Keeps (held_records h) part → AreOrdered part.content → Holds (seeing (OfPass p (record r { visits = removing kind n r.visits }) ∷ OfBucket b part ∷ rest) sights events) h
+pass_holds h p b n kind r part rest sights events same visits k o = record {
+  has = subst
+      (λ m. HoldsBucket m (seeing (OfPass p (record r { visits = removing kind n r.visits }) ∷ OfBucket b part ∷ rest) sights events)) same
+      (refl, (refl, visiting_still b n kind r.visits visits));
+  keeps = k;
+  ordered = o;
+}

@@ -18,6 +18,7 @@ pub mod Mine
 pub mod Deciding
 pub mod Storing
 pub mod Owning
+pub mod Firsts
 -- A pass through a table, and what it costs.
 pub mod Clearing
 pub mod Rounding

@@ -55,7 +55,8 @@ module _ (z : Sizes) (n : ℕ) (v : View) (k : IsBacked z n v) (own : HasSession
   same_open r = ap (open_in r) session_shown.1.0
 
   -- where none of its writes of the record has the next number
-  first_open : HasBucket v → (r : Rid) → bucket_of z.buckets r ≡ bucket_number v → IsSome (open_in r (session v).log) → is_stamped (number v) r k.state.stamped_list ≡ false → IsOpenBy (writer v) (held v r)
+  first_open : HasBucket v → (r : Rid) → bucket_of z.buckets r ≡ bucket_number v → IsSome (open_in r (session v).log) → is_stamped (number v) r k.state.stamped_list ≡ false →
+      IsOpenBy (writer v) (held v r)
   first_open has r here some unstamped = go (open_in r (session v).log) refl some
     where
       same : versions k.state.buckets k.state.bucket r ≡ held v r
@@ -66,16 +67,19 @@ module _ (z : Sizes) (n : ℕ) (v : View) (k : IsBacked z n v) (own : HasSession
       go (Some image) e some =
           let out = k.steady.open_writes_stand.owns r (number v) image (same_open r ∙ e) in
           let bare = k.steady.stamped_is_next.exact r (writer_of (begun_in k.state.log) (number v)) image out ∙ unstamped in
-          subst (λ w. IsOpenBy w (held v r)) same_writer (subst (IsOpenBy (writer_of (begun_in k.state.log) (number v))) same (open_of k.state.mark (writer_of (begun_in k.state.log) (number v)) image (versions k.state.buckets k.state.bucket r) out bare))
+          subst (λ w. IsOpenBy w (held v r)) same_writer (subst (IsOpenBy (writer_of (begun_in k.state.log) (number v))) same
+          (open_of k.state.mark (writer_of (begun_in k.state.log) (number v)) image (versions k.state.buckets k.state.bucket r) out bare))
 
   -- while no write of the session has the next number
   pub mine_unstamped : HasBucket v → (r : Rid) → bucket_of z.buckets r ≡ bucket_number v → IsSome (open_in r (session v).log) → (session v).stamped ≡ false → IsOpenBy (writer v) (held v r)
   mine_unstamped has r here some none = first_open has r here some (none_stamped (number v) r k.state.stamped_list (session_shown.1.1 ∙ none))
 
   -- with the committer's part behind, whose list doesn't have it
-  pub mine_unlisted : HasBoth v → (r : Rid) → bucket_of z.buckets r ≡ bucket_number v → IsSome (open_in r (session v).log) → is_stamped (number v) r (commit_behind v).stamped ≡ false → IsOpenBy (writer v) (held v r)
+  pub mine_unlisted : HasBoth v → (r : Rid) → bucket_of z.buckets r ≡ bucket_number v → IsSome (open_in r (session v).log) →
+      is_stamped (number v) r (commit_behind v).stamped ≡ false → IsOpenBy (writer v) (held v r)
   mine_unlisted both r here some none =
-      let all : Each (Shown k.state) (OfSession (number v) (session v) ∷ OfBucket (bucket_number v) (bucket v) ∷ OfCommit (commit_behind v) ∷ farther v) = subst (Each (Shown k.state)) (own ∙ ap (λ ps. OfSession (number v) (session v) ∷ ps) both) k.true_of.parts in
+      let all : Each (Shown k.state) (OfSession (number v) (session v) ∷ OfBucket (bucket_number v) (bucket v) ∷ OfCommit (commit_behind v) ∷ farther v) = subst
+      (Each (Shown k.state)) (own ∙ ap (λ ps. OfSession (number v) (session v) ∷ ps) both) k.true_of.parts in
       first_open has r here some (ap (is_stamped (number v) r) all.1.1.0.1.0 ∙ none)
     where
       has : HasBucket v
@@ -85,6 +89,7 @@ module _ (z : Sizes) (n : ℕ) (v : View) (k : IsBacked z n v) (own : HasSession
   pub mine_logged : HasBucket v → (r : Rid) → bucket_of z.buckets r ≡ bucket_number v → IsOpenBy (writer v) (held v r) → IsSome (open_in r (session v).log)
   mine_logged has r here mine =
       let same = held_is z n (bucket_number v) v k (session_holds_bucket v own has) r here in
-      let back : IsOpenBy (writer_of (begun_in k.state.log) (number v)) (versions k.state.buckets k.state.bucket r) = subst (IsOpenBy (writer_of (begun_in k.state.log) (number v))) (sym same) (subst (λ w. IsOpenBy w (held v r)) (sym same_writer) mine) in
+      let back : IsOpenBy (writer_of (begun_in k.state.log) (number v)) (versions k.state.buckets k.state.bucket r) = subst (IsOpenBy (writer_of (begun_in k.state.log) (number v)))
+      (sym same) (subst (λ w. IsOpenBy w (held v r)) (sym same_writer) mine) in
       let out = unpublished_of k.state.mark (writer_of (begun_in k.state.log) (number v)) (versions k.state.buckets k.state.bucket r) back in
       ap is_some (sym (same_open r) ∙ (k.steady.open_writes_stand.owned r (writer_of (begun_in k.state.log) (number v)) out.0 out.1).1)

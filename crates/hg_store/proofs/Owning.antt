@@ -65,7 +65,8 @@ open_after : (r : Rid) (o : Option Answer) (log : List LogEntry) → open_in r (
 open_after r None log = refl
 open_after r (Some a) log = refl
 
-module _ (z : Sizes) (n : ℕ) (v w : View) (h : Held) (r : Rid) (hold : Holds v h) (k : Looks v (Write r) n w) (backed : IsBacked z n w) (own : HasSession w) (here : bucket_of z.buckets r ≡ held_number h) where
+module _ (z : Sizes) (n : ℕ) (v w : View) (h : Held) (r : Rid) (hold : Holds v h) (k : Looks v (Write r) n w) (backed : IsBacked z n w) (own : HasSession w)
+    (here : bucket_of z.buckets r ≡ held_number h) where
   now : Holds w h
   now = look_holds v w h (Write r) n hold k
 
@@ -85,7 +86,8 @@ module _ (z : Sizes) (n : ℕ) (v w : View) (h : Held) (r : Rid) (hold : Holds v
       bare : (session w).stamped ≡ false
       bare = ap (λ (x : View). (session x).stamped) k.after ∙ unstamped
 
-      go : (o : Option Image) (b : Bool) → open_in r (session v).log ≡ o → begins_open (writer v) (map kept (held v r)) ≡ b → begins_open (writer v) (versions_of (held_records h).records r) ≡ is_some (open_in r (session v).log)
+      go : (o : Option Image) (b : Bool) → open_in r (session v).log ≡ o → begins_open (writer v) (map kept (held v r)) ≡ b →
+          begins_open (writer v) (versions_of (held_records h).records r) ≡ is_some (open_in r (session v).log)
       go None false e f = ap (begins_open (writer v)) (hold.keeps.versions r) ∙ (f ∙ ap is_some (sym e))
       go None true e f =
           let mine = open_back (writer v) (held v r) f in
@@ -111,7 +113,8 @@ module _ (z : Sizes) (n : ℕ) (v w : View) (h : Held) (r : Rid) (hold : Holds v
           go true e = none-some (open_by o) e
           go false e = cc
 
-      go : (p : Option (Writer × Image)) → option_and_then refusal_of (refused_by (writer v) p (refused_over (snapshot v) (newest_at n (held v r)))) ≡ Some (open_by o) → same_writer o (writer v) ≡ false
+      go : (p : Option (Writer × Image)) → option_and_then refusal_of (refused_by (writer v) p (refused_over (snapshot v) (newest_at n (held v r)))) ≡ Some (open_by o) →
+          same_writer o (writer v) ≡ false
       go None e = absurd (late (newest_at n (held v r)) e)
       go (Some p) e = theirs (same_writer p.0 (writer v)) refl e
         where
@@ -158,5 +161,7 @@ module _ (z : Sizes) (n : ℕ) (v w : View) (h : Held) (r : Rid) (hold : Holds v
           let wrong : true ≡ false = sym (writer_itself (writer v)) ∙ (ap (λ x. same_writer x (writer v)) (sym mine) ∙ apart o c) in
           absurd (let q = wrong in cc)
 
-  pub owner_told : {S T : Type 0} (found : Result S WriteRefusal) (answer : Result T WriteRefusal) (e : WriteRefusal) → Decided z n v r → found ≡ Err e → answer ≡ Err e → IfErr found (bucket_words.IsCause (writer v) (snapshot v) n (versions_of (held_records h).records r)) → IfErr answer (IsAnothers z (number v))
-  owner_told found answer e d is same why = subst (λ x. IfErr x (IsAnothers z (number v))) (sym same) (anothers e (same_cause z n v h r e hold d (subst (λ x. IfErr x (bucket_words.IsCause (writer v) (snapshot v) n (versions_of (held_records h).records r))) is why)))
+  pub owner_told : {S T : Type 0} (found : Result S WriteRefusal) (answer : Result T WriteRefusal) (e : WriteRefusal) → Decided z n v r → found ≡ Err e → answer ≡ Err e →
+      IfErr found (bucket_words.IsCause (writer v) (snapshot v) n (versions_of (held_records h).records r)) → IfErr answer (IsAnothers z (number v))
+  owner_told found answer e d is same why = subst (λ x. IfErr x (IsAnothers z (number v))) (sym same)
+      (anothers e (same_cause z n v h r e hold d (subst (λ x. IfErr x (bucket_words.IsCause (writer v) (snapshot v) n (versions_of (held_records h).records r))) is why)))

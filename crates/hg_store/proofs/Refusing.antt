@@ -31,7 +31,8 @@ over_is n at = go (nat_lt at n) (nat_le n at) (grind (arith, nat_tests))
     go true true e = absurd cc
     go false false e = absurd cc
 
-pub conflict_kept : (mark : ℕ) (w : Writer) (at : ℕ) (vs : List Version) → IsOrdered mark vs → IsUnstamped mark w vs → conflict w at mark (map kept vs) ≡ option_and_then refusal_of (refusal mark w at vs)
+pub conflict_kept : (mark : ℕ) (w : Writer) (at : ℕ) (vs : List Version) → IsOrdered mark vs → IsUnstamped mark w vs →
+    conflict w at mark (map kept vs) ≡ option_and_then refusal_of (refusal mark w at vs)
 conflict_kept mark w at [] o u = refl
 conflict_kept mark w at (v ∷ vs) o u = go v.stamp o u
   where
@@ -39,7 +40,8 @@ conflict_kept mark w at (v ∷ vs) o u = go v.stamp o u
     by_open by true = refl
     by_open by false = refl
 
-    go : (x : Stamp) → IsOrdered mark (record { stamp = x; image = v.image } ∷ vs) → IsUnstamped mark w (record { stamp = x; image = v.image } ∷ vs) → conflict w at mark (map kept (record { stamp = x; image = v.image } ∷ vs)) ≡ option_and_then refusal_of (refusal mark w at (record { stamp = x; image = v.image } ∷ vs))
+    go : (x : Stamp) → IsOrdered mark (record { stamp = x; image = v.image } ∷ vs) → IsUnstamped mark w (record { stamp = x; image = v.image } ∷ vs) →
+        conflict w at mark (map kept (record { stamp = x; image = v.image } ∷ vs)) ≡ option_and_then refusal_of (refusal mark w at (record { stamp = x; image = v.image } ∷ vs))
     go (Written by) f u = by_open by (same_writer by w)
     go (Numbered n by) f u = published (nat_le n mark) (nat_lt mark n) (grind (arith, nat_tests)) refl
       where
@@ -50,8 +52,11 @@ conflict_kept mark w at (v ∷ vs) o u = go v.stamp o u
         theirs true s late = absurd (mine late s)
         theirs false s late = refl
 
-        published : (a b : Bool) → b ≡ cond a false true → nat_le n mark ≡ a → option_or (option_map open_by (cond b (Some by) None)) (option_map Newer (cond (nat_lt at n) (Some n) None)) ≡ option_and_then refusal_of (refused_by w (cond a None (Some (by, v.image))) (refused_over at (newest_at mark (record { stamp = Numbered n by; image = v.image } ∷ vs))))
-        published true false e k = over_is n at ∙ ap (λ b. option_and_then refusal_of (refused_over at (pair_of (cond b (Some (record { stamp = Numbered n by; image = v.image })) (first_at mark vs))))) (sym k)
+        published : (a b : Bool) → b ≡ cond a false true → nat_le n mark ≡ a →
+            option_or (option_map open_by (cond b (Some by) None)) (option_map Newer (cond (nat_lt at n) (Some n) None)) ≡ option_and_then refusal_of
+            (refused_by w (cond a None (Some (by, v.image))) (refused_over at (newest_at mark (record { stamp = Numbered n by; image = v.image } ∷ vs))))
+        published true false e k = over_is n at ∙ ap (λ b. option_and_then refusal_of
+            (refused_over at (pair_of (cond b (Some (record { stamp = Numbered n by; image = v.image })) (first_at mark vs))))) (sym k)
         published false true e k = theirs (same_writer by w) refl k
         published true true e k = absurd cc
         published false false e k = absurd cc
@@ -76,7 +81,8 @@ pub free_of : (mark : ℕ) (w : Writer) (at : ℕ) (vs : List Version) → IsOrd
 free_of mark w at [] o u none = tt
 free_of mark w at (v ∷ vs) o u none = go v.stamp o u none
   where
-    go : (x : Stamp) → IsOrdered mark (record { stamp = x; image = v.image } ∷ vs) → IsUnstamped mark w (record { stamp = x; image = v.image } ∷ vs) → refusal mark w at (record { stamp = x; image = v.image } ∷ vs) ≡ None → IsFreeFor mark w (record { stamp = x; image = v.image } ∷ vs)
+    go : (x : Stamp) → IsOrdered mark (record { stamp = x; image = v.image } ∷ vs) → IsUnstamped mark w (record { stamp = x; image = v.image } ∷ vs) →
+        refusal mark w at (record { stamp = x; image = v.image } ∷ vs) ≡ None → IsFreeFor mark w (record { stamp = x; image = v.image } ∷ vs)
     go (Written by) f u none = mine (same_writer by w) refl none
       where
         mine : (b : Bool) → same_writer by w ≡ b → cond b None (Some (answers.OpenBy by)) ≡ None → by ≡ w
@@ -84,7 +90,8 @@ free_of mark w at (v ∷ vs) o u none = go v.stamp o u none
         mine false s k = absurd cc
     go (Numbered n by) f u none = published (nat_le n mark) refl none
       where
-        published : (a : Bool) → nat_le n mark ≡ a → refused_by w (cond a None (Some (by, v.image))) (refused_over at (newest_at mark (record { stamp = Numbered n by; image = v.image } ∷ vs))) ≡ None → n ≤ mark
+        published : (a : Bool) → nat_le n mark ≡ a → refused_by w (cond a None (Some (by, v.image)))
+            (refused_over at (newest_at mark (record { stamp = Numbered n by; image = v.image } ∷ vs))) ≡ None → n ≤ mark
         published true k e = grind (arith, nat_tests)
         published false k e = theirs (same_writer by w) refl e
           where

@@ -52,7 +52,8 @@ pub record Rounds (kind : Kind) (table : TableId) (keys : List ℕ) (v w : View)
   pub others : (r : Rid) → (r.table ≡ table → ⊥) → held w r ≡ held v r
   pub counts : Counts v kind gone w
 
-pub round_begins : (kind : Kind) (does : List Kept → List Kept) (table : TableId) (keys : List ℕ) (v : View) (h : Held) → Holds v h → Does kind table (record_of (pass v)) does → AreLong keys table (held_records h).records → Rounds kind table keys v v (length keys) 0
+pub round_begins : (kind : Kind) (does : List Kept → List Kept) (table : TableId) (keys : List ℕ) (v : View) (h : Held) → Holds v h → Does kind table (record_of (pass v)) does →
+    AreLong keys table (held_records h).records → Rounds kind table keys v v (length keys) 0
 round_begins kind does table keys v h hold d long = record {
   clears = record { visited = []; once = tt; are_long = tt; steps = refl };
   behind = tt;
@@ -66,26 +67,34 @@ round_begins kind does table keys v h hold d long = record {
 }
 
 -- what is long in the bucket is long in the view
-long_seen : (table : TableId) (keys : List ℕ) (v : View) (h : Held) (at k : ℕ) → Holds v h → AreLong keys table (held_records h).records → slice_get keys at ≡ Some k → is_long (map kept (held v (record_at table k))) ≡ true
+long_seen : (table : TableId) (keys : List ℕ) (v : View) (h : Held) (at k : ℕ) → Holds v h → AreLong keys table (held_records h).records → slice_get keys at ≡ Some k →
+    is_long (map kept (held v (record_at table k))) ≡ true
 long_seen table keys v h at k hold long there = ap is_long (sym (hold.keeps.versions (record_at table k))) ∙ long.long at k there
 
 -- a key of the list is that of a record of the bucket
-pub key_here : (z : Sizes) (n : ℕ) (table : TableId) (keys : List ℕ) (v : View) (h : Held) (at k : ℕ) → IsBacked z n v → Holds v h → AreLong keys table (held_records h).records → slice_get keys at ≡ Some k → bucket_of z.buckets (record_at table k) ≡ held_number h
-key_here z n table keys v h at k backed hold long there = long_there z n (held_number h) v (record_at table k) (placed_at z n (held_number h) v backed hold.has) (long_seen table keys v h at k hold long there)
+pub key_here : (z : Sizes) (n : ℕ) (table : TableId) (keys : List ℕ) (v : View) (h : Held) (at k : ℕ) → IsBacked z n v → Holds v h → AreLong keys table (held_records h).records →
+    slice_get keys at ≡ Some k → bucket_of z.buckets (record_at table k) ≡ held_number h
+key_here z n table keys v h at k backed hold long there = long_there z n (held_number h) v (record_at table k) (placed_at z n (held_number h) v backed hold.has)
+    (long_seen table keys v h at k hold long there)
 
 -- the record of the key at l, which is the last of those to come, is reclaimed
-pub round_goes : (kind : Kind) (table : TableId) (keys : List ℕ) (v w x : View) (h : Held) (many l k gone : ℕ) → many ≡ l + 1 → Holds v h → AreLong keys table (held_records h).records → slice_get keys l ≡ Some k
+pub round_goes : (kind : Kind) (table : TableId) (keys : List ℕ) (v w x : View) (h : Held) (many l k gone : ℕ) → many ≡ l + 1 → Holds v h →
+    AreLong keys table (held_records h).records → slice_get keys l ≡ Some k
     → Rounds kind table keys v w many gone → Reclaims w (record_at table k) kind x → Rounds kind table keys v x l (gone + removed_of w (record_at table k) kind)
 round_goes kind table keys v w x h many l k gone is hold long there round step = record {
   clears = record {
     visited = round.clears.visited ++ r ∷ [];
-    once = once_last table k round.clears.visited round.clears.once (each_weaker (λ (q : Rid). IsPast keys many q.key) (λ (q : Rid). k ≡ q.key → ⊥) round.clears.visited (λ q past same. past l (omega (arith, is)) (there ∙ ap Some same)) round.behind);
+    once = once_last table k round.clears.visited round.clears.once (each_weaker (λ (q : Rid). IsPast keys many q.key) (λ (q : Rid). k ≡ q.key → ⊥) round.clears.visited
+        (λ q past same. past l (omega (arith, is)) (there ∙ ap Some same)) round.behind);
     are_long = each_more (IsLongOf table v) round.clears.visited r round.clears.are_long (refl, long_seen table keys v h l k hold long there);
     steps = reclaims_more v w x round.clears.visited r kind round.clears.steps step;
   };
-  behind = each_more (λ (q : Rid). IsPast keys l q.key) round.clears.visited r (each_weaker (λ (q : Rid). IsPast keys many q.key) (λ (q : Rid). IsPast keys l q.key) round.clears.visited (λ q past at less. past at (omega (arith, is, less))) round.behind) (λ at less again. let same = long.once at l k again there in absurd (omega (arith, less, same)));
+  behind = each_more (λ (q : Rid). IsPast keys l q.key) round.clears.visited r
+      (each_weaker (λ (q : Rid). IsPast keys many q.key) (λ (q : Rid). IsPast keys l q.key) round.clears.visited (λ q past at less. past at (omega (arith, is, less))) round.behind)
+      (λ at less again. let same = long.once at l k again there in absurd (omega (arith, less, same)));
   done = λ m past. done m past (k == m) refl;
-  rest = λ at m less stands. held_apart w x r kind step (record_at table m) (keys_apart table k m (λ same. let both = long.once l at k there (stands ∙ ap Some (sym same)) in omega (arith, less, both))) ∙ round.rest at m (omega (arith, is, less)) stands;
+  rest = λ at m less stands. held_apart w x r kind step (record_at table m) (keys_apart table k m (λ same. let both = long.once l at k there (stands ∙ ap Some (sym same)) in
+      omega (arith, less, both))) ∙ round.rest at m (omega (arith, is, less)) stands;
   others = λ q apart. held_apart w x r kind step q (tables_apart table k q apart) ∙ round.others q apart;
   counts = counts_more v w x kind gone r round.counts step;
 }
@@ -111,9 +120,12 @@ round_goes kind table keys v w x h many l k gone is hold long there round step =
         let apart : k ≡ m → ⊥ = λ same. grind (arith, nat_tests, e, same) in
         held_apart w x r kind step (record_at table m) (keys_apart table k m apart) ∙ round.done m (still m past apart)
 
-pub round_ends : (kind : Kind) (table : TableId) (keys : List ℕ) (v w : View) (many gone : ℕ) → many ≡ 0 → Rounds kind table keys v w many gone → (k : ℕ) → held w (record_at table k) ≡ left_of v (record_at table k) kind
+pub round_ends : (kind : Kind) (table : TableId) (keys : List ℕ) (v w : View) (many gone : ℕ) → many ≡ 0 → Rounds kind table keys v w many gone → (k : ℕ) →
+    held w (record_at table k) ≡ left_of v (record_at table k) kind
 round_ends kind table keys v w many gone is round k = round.done k (λ at less stands. absurd (omega (arith, is, less)))
 
 -- what a bucket keeps of a record that is still to come
-pub kept_at : (kind : Kind) (table : TableId) (keys : List ℕ) (v w : View) (h h' : Held) (many l k gone : ℕ) → Holds v h → Holds w h' → Rounds kind table keys v w many gone → l < many → slice_get keys l ≡ Some k → versions_of (held_records h').records (record_at table k) ≡ versions_of (held_records h).records (record_at table k)
-kept_at kind table keys v w h h' many l k gone hold now round less there = now.keeps.versions (record_at table k) ∙ ap (map kept) (round.rest l k less there) ∙ sym (hold.keeps.versions (record_at table k))
+pub kept_at : (kind : Kind) (table : TableId) (keys : List ℕ) (v w : View) (h h' : Held) (many l k gone : ℕ) → Holds v h → Holds w h' → Rounds kind table keys v w many gone →
+    l < many → slice_get keys l ≡ Some k → versions_of (held_records h').records (record_at table k) ≡ versions_of (held_records h).records (record_at table k)
+kept_at kind table keys v w h h' many l k gone hold now round less there = now.keeps.versions (record_at table k) ∙ ap (map kept) (round.rest l k less there) ∙
+    sym (hold.keeps.versions (record_at table k))

@@ -24,7 +24,8 @@ pub find_kept : (n : ℕ) (vs : List Version) → find (is_at_most n) (map kept 
 find_kept n [] = refl
 find_kept n (v ∷ vs) = go (is_at_most n (kept v)) (is_up_to n (stamp_number v.stamp)) (at_most_kept n v.stamp v.image) (find_kept n vs)
   where
-    go : (a b : Bool) → a ≡ b → find (is_at_most n) (map kept vs) ≡ option_map kept (first_at n vs) → cond a (Some (kept v)) (find (is_at_most n) (map kept vs)) ≡ option_map kept (cond b (Some v) (first_at n vs))
+    go : (a b : Bool) → a ≡ b → find (is_at_most n) (map kept vs) ≡ option_map kept (first_at n vs) →
+        cond a (Some (kept v)) (find (is_at_most n) (map kept vs)) ≡ option_map kept (cond b (Some v) (first_at n vs))
     go true true e rest = refl
     go false false e rest = rest
     go true false e rest = absurd cc
@@ -50,7 +51,8 @@ pub image_first : (n : ℕ) (vs : List Version) → image_of (newest_at n vs) �
 image_first n [] = refl
 image_first n (v ∷ vs) = go (is_up_to n (stamp_number v.stamp)) refl (image_first n vs)
   where
-    go : (b : Bool) → is_up_to n (stamp_number v.stamp) ≡ b → image_of (newest_at n vs) ≡ unwrap_or (option_map (λ (v : Version). v.image) (first_at n vs)) nothing → image_of (pair_of (cond b (Some v) (first_at n vs))) ≡ unwrap_or (option_map (λ (v : Version). v.image) (cond b (Some v) (first_at n vs))) nothing
+    go : (b : Bool) → is_up_to n (stamp_number v.stamp) ≡ b → image_of (newest_at n vs) ≡ unwrap_or (option_map (λ (v : Version). v.image) (first_at n vs)) nothing →
+        image_of (pair_of (cond b (Some v) (first_at n vs))) ≡ unwrap_or (option_map (λ (v : Version). v.image) (cond b (Some v) (first_at n vs))) nothing
     go true e rest = image_paired n (stamp_number v.stamp) v.image e
     go false e rest = rest
 
@@ -76,11 +78,14 @@ pub read_kept : (mark : ℕ) (w : Writer) (n : ℕ) (vs : List Version) → IsOr
 read_kept mark w n [] o = refl
 read_kept mark w n (v ∷ vs) o = go v.stamp o
   where
-    open_first : (by : Writer) → find (is_open_by w) (map kept vs) ≡ None → (b : Bool) → same_writer by w ≡ b → unwrap_or (option_map (λ (k : Kept). k.image) (option_or (cond b (Some (kept_as (Written by) v.image)) (find (is_open_by w) (map kept vs))) (find (is_at_most n) (map kept vs)))) nothing ≡ cond b v.image (image_of (newest_at n vs))
+    open_first : (by : Writer) → find (is_open_by w) (map kept vs) ≡ None → (b : Bool) → same_writer by w ≡ b →
+        unwrap_or (option_map (λ (k : Kept). k.image) (option_or (cond b (Some (kept_as (Written by) v.image)) (find (is_open_by w) (map kept vs)))
+        (find (is_at_most n) (map kept vs)))) nothing ≡ cond b v.image (image_of (newest_at n vs))
     open_first by none true e = refl
     open_first by none false e = unowned w n vs none
 
-    go : (x : Stamp) → IsOrdered mark (record { stamp = x; image = v.image } ∷ vs) → unwrap_or (read_at w n (map kept (record { stamp = x; image = v.image } ∷ vs))) nothing ≡ read_by w n (record { stamp = x; image = v.image } ∷ vs)
+    go : (x : Stamp) → IsOrdered mark (record { stamp = x; image = v.image } ∷ vs) →
+        unwrap_or (read_at w n (map kept (record { stamp = x; image = v.image } ∷ vs))) nothing ≡ read_by w n (record { stamp = x; image = v.image } ∷ vs)
     go (Written by) f = open_first by (none_open w (suc mark) vs f) (same_writer by w) refl
     go (Numbered number by) f = unowned w n (record { stamp = Numbered number by; image = v.image } ∷ vs) (none_open w number vs f.1)
     go (Oldest number) f = unowned w n (record { stamp = Oldest number; image = v.image } ∷ vs) (none_open w number vs f.1)

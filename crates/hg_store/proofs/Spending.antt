@@ -57,7 +57,8 @@ length_kept : (vs : List Version) → length (map kept vs) ≡ length vs
 length_kept [] = refl
 length_kept (v ∷ vs) = ap suc (length_kept vs)
 
-cost_sum : (t : TableId) (n : ℕ) (records : List (Rid × List Kept)) (v : View) (keys : List ℕ) → ((r : Rid) → versions_of records r ≡ map kept (held v r)) → keys_cost t n records keys ≤ sum_by (λ r. length (held v r) + n) (records_at t keys)
+cost_sum : (t : TableId) (n : ℕ) (records : List (Rid × List Kept)) (v : View) (keys : List ℕ) → ((r : Rid) → versions_of records r ≡ map kept (held v r)) →
+    keys_cost t n records keys ≤ sum_by (λ r. length (held v r) + n) (records_at t keys)
 unfolding records_at
 cost_sum t n records v [] keep = omega arith
 cost_sum t n records v (k ∷ keys) keep =
@@ -66,7 +67,8 @@ cost_sum t n records v (k ∷ keys) keep =
     let same : length (versions_of records r) ≡ length (held v r) = ap length (keep r) ∙ length_kept (held v r) in
     omega (arith, most, same, cost_sum t n records v keys keep, sum_by-cons (key_cost t n records) k keys, sum_by-cons (λ r. length (held v r) + n) r (records_at t keys))
 
-pub spends_keys : (t : TableId) (n before after : ℕ) (v : View) (h : Held) (keys : List ℕ) → Holds v h → AreLong keys t (held_records h).records → after ≤ before + keys_cost t n (held_records h).records keys → Spends v t n before after
+pub spends_keys : (t : TableId) (n before after : ℕ) (v : View) (h : Held) (keys : List ℕ) → Holds v h → AreLong keys t (held_records h).records →
+    after ≤ before + keys_cost t n (held_records h).records keys → Spends v t n before after
 spends_keys t n before after v h keys hold long few = record {
   looked = records_at t keys;
   once = none_twice t keys long.once;

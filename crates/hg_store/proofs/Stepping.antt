@@ -44,7 +44,8 @@ use Rattle.hg_store.proofs.Holding.{number_is, ordered_at, session_holds, away_h
 
 -- ---- a key
 
-none_there : (records : List (Rid × List Kept)) (table : TableId) (from : ℕ) (found : Option ℕ) → IsNextKey records table from found → (k : ℕ) → from ≤ k → IfSome found (λ key. k < key) → IsThere records table k → ⊥
+none_there : (records : List (Rid × List Kept)) (table : TableId) (from : ℕ) (found : Option ℕ) → IsNextKey records table from found → (k : ℕ) → from ≤ k →
+    IfSome found (λ key. k < key) → IsThere records table k → ⊥
 none_there records table from None next k le below there = next k le there
 none_there records table from (Some key) next k le below there = let least = next.2 k le there in absurd (omega (arith, least, below))
 
@@ -53,10 +54,14 @@ empty_of (Some ks) vs none e = absurd (none refl)
 empty_of None [] none e = refl
 empty_of None (v ∷ vs) none e = absurd cc
 
-pub none_between : (h : Held) (v : View) (table : TableId) (from : ℕ) (found : Option ℕ) → Holds v h → IsNextKey (held_records h).records table from found → (k : ℕ) → from ≤ k → IfSome found (λ key. k < key) → look (bucket_words.record_at table k) (bucket v).content ≡ []
-none_between h v table from found hold next k le below = empty_of _ (look (bucket_words.record_at table k) (bucket v).content) (none_there (held_records h).records table from found next k le below) (hold.keeps.versions (bucket_words.record_at table k))
+pub none_between : (h : Held) (v : View) (table : TableId) (from : ℕ) (found : Option ℕ) → Holds v h → IsNextKey (held_records h).records table from found → (k : ℕ) → from ≤ k →
+    IfSome found (λ key. k < key) → look (bucket_words.record_at table k) (bucket v).content ≡ []
+none_between h v table from found hold next k le below = empty_of _ (look (bucket_words.record_at table k) (bucket v).content)
+    (none_there (held_records h).records table from found next k le below) (hold.keeps.versions (bucket_words.record_at table k))
 
-pub some_there : (h : Held) (v : View) (table : TableId) (found : Option ℕ) → Holds v h → IfSome found (λ key. 0 < length (versions_of (held_records h).records (bucket_words.record_at table key))) → IfSome found (λ key. 0 < length (look (bucket_words.record_at table key) (bucket v).content))
+pub some_there : (h : Held) (v : View) (table : TableId) (found : Option ℕ) → Holds v h →
+    IfSome found (λ key. 0 < length (versions_of (held_records h).records (bucket_words.record_at table key))) →
+    IfSome found (λ key. 0 < length (look (bucket_words.record_at table key) (bucket v).content))
 some_there h v table None hold there = tt
 some_there h v table (Some key) hold there =
     let same = ap length (hold.keeps.versions (bucket_words.record_at table key)) ∙ kept_length (look (bucket_words.record_at table key) (bucket v).content) in
@@ -67,13 +72,15 @@ some_there h v table (Some key) hold there =
 pub look_holds : (v w : View) (h : Held) (ask : Ask) (n : ℕ) → Holds v h → Looks v ask n w → Holds w h
 look_holds v w h ask n hold k =
     subst (λ x. Holds x h)
-    (sym (k.after ∙ ap (λ ps. then_has v (OfSession (number v) (with_log (log_asked v ask n k.rows) (session v)) ∷ ps) (Saw (groups k.history) ∷ Heard (number v) (log_asked v ask n k.rows) ∷ []) (LookEvent (number v) ask n)) hold.has.1.0))
+    (sym (k.after ∙ ap (λ ps. then_has v (OfSession (number v) (with_log (log_asked v ask n k.rows) (session v)) ∷ ps)
+    (Saw (groups k.history) ∷ Heard (number v) (log_asked v ask n k.rows) ∷ k.heard) (LookEvent (number v) ask n)) hold.has.1.0))
     (session_holds h (number v) (held_number h) (with_log (log_asked v ask n k.rows) (session v)) (bucket v) (beyond v) _ _ refl hold.keeps hold.ordered)
 
 -- ---- an undo
 
 pub undo_holds : (v w : View) (h h' : Held) (r : Rid) → Holds v h → held_number h' ≡ held_number h → IsOpenBy (writer v) (held v r) → Undoes v r w
-    → versions_of (held_records h').records r ≡ drop 1 (versions_of (held_records h).records r) → OthersStay (held_records h).records (held_records h').records r → held_records h' ≡ record (held_records h) { records = (held_records h').records; long = (held_records h').long; undone = (held_records h).undone + 1 } → Holds w h'
+    → versions_of (held_records h').records r ≡ drop 1 (versions_of (held_records h).records r) → OthersStay (held_records h).records (held_records h').records r →
+    held_records h' ≡ record (held_records h) { records = (held_records h').records; long = (held_records h').long; undone = (held_records h).undone + 1 } → Holds w h'
 undo_holds v w h h' r hold same mine step here others counters =
     subst (λ x. Holds x h') (sym step) (session_holds h' (number v) (bucket_number v) _ (undoing r (bucket v)) (beyond v) _ _ (number_is (held_number h) v hold.has ∙ sym same)
     (undo_kept (held_records h) (held_records h') (bucket v) r hold.keeps here others counters)
@@ -83,20 +90,26 @@ undo_holds v w h h' r hold same mine step here others counters =
 
 mark_held : (z : Sizes) (n : ℕ) (v : View) → IsBacked z n v → HasFirst v → HasBoth v → n ≡ length (commit_behind v).history.list
 mark_held z n v k first both =
-    let shown : Each (Shown k.state) (first_in v.parts ∷ OfBucket (bucket_number v) (bucket v) ∷ OfCommit (commit_behind v) ∷ farther v) = subst (Each (Shown k.state)) (first ∙ ap (λ ps. first_in v.parts ∷ ps) both) k.true_of.parts in
+    let shown : Each (Shown k.state) (first_in v.parts ∷ OfBucket (bucket_number v) (bucket v) ∷ OfCommit (commit_behind v) ∷ farther v) = subst (Each (Shown k.state)) (first ∙
+    ap (λ ps. first_in v.parts ∷ ps) both) k.true_of.parts in
     sym k.mark_is ∙ k.steady.mark_is_length.is_length ∙ ap length shown.1.1.0.0
 
-pub over_by : (z : Sizes) (n number : ℕ) (v : View) (h : Held) (r : Rid) (w : Writer) → Holds v h → IsBacked z n v → HasBoth v → bucket_of z.buckets r ≡ held_number h → IsOpenBy w (held v r) → number ≡ suc (length (commit_behind v).history.list) → Each (IsBelow number) (drop 1 (versions_of (held_records h).records r))
+pub over_by : (z : Sizes) (n number : ℕ) (v : View) (h : Held) (r : Rid) (w : Writer) → Holds v h → IsBacked z n v → HasBoth v → bucket_of z.buckets r ≡ held_number h →
+    IsOpenBy w (held v r) → number ≡ suc (length (commit_behind v).history.list) → Each (IsBelow number) (drop 1 (versions_of (held_records h).records r))
 over_by z n m v h r w hold k both here mine next =
     subst (λ ks. Each (IsBelow m) (drop 1 ks)) (sym (hold.keeps.versions r))
-    (subst (λ x. Each (IsBelow x) (drop 1 (map kept (held v r)))) (ap suc (mark_held z n v k hold.has.0 both) ∙ sym next) (all_below n w (held v r) mine (ordered_at z n (held_number h) v k hold.has r here)))
+    (subst (λ x. Each (IsBelow x) (drop 1 (map kept (held v r)))) (ap suc (mark_held z n v k hold.has.0 both) ∙ sym next)
+    (all_below n w (held v r) mine (ordered_at z n (held_number h) v k hold.has r here)))
 
-pub stamp_holds : (z : Sizes) (n number j : ℕ) (v x : View) (h h' : Held) (r : Rid) (w : Writer) → w ≡ writer_at j (members (farther v)) → Holds v h → IsBacked z n v → HasBoth v → held_number h' ≡ held_number h → bucket_of z.buckets r ≡ held_number h → IsOpenBy w (held v r) → number ≡ suc (length (commit_behind v).history.list) → Stamps v j r number x
-    → versions_of (held_records h').records r ≡ bucket_words.stamped w number (versions_of (held_records h).records r) → OthersStay (held_records h).records (held_records h').records r → held_records h' ≡ record (held_records h) { records = (held_records h').records; long = (held_records h').long } → Holds x h'
+pub stamp_holds : (z : Sizes) (n number j : ℕ) (v x : View) (h h' : Held) (r : Rid) (w : Writer) → w ≡ writer_at j (members (farther v)) → Holds v h → IsBacked z n v → HasBoth v →
+    held_number h' ≡ held_number h → bucket_of z.buckets r ≡ held_number h → IsOpenBy w (held v r) → number ≡ suc (length (commit_behind v).history.list) → Stamps v j r number x
+    → versions_of (held_records h').records r ≡ bucket_words.stamped w number (versions_of (held_records h).records r) →
+    OthersStay (held_records h).records (held_records h').records r → held_records h' ≡ record (held_records h) { records = (held_records h').records; long = (held_records h').long } → Holds x h'
 stamp_holds z n m j v x h h' r w is hold k both same here mine next step stored apart counters =
     let o = (opened_is n w (held v r) mine (ordered_at z n (held_number h) v k hold.has r here)).ordered_stamped in
     let p = subst (λ x. IsOrdered n (stamped x w (held v r))) (ap suc (mark_held z n v k hold.has.0 both) ∙ sym next) o in
-    subst (λ x. Holds x h') (sym (step ∙ ap (λ (y : Writer). then_has v (Away (number v) (session v) (since v) ∷ OfBucket (bucket_number v) (stamping m y r (bucket v)) ∷ OfCommit (listing j r (commit_behind v)) ∷ lent (flag j (members (farther v)))) [] (StampEvent j r m)) (sym is)))
+    subst (λ x. Holds x h') (sym (step ∙ ap (λ (y : Writer). then_has v (Away (number v) (session v) (since v) ∷ OfBucket (bucket_number v) (stamping m y r (bucket v)) ∷ OfCommit
+    (listing j r (commit_behind v)) ∷ lent (flag j (members (farther v)))) [] (StampEvent j r m)) (sym is)))
     (away_holds h' (number v) (bucket_number v) (since v) (session v) (stamping m w r (bucket v)) _ _ _ (number_is (held_number h) v hold.has ∙ sym same)
     (stamp_kept (held_records h) (held_records h') (bucket v) r m w hold.keeps stored apart counters)
     (ordered_stored (bucket v).content r (stamped m w (held v r)) n hold.ordered p))
@@ -120,14 +133,19 @@ reclaimed_in_order Group table p m vs o = cut_in_order m (group_bound p) vs o
 reclaimed_in_order Table table p m vs o = cut_in_order m (table_bound table p) vs o
 reclaimed_in_order Interval table p m vs o = (m, ordered_swept m (horizon p) (recorded table p) vs o)
 
-pub reclaim_gone : (kind : Kind) (does : List Kept → List Kept) (v : View) (h : Held) (new : BucketModel) (r : Rid) (gone : ℕ) → Holds v h → Does kind r.table (record_of (pass v)) does → versions_of new.records r ≡ does (versions_of (held_records h).records r) → length (versions_of new.records r) + gone ≡ length (versions_of (held_records h).records r) → gone ≡ removed_of v r kind
+pub reclaim_gone : (kind : Kind) (does : List Kept → List Kept) (v : View) (h : Held) (new : BucketModel) (r : Rid) (gone : ℕ) → Holds v h →
+    Does kind r.table (record_of (pass v)) does → versions_of new.records r ≡ does (versions_of (held_records h).records r) →
+    length (versions_of new.records r) + gone ≡ length (versions_of (held_records h).records r) → gone ≡ removed_of v r kind
 reclaim_gone kind does v h new r gone hold d here sum = gone_is kind (record_of (pass v)) does (hold.ordered r).0 gone (held_records h) new (bucket v) r d (hold.ordered r).1 hold.keeps here sum
 
-pub reclaim_holds : (kind : Kind) (does : List Kept → List Kept) (v w : View) (h h' : Held) (r : Rid) (gone : ℕ) → Holds v h → HasPass v → held_number h' ≡ held_number h → Does kind r.table (record_of (pass v)) does → Reclaims v r kind w
-    → versions_of (held_records h').records r ≡ does (versions_of (held_records h).records r) → OthersStay (held_records h).records (held_records h').records r → length (versions_of (held_records h').records r) + gone ≡ length (versions_of (held_records h).records r) → held_records h' ≡ counted kind gone (held_records h) (held_records h') → Holds w h'
+pub reclaim_holds : (kind : Kind) (does : List Kept → List Kept) (v w : View) (h h' : Held) (r : Rid) (gone : ℕ) → Holds v h → HasPass v → held_number h' ≡ held_number h →
+    Does kind r.table (record_of (pass v)) does → Reclaims v r kind w
+    → versions_of (held_records h').records r ≡ does (versions_of (held_records h).records r) → OthersStay (held_records h).records (held_records h').records r →
+    length (versions_of (held_records h').records r) + gone ≡ length (versions_of (held_records h).records r) → held_records h' ≡ counted kind gone (held_records h) (held_records h') → Holds w h'
 reclaim_holds kind does v w h h' r gone hold own same d step here others sum counters =
     let order = reclaimed_in_order kind r.table (record_of (pass v)) (hold.ordered r).0 (held v r) (hold.ordered r).1 in
-    subst (λ x. Holds x h') (sym step) (pass_holds h' (number v) (bucket_number v) (removed_of v r kind) kind (pass v) (shortening r kind (left_of v r kind) (removed_of v r kind) (bucket v)) (beyond v) _ _ (number_is (held_number h) v hold.has ∙ sym same)
+    subst (λ x. Holds x h') (sym step) (pass_holds h' (number v) (bucket_number v) (removed_of v r kind) kind (pass v)
+    (shortening r kind (left_of v r kind) (removed_of v r kind) (bucket v)) (beyond v) _ _ (number_is (held_number h) v hold.has ∙ sym same)
     (subst (λ b. IsVisitedBy b (OfPass (number v) (pass v))) (sym (number_is (held_number h) v hold.has)) (subst (λ ps. IsVisitedBy (held_number h) (first_in ps)) own hold.has.1.1))
     (reclaim_kept kind (record_of (pass v)) does (hold.ordered r).0 gone (held_records h) (held_records h') (bucket v) r d (hold.ordered r).1 hold.keeps here others sum counters)
     (ordered_stored (bucket v).content r (left_of v r kind) order.0 hold.ordered order.1))

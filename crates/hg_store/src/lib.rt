@@ -26,3 +26,4 @@ mod write;
 
 pub use held::Held;
 pub use store::{Slot, Store};
+pub use sweep::Guards;

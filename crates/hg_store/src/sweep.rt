@@ -28,44 +28,42 @@ struct Long {
     at: usize,
 }
 
-// What guards the versions of a table from a sweep: the horizon, and the snapshots that count there.
+/// What guards the versions of a table from a sweep: the horizon, and the snapshots that count there, ascending.
 #[derive(Clone, Copy)]
-struct Guards<'a> {
-    horizon: u64,
-    snapshots: &'a [u64],
+pub struct Guards<'a> {
+    pub horizon: u64,
+    pub snapshots: &'a [u64],
 }
 
 impl<'a> Held<'a> {
-    /// Removes of each record of a table every version that no snapshot sees by the pass's record, which is whole. `snapshots`
-    /// are those that count for the table, ascending. The answer says how many versions went. A record that has only its
-    /// oldest image costs nothing.
+    /// Removes of each record of a table every version that no snapshot sees by the pass's record, which is whole. The guards
+    /// are those of the table. The answer says how many versions went. A record that has only its oldest image costs nothing.
     pub fn sweep<L: Ledger>(
         &mut self,
         board: &Board,
         pass: &mut CollectorPass,
         table: TableId,
-        horizon: u64,
-        snapshots: &[u64],
+        guards: &Guards<'_>,
         steps: &mut Steps<L>,
     ) -> u64
         requires holds { IsCollectorHolding board.now pass.old self.old }
         requires whole { IsWhole (sizes_of board.now).sessions
             (record_of (own_pass (pass_view pass.old))) }
-        requires gathered { AreGathered (record_of (own_pass (pass_view pass.old))) table horizon
-            snapshots.now }
+        requires gathered { AreGathered (record_of (own_pass (pass_view pass.old))) table
+            guards.now.horizon guards.now.snapshots.now }
         ensures steps { Clears (pass_view pass.old) table Interval (pass_view pass.new) }
         ensures left { Leaves (pass_view pass.old) table Interval (pass_view pass.new) }
         ensures clean { (k : ℕ) →
-            IsClean horizon (recorded table (record_of (own_pass (pass_view pass.old))))
+            IsClean guards.now.horizon (recorded table (record_of (own_pass (pass_view pass.old))))
             (held (pass_view pass.new) (record_at table k)) }
         ensures gone { Counts (pass_view pass.old) Interval result (pass_view pass.new) }
         ensures holds { IsCollectorHolding board.now pass.new self.new ×
             IsSameBucket self.old self.new }
         // at most so many steps, by the bucket's own records
         ensures cost { steps.new ≤
-            steps.old + sweep_steps table snapshots.now (held_records self.old).records }
-        ensures spends { Spends (pass_view pass.old) table (length snapshots.now) steps.old
-            steps.new }
+            steps.old + sweep_steps table guards.now.snapshots.now (held_records self.old).records }
+        ensures spends { Spends (pass_view pass.old) table (length guards.now.snapshots.now)
+            steps.old steps.new }
     {
         board.look_at(pass);
         let mut gone = 0;
@@ -75,8 +73,7 @@ impl<'a> Held<'a> {
             let key = self.bucket.long_key(table, left);
             let rid = Rid { table, key };
             let long = Long { rid, at: left };
-            let guards = Guards { horizon, snapshots };
-            gone += self.sweep_one(board, pass, long, &guards, steps);
+            gone += self.sweep_one(board, pass, long, guards, steps);
         }
         gone
     }

@@ -11,15 +11,19 @@ use Rattle.hg_store.proofs.held.Held.cut_one.Goals as goal
 
 pub returns-clause-gone : goal.returns-clause-gone
 returns-clause-gone c =
-    reclaim_gone Table (cut_at c.args.bound) (pass_view c.args.pass.now) (boxed c.args.self.now c.deref_mut.result.now) c.cut_long.new.self c.args.rid c.cut_long.result (boxed_holds c.args.self.now c.deref_mut.result.now c.deref_mut.ensures.value c.requires.holds.1)
+    reclaim_gone Table (cut_at c.args.bound) (pass_view c.args.pass.now) (boxed c.args.self.now c.deref_mut.result.now) c.cut_long.new.self c.args.rid c.cut_long.result
+    (boxed_holds c.args.self.now c.deref_mut.result.now c.deref_mut.ensures.value c.requires.holds.1)
     (does_table c.args.rid.table (record_of (pass (pass_view c.args.pass.now))) c.args.bound c.requires.bound) c.cut_long.ensures.here c.cut_long.ensures.gone
 
 pub returns-clause-holds : goal.returns-clause-holds
 returns-clause-holds c = (
   (
     search rules,
-    reclaim_holds Table (cut_at c.args.bound) (pass_view c.args.pass.now) (pass_view c.reclaim.new.pass) (boxed c.args.self.now c.deref_mut.result.now) _ c.args.rid c.cut_long.result (boxed_holds c.args.self.now c.deref_mut.result.now c.deref_mut.ensures.value c.requires.holds.1) c.requires.holds.0.1 refl
-        (does_table c.args.rid.table (record_of (pass (pass_view c.args.pass.now))) c.args.bound c.requires.bound) c.reclaim.ensures.step c.cut_long.ensures.here c.cut_long.ensures.others c.cut_long.ensures.gone c.cut_long.ensures.table,
+    reclaim_holds Table (cut_at c.args.bound) (pass_view c.args.pass.now) (pass_view c.reclaim.new.pass)
+        (boxed c.args.self.now c.deref_mut.result.now) _ c.args.rid c.cut_long.result
+        (boxed_holds c.args.self.now c.deref_mut.result.now c.deref_mut.ensures.value c.requires.holds.1) c.requires.holds.0.1 refl
+        (does_table c.args.rid.table (record_of (pass (pass_view c.args.pass.now))) c.args.bound c.requires.bound) c.reclaim.ensures.step c.cut_long.ensures.here
+        c.cut_long.ensures.others c.cut_long.ensures.gone c.cut_long.ensures.table,
   ),
   (search rules, search rules),
 )

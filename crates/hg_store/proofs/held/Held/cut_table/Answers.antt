@@ -71,7 +71,8 @@ overflow_add-gone c =
     let z = sizes_of c.args.board.now in
     let v = pass_view c.args.pass.now in
     let backed = subst (IsBacked z c.look_at.result) c.look_at.ensures.stays c.look_at.ensures.backed in
-    let most = gone_fits z c.look_at.result Table v (pass_view c.loop-left.pass) (pass_view c.cut_one-gone.new.pass) c.args.self.now (record_at c.args.table c.long_key-key.result) c.loop-left.gone backed c.requires.holds.1 c.loop-left.invariant.0.counts c.cut_one-gone.ensures.step in
+    let most = gone_fits z c.look_at.result Table v (pass_view c.loop-left.pass) (pass_view c.cut_one-gone.new.pass) c.args.self.now
+    (record_at c.args.table c.long_key-key.result) c.loop-left.gone backed c.requires.holds.1 c.loop-left.invariant.0.counts c.cut_one-gone.ensures.step in
     omega (arith, most, c.cut_one-gone.ensures.gone, c.args.board.now.room.begins)
 
 pub loop-left-preserved : goal.loop-left-preserved
@@ -99,14 +100,16 @@ loop-left-preserved c =
 
 pub returns-clause-left : goal.returns-clause-left
 returns-clause-left c =
-    let done = round_ends Table c.args.table (long_keys (held_records c.args.self.now) c.args.table) (pass_view c.args.pass.now) (pass_view c.loop-left.pass) c.loop-left.left c.loop-left.gone (omega arith) c.loop-left.invariant.0 in
+    let done = round_ends Table c.args.table (long_keys (held_records c.args.self.now) c.args.table) (pass_view c.args.pass.now)
+    (pass_view c.loop-left.pass) c.loop-left.left c.loop-left.gone (omega arith) c.loop-left.invariant.0 in
     (done, c.loop-left.invariant.0.others)
 
 pub returns-clause-cut : goal.returns-clause-cut
 returns-clause-cut c =
     λ k.
     let v = pass_view c.args.pass.now in
-    let done = round_ends Table c.args.table (long_keys (held_records c.args.self.now) c.args.table) v (pass_view c.loop-left.pass) c.loop-left.left c.loop-left.gone (omega arith) c.loop-left.invariant.0 in
+    let done = round_ends Table c.args.table (long_keys (held_records c.args.self.now) c.args.table) v (pass_view c.loop-left.pass) c.loop-left.left c.loop-left.gone
+    (omega arith) c.loop-left.invariant.0 in
     subst (IsCutAt c.args.bound) (sym (done k)) (cut_left v (record_at c.args.table k) c.args.bound c.requires.bound)
 
 pub returns-clause-steps : goal.returns-clause-steps
@@ -116,4 +119,5 @@ pub returns-clause-gone : goal.returns-clause-gone
 returns-clause-gone c = c.loop-left.invariant.0.counts
 
 pub cut_one-gone-requires-clause-listed : goal.cut_one-gone-requires-clause-listed
-cut_one-gone-requires-clause-listed c = subst (λ (b : BucketModel). slice_get (long_keys b c.args.table) (c.loop-left.left - 1) ≡ Some c.long_key-key.result) c.deref-in-loop-left.ensures c.long_key-key.ensures
+cut_one-gone-requires-clause-listed c = subst (λ (b : BucketModel). slice_get (long_keys b c.args.table) (c.loop-left.left - 1) ≡ Some c.long_key-key.result)
+    c.deref-in-loop-left.ensures c.long_key-key.ensures

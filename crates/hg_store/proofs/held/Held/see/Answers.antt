@@ -5,4 +5,4 @@ use Rattle.hg_store.proofs.held.Held.see.Goals as goal
 
 pub returns-clause-holds : goal.returns-clause-holds
 returns-clause-holds c =
-    (search rules, look_holds (session_view c.args.pass.now) (session_view c.look.new.pass) c.args.self.now _ _ c.requires.holds.1 c.look.ensures.step)
+    (search rules, look_holds (session_view c.args.pass.now) (session_view c.look.new.pass) c.args.self.now _ _ c.requires.holds.1 c.look.ensures.step.looks)

@@ -28,17 +28,17 @@ loop-left-init g c =
     let h = c.args.self.now in
     let keys = long_keys (held_records h) t in
     let v = pass_view c.args.pass.now in
-    let d = does_interval t (record_of (pass v)) c.args.horizon c.args.snapshots.now c.requires.gathered.0 c.requires.gathered.2 in
+    let d = does_interval t (record_of (pass v)) c.args.guards.now.horizon c.args.guards.now.snapshots.now c.requires.gathered.0 c.requires.gathered.2 in
     let long = subst (λ (b : BucketModel). AreLong (long_keys b t) t b.records) c.deref.ensures c.long_count-left.ensures.whole in
     let many = subst (λ (b : BucketModel). c.long_count-left.result ≡ length (long_keys b t)) c.deref.ensures c.long_count-left.ensures.count in
-    let round = round_begins Interval (swept c.args.horizon c.args.snapshots.now) t keys v h c.requires.holds.1 d long in (
+    let round = round_begins Interval (swept c.args.guards.now.horizon c.args.guards.now.snapshots.now) t keys v h c.requires.holds.1 d long in (
       subst (λ n. Rounds Interval t keys v (pass_view c.look_at.new.pass) n 0) (sym many) (subst (λ w. Rounds Interval t keys v w (length keys) 0) (sym c.look_at.ensures.stays) round),
       subst (λ w. Holds w h) (sym c.look_at.ensures.stays) c.requires.holds.1,
       (c.look_at.ensures.own.0, subst HasPass (sym c.look_at.ensures.stays) c.requires.holds.0.1),
       refl,
       refl,
       subst (λ n. Leads n keys keys) (sym many) (leads_first keys),
-      (let all = ap (keys_cost t (length c.args.snapshots.now) (held_records h).records) (ap (λ n. take n keys) many ∙ take-length keys) in omega (arith, all)),
+      (let all = ap (keys_cost t (length c.args.guards.now.snapshots.now) (held_records h).records) (ap (λ n. take n keys) many ∙ take-length keys) in omega (arith, all)),
     )
 
 pub long_key-key-requires : goal.long_key-key-requires
@@ -71,14 +71,15 @@ sweep_one-gone-requires-clause-here g c =
 pub sweep_one-gone-requires-clause-gathered : goal.sweep_one-gone-requires-clause-gathered
 sweep_one-gone-requires-clause-gathered g c =
     let same = same_record (pass_view c.args.pass.now) (pass_view c.loop-left.pass) Interval c.loop-left.gone c.loop-left.invariant.0.counts in
-    (c.requires.gathered.0 ∙ ap horizon (sym same), c.requires.gathered.1, subst (λ p. HaveSame c.args.snapshots.now (recorded c.args.table p)) (sym same) c.requires.gathered.2)
+    (c.requires.gathered.0 ∙ ap horizon (sym same), c.requires.gathered.1, subst (λ p. HaveSame c.args.guards.now.snapshots.now (recorded c.args.table p)) (sym same) c.requires.gathered.2)
 
 pub overflow_add-gone : goal.overflow_add-gone
 overflow_add-gone g c =
     let z = sizes_of c.args.board.now in
     let v = pass_view c.args.pass.now in
     let backed = subst (IsBacked z c.look_at.result) c.look_at.ensures.stays c.look_at.ensures.backed in
-    let most = gone_fits z c.look_at.result Interval v (pass_view c.loop-left.pass) (pass_view c.sweep_one-gone.new.pass) c.args.self.now (record_at c.args.table c.long_key-key.result) c.loop-left.gone backed c.requires.holds.1 c.loop-left.invariant.0.counts c.sweep_one-gone.ensures.step in
+    let most = gone_fits z c.look_at.result Interval v (pass_view c.loop-left.pass) (pass_view c.sweep_one-gone.new.pass) c.args.self.now
+    (record_at c.args.table c.long_key-key.result) c.loop-left.gone backed c.requires.holds.1 c.loop-left.invariant.0.counts c.sweep_one-gone.ensures.step in
     omega (arith, most, c.sweep_one-gone.ensures.gone, c.args.board.now.room.begins)
 
 pub loop-left-preserved : goal.loop-left-preserved
@@ -95,10 +96,12 @@ loop-left-preserved g c =
     let there = leads_key left l k (long_keys (held_records c.loop-left.self) t) keys c.loop-left.invariant.5 (omega arith) stands in
     let w = pass_view c.loop-left.pass in
     let x = pass_view c.sweep_one-gone.new.pass in
-    let n = length c.args.snapshots.now in
+    let n = length c.args.guards.now.snapshots.now in
     let old = (held_records h).records in
     let before : c.loop-left.steps + keys_cost t n old (take left keys) ≤ c.args.steps.now + keys_cost t n old keys = c.loop-left.invariant.6 in
-    let cost = subst (λ vs. c.sweep_one-gone.new.steps ≤ c.loop-left.steps + cost_of n vs) (kept_at Interval t keys v w h c.loop-left.self left l k c.loop-left.gone c.requires.holds.1 c.loop-left.invariant.1 c.loop-left.invariant.0 (omega arith) there) c.sweep_one-gone.ensures.cost in
+    let cost = subst (λ vs. c.sweep_one-gone.new.steps ≤ c.loop-left.steps + cost_of n vs)
+    (kept_at Interval t keys v w h c.loop-left.self left l k c.loop-left.gone c.requires.holds.1 c.loop-left.invariant.1 c.loop-left.invariant.0 (omega arith) there)
+    c.sweep_one-gone.ensures.cost in
     let once = key_paid t n old keys left l k (omega arith) there in
     let more = round_goes Interval t keys v w x h left l k c.loop-left.gone (omega arith) c.requires.holds.1 long there c.loop-left.invariant.0 c.sweep_one-gone.ensures.step in (
       subst (λ n. Rounds Interval t keys v x l (c.loop-left.gone + n)) (sym c.sweep_one-gone.ensures.gone) more,
@@ -112,15 +115,18 @@ loop-left-preserved g c =
 
 pub returns-clause-left : goal.returns-clause-left
 returns-clause-left g c =
-    let done = round_ends Interval c.args.table (long_keys (held_records c.args.self.now) c.args.table) (pass_view c.args.pass.now) (pass_view c.loop-left.pass) c.loop-left.left c.loop-left.gone (omega arith) c.loop-left.invariant.0 in
+    let done = round_ends Interval c.args.table (long_keys (held_records c.args.self.now) c.args.table) (pass_view c.args.pass.now)
+    (pass_view c.loop-left.pass) c.loop-left.left c.loop-left.gone (omega arith) c.loop-left.invariant.0 in
     (done, c.loop-left.invariant.0.others)
 
 pub returns-clause-clean : goal.returns-clause-clean
 returns-clause-clean g c =
     λ k.
     let v = pass_view c.args.pass.now in
-    let done = round_ends Interval c.args.table (long_keys (held_records c.args.self.now) c.args.table) v (pass_view c.loop-left.pass) c.loop-left.left c.loop-left.gone (omega arith) c.loop-left.invariant.0 in
-    subst (IsClean c.args.horizon (recorded c.args.table (record_of (pass v)))) (sym (done k)) (clean_left v c.args.self.now (record_at c.args.table k) c.args.horizon c.requires.holds.1 c.requires.gathered.0)
+    let done = round_ends Interval c.args.table (long_keys (held_records c.args.self.now) c.args.table) v (pass_view c.loop-left.pass) c.loop-left.left c.loop-left.gone
+    (omega arith) c.loop-left.invariant.0 in
+    subst (IsClean c.args.guards.now.horizon (recorded c.args.table (record_of (pass v)))) (sym (done k))
+    (clean_left v c.args.self.now (record_at c.args.table k) c.args.guards.now.horizon c.requires.holds.1 c.requires.gathered.0)
 
 pub returns-clause-steps : goal.returns-clause-steps
 returns-clause-steps g c = c.loop-left.invariant.0.clears
@@ -134,7 +140,7 @@ returns-clause-cost g c =
     let h = c.args.self.now in
     let keys = long_keys (held_records h) t in
     let long = subst (λ (b : BucketModel). AreLong (long_keys b t) t b.records) c.deref.ensures c.long_count-left.ensures.whole in
-    omega (arith, c.loop-left.invariant.6, all_keys_paid t c.args.snapshots.now (held_records h).records keys long.once)
+    omega (arith, c.loop-left.invariant.6, all_keys_paid t c.args.guards.now.snapshots.now (held_records h).records keys long.once)
 
 pub returns-clause-spends : goal.returns-clause-spends
 returns-clause-spends g c =
@@ -142,7 +148,8 @@ returns-clause-spends g c =
     let h = c.args.self.now in
     let keys = long_keys (held_records h) t in
     let long = subst (λ (b : BucketModel). AreLong (long_keys b t) t b.records) c.deref.ensures c.long_count-left.ensures.whole in
-    spends_keys t (length c.args.snapshots.now) c.args.steps.now c.loop-left.steps (pass_view c.args.pass.now) h keys c.requires.holds.1 long (omega (arith, c.loop-left.invariant.6))
+    spends_keys t (length c.args.guards.now.snapshots.now) c.args.steps.now c.loop-left.steps (pass_view c.args.pass.now) h keys c.requires.holds.1 long (omega (arith, c.loop-left.invariant.6))
 
 pub sweep_one-gone-requires-clause-listed : goal.sweep_one-gone-requires-clause-listed
-sweep_one-gone-requires-clause-listed g c = subst (λ (b : BucketModel). slice_get (long_keys b c.args.table) (c.loop-left.left - 1) ≡ Some c.long_key-key.result) c.deref-in-loop-left.ensures c.long_key-key.ensures
+sweep_one-gone-requires-clause-listed g c = subst (λ (b : BucketModel). slice_get (long_keys b c.args.table) (c.loop-left.left - 1) ≡ Some c.long_key-key.result)
+    c.deref-in-loop-left.ensures c.long_key-key.ensures

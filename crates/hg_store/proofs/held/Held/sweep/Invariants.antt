@@ -16,7 +16,9 @@ invariant-loop-left g l =
     × (held_board_id l.self ≡ held_board_id l.fn.self)
     × (held_number l.self ≡ held_number l.fn.self)
     × Leads l.left (long_keys (held_records l.self) l.table) (long_keys (held_records l.fn.self) l.table)
-    × (l.steps + keys_cost l.table (length l.snapshots) (held_records l.fn.self).records (take l.left (long_keys (held_records l.fn.self) l.table)) ≤ l.fn.steps + keys_cost l.table (length l.snapshots) (held_records l.fn.self).records (long_keys (held_records l.fn.self) l.table))
+    × (l.steps + keys_cost l.table (length l.guards.snapshots.now) (held_records l.fn.self).records
+    (take l.left (long_keys (held_records l.fn.self) l.table)) ≤ l.fn.steps + keys_cost l.table (length l.guards.snapshots.now) (held_records l.fn.self).records
+    (long_keys (held_records l.fn.self) l.table))
 
 abbrev pub decreases-loop-left : goal.decreases-loop-left
 decreases-loop-left g l = l.left

@@ -17,8 +17,11 @@ loop-seat-preserved c =
     let here : IsNewBucket t (0 + length xs) c.in-Some.seat = each_from_at (IsNewBucket t) 0 xs c.next.new.self.rest.items c.in-Some.seat (subst (EachFrom (IsNewBucket t) 0) all row) in
     let at : IsNewBucket t (length c.loop-seat.slots.items) c.in-Some.seat = subst (λ n. IsNewBucket t n c.in-Some.seat) (omega (arith, j.count)) here in
     let first : c.index.result.now ≡ get_or c.args.seats 0 c.index.result.now = search rules in
-    let tag : seat_board_id c.of-tag.result.value ≡ t = ap seat_board_id c.of-tag.ensures ∙ (each_from_first (IsNewBucket t) 0 c.args.seats c.index.result.now c.requires.some.0 row first).1.0 in record {
+    let tag : seat_board_id c.of-tag.result.value ≡ t = ap seat_board_id c.of-tag.ensures ∙
+    (each_from_first (IsNewBucket t) 0 c.args.seats c.index.result.now c.requires.some.0 row first).1.0 in record {
       count = ap length c.in_ok-push.ensures.items ∙ length-append c.loop-seat.slots.items _ ∙ (let l = length-append xs (c.in-Some.seat ∷ []) in omega (arith, j.count, l));
       seats = all ∙ sym (append_assoc xs (c.in-Some.seat ∷ []) c.next.new.self.rest.items);
-      fit = subst (EachFits (SlotFits c.of-tag.result)) (sym c.in_ok-push.ensures.items) (EachFits-push (SlotFits c.of-tag.result) c.loop-seat.slots.items _ j.fit (fits_new t c.of-tag.result (length c.loop-seat.slots.items) c.in-Some.seat c.in_ok-bucket.bucket tag at (c.in_ok-bucket.ensures.ok ∙ c.new.ensures)));
+      fit = subst (EachFits (SlotFits c.of-tag.result)) (sym c.in_ok-push.ensures.items)
+          (EachFits-push (SlotFits c.of-tag.result) c.loop-seat.slots.items _ j.fit
+          (fits_new t c.of-tag.result (length c.loop-seat.slots.items) c.in-Some.seat c.in_ok-bucket.bucket tag at (c.in_ok-bucket.ensures.ok ∙ c.new.ensures)));
     }
