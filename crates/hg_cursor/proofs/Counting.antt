@@ -27,7 +27,8 @@ dropped keys rest rows key p a = λ limit.
     omega (arith, popped, before)
 
 -- a row is added, and its key takes the place of another one
-pub replaced : (keys rest new : List ℕ) (rows : Rows) (out key : ℕ) (row : List Value) → IsPermutation keys (out ∷ rest) → IsPermutation (key ∷ rest) new → AreAmong keys rows → AreAmong new (rows ++ (key, row) ∷ [])
+pub replaced : (keys rest new : List ℕ) (rows : Rows) (out key : ℕ) (row : List Value) → IsPermutation keys (out ∷ rest) → IsPermutation (key ∷ rest) new → AreAmong keys rows →
+    AreAmong new (rows ++ (key, row) ∷ [])
 replaced keys rest new rows out key row leaves comes a = added rest new rows key row comes (dropped keys rest rows out leaves a)
 
 all_upto : (limit : ℕ) (keys : List ℕ) → All (λ k. k ≤ limit) keys → keys_upto limit keys ≡ length keys

@@ -160,7 +160,8 @@ pub record IsCut (count n : ℕ) (v : View) (table : TableId) (low high number l
   pub ascend : Ascends (map key_of rows)
   pub below : Each (λ p. p.0 ≤ upto) rows
 
-module _ (count n : ℕ) (v w : View) (table : TableId) (low high number limit upto : ℕ) (rows new : Rows) (some : 0 < n) (s : IsGathered count n v table low high number limit rows w) (k : Keeps n limit rows new upto) where
+module _ (count n : ℕ) (v w : View) (table : TableId) (low high number limit upto : ℕ) (rows new : Rows) (some : 0 < n)
+    (s : IsGathered count n v table low high number limit rows w) (k : Keeps n limit rows new upto) where
   IsOfSome : ℕ × List Value → Type 0
   IsOfSome p = (i : ℕ) × (i < number) × Contains (s.part i) p
 
@@ -192,7 +193,8 @@ module _ (count n : ℕ) (v w : View) (table : TableId) (low high number limit u
           own = s.own;
           inside = s.inside;
           each = subst (Each (λ p. (i : ℕ) × (i < number) × Contains (s.part i) p)) (sym is) sorted_each;
-          every = λ i less. each_keeps (λ p. p.0 ≤ limit → Contains rows p) (λ p. p.0 ≤ upto → Contains new p) (λ p f m. subst (λ r. Contains r p) (sym is) (Contains-permutation rows k.sorted p k.permutes (f (omega (arith, m, same))))) (s.part i) (s.every i less);
+          every = λ i less. each_keeps (λ p. p.0 ≤ limit → Contains rows p) (λ p. p.0 ≤ upto → Contains new p)
+              (λ p f m. subst (λ r. Contains r p) (sym is) (Contains-permutation rows k.sorted p k.permutes (f (omega (arith, m, same))))) (s.part i) (s.every i less);
           distinct = subst (λ r. IsDistinct nat_eq (map key_of r)) (sym is) (ascends_distinct (map key_of k.sorted) sorted_ascends);
           within = let b = s.within in omega (arith, b, same);
           enough = inl (same ∙ all);
@@ -229,7 +231,8 @@ module _ (count n : ℕ) (v w : View) (table : TableId) (low high number limit u
           inside = s.inside;
           each = subst (Each (λ p. (i : ℕ) × (i < number) × Contains (s.part i) p)) (sym k.is) (each_take (λ p. (i : ℕ) × (i < number) × Contains (s.part i) p) n k.sorted sorted_each);
           every = λ i under. each_keeps (λ p. p.0 ≤ limit → Contains rows p) (λ p. p.0 ≤ upto → Contains new p)
-              (λ p f m. subst (λ r. Contains r p) (sym k.is) (first_has n limit k.sorted p some sorted_ascends (Contains-permutation rows k.sorted p k.permutes (f (omega (arith, m, less)))) (omega (arith, m, last_taken)))) (s.part i) (s.every i under);
+              (λ p f m. subst (λ r. Contains r p) (sym k.is) (first_has n limit k.sorted p some sorted_ascends
+              (Contains-permutation rows k.sorted p k.permutes (f (omega (arith, m, less)))) (omega (arith, m, last_taken)))) (s.part i) (s.every i under);
           distinct = ascends_distinct (map key_of new) ascend;
           within = let b = s.within in omega (arith, b, less);
           enough = inr (let all = all_count upto new below in omega (arith, all, full));

@@ -67,7 +67,8 @@ nothing_twice = tt
 
 pub ascends_distinct : (xs : List ℕ) → Ascends xs → IsDistinct nat_eq xs
 ascends_distinct [] a = nothing_twice
-ascends_distinct (x ∷ xs) a = IsDistinct-cons nat_eq x xs (all_of (λ y. nat_eq x y ≡ false) xs (each_keeps (λ y. x < y) (λ y. nat_eq x y ≡ false) (λ y l. is_apart x y (λ e. absurd (omega (arith, l, e)))) xs (all_over x xs a))) (ascends_distinct xs (ascends_tail x xs a))
+ascends_distinct (x ∷ xs) a = IsDistinct-cons nat_eq x xs (all_of (λ y. nat_eq x y ≡ false) xs
+    (each_keeps (λ y. x < y) (λ y. nat_eq x y ≡ false) (λ y l. is_apart x y (λ e. absurd (omega (arith, l, e)))) xs (all_over x xs a))) (ascends_distinct xs (ascends_tail x xs a))
 
 -- ---- the looks
 
@@ -118,7 +119,8 @@ all_count limit (p ∷ rows) e = cases (nat_le p.0 limit)
     omega (arith, rest, one, sum))
     (λ f. let l = e.0 in absurd (grind (arith, nat_tests, f, l)))
 
-module _ (count n : ℕ) (v u w : View) (table : TableId) (low high number limit upto : ℕ) (rows new : Rows) (s : IsGathered count n v table low high number limit rows u) (part : Rows) (adds : Adds u (Saw table low high (bucket_at count table low number) part ∷ []) w) where
+module _ (count n : ℕ) (v u w : View) (table : TableId) (low high number limit upto : ℕ) (rows new : Rows) (s : IsGathered count n v table low high number limit rows u)
+    (part : Rows) (adds : Adds u (Saw table low high (bucket_at count table low number) part ∷ []) w) where
   parts : ℕ → Rows
   parts = with_part s.part number part
 
@@ -148,7 +150,8 @@ module _ (count n : ℕ) (v u w : View) (table : TableId) (low high number limit
       (λ t. let less : i < number = grind (arith, nat_tests, t) in subst (P i) (sym (part_else s.part number part i less)) (old i less))
       (λ f. let same : number ≡ i = grind (arith, nat_tests, f, l) in subst (λ m. P m (with_part s.part number part m)) same (subst (P number) (sym (part_here s.part number part)) here))
 
-  pub one_gathered : number < count → low + number ≤ limit → Each (λ p. (low ≤ p.0) × (p.0 ≤ high)) part → Each (λ p. IsOwnKey count (bucket_at count table low number) table p.0) part → Takes n limit part rows new upto → IsGathered count n v table low high (suc number) upto new w
+  pub one_gathered : number < count → low + number ≤ limit → Each (λ p. (low ≤ p.0) × (p.0 ≤ high)) part →
+      Each (λ p. IsOwnKey count (bucket_at count table low number) table p.0) part → Takes n limit part rows new upto → IsGathered count n v table low high (suc number) upto new w
   unfolding parts
   one_gathered l m inside own t = let b = s.within in let q = t.within in record {
     once = omega (arith, l);
@@ -159,9 +162,11 @@ module _ (count n : ℕ) (v u w : View) (table : TableId) (low high number limit
     inside = each_part (λ i r. Each (λ p. (low ≤ p.0) × (p.0 ≤ high)) r) s.inside inside;
     each = subst (Each IsOfSome) (sym t.is) (each_append IsOfSome rows t.more (each_keeps _ IsOfSome earlier_row rows s.each) (each_keeps _ IsOfSome (λ p c. later_row p c.0) t.more t.each));
     every = each_part (λ i r. Each (λ p. p.0 ≤ upto → Contains new p) r)
-        (λ i less. each_keeps (λ p. p.0 ≤ limit → Contains rows p) (λ p. p.0 ≤ upto → Contains new p) (λ p f k. subst (λ r. Contains r p) (sym t.is) (Contains-append_left rows t.more p (f (omega (arith, k, q))))) (s.part i) (s.every i less))
+        (λ i less. each_keeps (λ p. p.0 ≤ limit → Contains rows p) (λ p. p.0 ≤ upto → Contains new p)
+        (λ p f k. subst (λ r. Contains r p) (sym t.is) (Contains-append_left rows t.more p (f (omega (arith, k, q))))) (s.part i) (s.every i less))
         (each_keeps (λ p. p.0 ≤ upto → Contains t.more p) (λ p. p.0 ≤ upto → Contains new p) (λ p f k. subst (λ r. Contains r p) (sym t.is) (Contains-append_right rows t.more p (f k))) part t.every);
-    distinct = subst (IsDistinct nat_eq) (sym (ap (map key_of) t.is ∙ map_append rows t.more)) (distinct_append (map key_of rows) (map key_of t.more) s.distinct (ascends_distinct (map key_of t.more) t.ascend) apart_keys);
+    distinct = subst (IsDistinct nat_eq) (sym (ap (map key_of) t.is ∙ map_append rows t.more))
+        (distinct_append (map key_of rows) (map key_of t.more) s.distinct (ascends_distinct (map key_of t.more) t.ascend) apart_keys);
     within = omega (arith, b, q);
     enough = still_enough n upto limit high rows t.more new t.is t.enough s.enough;
   }
@@ -215,7 +220,8 @@ distinct_upto limit (x ∷ xs) d = go (nat_le x.0 limit) (distinct_upto limit xs
     go : (b : Bool) → IsDistinct nat_eq (map key_of (rows_upto limit xs)) → IsDistinct nat_eq (map key_of (cond b (x ∷ rows_upto limit xs) (rows_upto limit xs)))
     go true rest =
         let differs = each_upto (λ p. nat_eq x.0 p.0 ≡ false) limit xs (apart xs (each_of (λ y. nat_eq x.0 y ≡ false) (map key_of xs) (IsDistinct-head nat_eq x.0 (map key_of xs) d))) in
-        IsDistinct-cons nat_eq x.0 (map key_of (rows_upto limit xs)) (all_of (λ y. nat_eq x.0 y ≡ false) (map key_of (rows_upto limit xs)) (each_mapped (λ y. nat_eq x.0 y ≡ false) (rows_upto limit xs) differs)) rest
+        IsDistinct-cons nat_eq x.0 (map key_of (rows_upto limit xs))
+        (all_of (λ y. nat_eq x.0 y ≡ false) (map key_of (rows_upto limit xs)) (each_mapped (λ y. nat_eq x.0 y ≡ false) (rows_upto limit xs) differs)) rest
     go false rest = rest
 
 count_stays : (limit : ℕ) (xs : Rows) → count_upto limit (rows_upto limit xs) ≡ count_upto limit xs
@@ -236,7 +242,8 @@ count_stays limit (x ∷ xs) = cases (nat_le x.0 limit)
     let same = ap (sum_by (one_upto limit)) here in
     omega (arith, same, one, all, rest))
 
-pub up_to_limit : (count n : ℕ) (v w : View) (table : TableId) (low high number limit : ℕ) (rows : Rows) → IsGathered count n v table low high number limit rows w → IsGathered count n v table low high number limit (rows_upto limit rows) w
+pub up_to_limit : (count n : ℕ) (v w : View) (table : TableId) (low high number limit : ℕ) (rows : Rows) → IsGathered count n v table low high number limit rows w →
+    IsGathered count n v table low high number limit (rows_upto limit rows) w
 up_to_limit count n v w table low high number limit rows s = record {
   once = s.once;
   reached = s.reached;

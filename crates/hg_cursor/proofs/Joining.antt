@@ -51,7 +51,8 @@ passed_over look n low high rows some le a = cases (nat_lt (length rows) n)
     let long : 0 < length rows = grind (arith, nat_tests, f, some) in
     subst (λ b. low ≤ (if b then high else last_key high rows)) (sym f) (last_of (λ k. low ≤ k) high rows long (each_keeps _ (λ p. low ≤ p.0) (λ p q. q.0) rows a.all.each)))
 
-given_on : (look : ℕ → Image) (n low high next : ℕ) (given rows : Rows) → 0 < n → AreGiven look low high (Some next) given → AreFirst look n next high rows → AreGiven look low high (key_after high (passed n high rows)) (given ++ rows)
+given_on : (look : ℕ → Image) (n low high next : ℕ) (given rows : Rows) → 0 < n → AreGiven look low high (Some next) given → AreFirst look n next high rows →
+    AreGiven look low high (key_after high (passed n high rows)) (given ++ rows)
 given_on look n low high next given rows some g a = cases (nat_lt (passed n high rows) high)
     (λ t.
     let less : passed n high rows < high = grind (arith, nat_tests, t) in
@@ -69,11 +70,13 @@ given_on look n low high next given rows some g a = cases (nat_lt (passed n high
     let there : AreGiven look low high None (given ++ rows) = g.2 rows (subst (λ m. AreRows look next m rows) all a.all) in
     subst (λ b. AreGiven look low high (if b then Some (passed n high rows + 1) else None) (given ++ rows)) (sym f) there)
 
-given_first : (look : ℕ → Image) (n low high : ℕ) (from : Option ℕ) (given rows : Rows) → 0 < n → AreGiven look low high from given → AreFirstOf look n from high rows → AreGiven look low high (goes_on n high rows from) (given ++ rows)
+given_first : (look : ℕ → Image) (n low high : ℕ) (from : Option ℕ) (given rows : Rows) → 0 < n → AreGiven look low high from given → AreFirstOf look n from high rows →
+    AreGiven look low high (goes_on n high rows from) (given ++ rows)
 given_first look n low high None given rows some g a = subst (λ r. AreRows look low high (given ++ r)) (sym a) (subst (AreRows look low high) (sym (append_nil given)) g)
 given_first look n low high (Some next) given rows some g a = given_on look n low high next given rows some g a
 
-pub given_all : (look : ℕ → Image) (low high : ℕ) (from rest : Option ℕ) (given : Rows) (fetches : List (ℕ × Rows)) → AreGiven look low high from given → Fetched look high from fetches rest → AreGiven look low high rest (given ++ joined fetches)
+pub given_all : (look : ℕ → Image) (low high : ℕ) (from rest : Option ℕ) (given : Rows) (fetches : List (ℕ × Rows)) → AreGiven look low high from given →
+    Fetched look high from fetches rest → AreGiven look low high rest (given ++ joined fetches)
 given_all look low high from rest given [] g e = subst (λ o. AreGiven look low high o (given ++ [])) (sym e) (subst (AreGiven look low high from) (sym (append_nil given)) g)
 given_all look low high from rest given (f ∷ fetches) g e =
     subst (AreGiven look low high rest) (append_assoc given f.1 (joined fetches))
@@ -112,7 +115,8 @@ rows_from look low high k (p ∷ rows) le a = cases (nat_le k p.0)
     let under : suc p.0 ≤ k = grind (arith, nat_tests, f) in
     subst (λ b. AreRows look k high (if b then p ∷ rows else from_key k rows)) (sym f) (rows_from look (suc p.0) high k rows under (rest_rows look low high p rows a)))
   where
-    both : (xs : Rows) → k ≤ p.0 → Each (λ q. suc p.0 ≤ q.0) xs → Each (λ q. (low ≤ q.0) × (q.0 ≤ high) × ((look q.0).row ≡ Some q.1)) xs → Each (λ q. (k ≤ q.0) × (q.0 ≤ high) × ((look q.0).row ≡ Some q.1)) xs
+    both : (xs : Rows) → k ≤ p.0 → Each (λ q. suc p.0 ≤ q.0) xs → Each (λ q. (low ≤ q.0) × (q.0 ≤ high) × ((look q.0).row ≡ Some q.1)) xs →
+        Each (λ q. (k ≤ q.0) × (q.0 ≤ high) × ((look q.0).row ≡ Some q.1)) xs
     both [] here l e = tt
     both (x ∷ xs) here l e = ((let o = l.0 in omega (arith, here, o), e.0.1, e.0.2), both xs here l.1 e.1)
 

@@ -78,10 +78,12 @@ unfolding bucket_of
 home_within n r some = omega (arith, some)
 
 -- no key of a bucket is passed over on the way from a record to it
-not_before : (n b : ℕ) (table : TableId) (from a k : ℕ) → bucket_of n (record_at table from) < n → a < n → (bucket_of n (record_at table from) + a) % n ≡ b → from ≤ k → IsOwnKey n b table k → from + a ≤ k
+not_before : (n b : ℕ) (table : TableId) (from a k : ℕ) → bucket_of n (record_at table from) < n → a < n → (bucket_of n (record_at table from) + a) % n ≡ b → from ≤ k →
+    IsOwnKey n b table k → from + a ≤ k
 not_before n b table from a k home within there le own =
     let back : from + (k - from) ≡ k = omega (arith, le) in
-    let same : (bucket_of n (record_at table from) + a) % n ≡ (bucket_of n (record_at table from) + (k - from)) % n = there ∙ sym own ∙ ap (λ x. bucket_of n (record_at table x)) (sym back) ∙ moved n table from (k - from) in
+    let same : (bucket_of n (record_at table from) + a) % n ≡ (bucket_of n (record_at table from) + (k - from)) % n = there ∙ sym own ∙
+    ap (λ x. bucket_of n (record_at table x)) (sym back) ∙ moved n table from (k - from) in
     let least = shortest n (bucket_of n (record_at table from)) a (k - from) home within same in
     omega (arith, least, le)
 
@@ -100,7 +102,8 @@ own_next n b table first some own = moved n table first n ∙ (ap (λ x. (x + n)
 pub own_apart : (n b : ℕ) (table : TableId) (first k : ℕ) → 0 < n → IsOwnKey n b table first → IsOwnKey n b table k → first + 1 ≤ k → first + n ≤ k
 own_apart n b table first k some own other over =
     let back : first + 1 + (n - 1) ≡ first + n = omega (arith, some) in
-    let there : (bucket_of n (record_at table (first + 1)) + (n - 1)) % n ≡ b = sym (moved n table (first + 1) (n - 1)) ∙ (ap (λ x. bucket_of n (record_at table x)) back ∙ own_next n b table first some own) in
+    let there : (bucket_of n (record_at table (first + 1)) + (n - 1)) % n ≡ b = sym (moved n table (first + 1) (n - 1)) ∙
+    (ap (λ x. bucket_of n (record_at table x)) back ∙ own_next n b table first some own) in
     let least = not_before n b table (first + 1) (n - 1) k (home_within n (record_at table (first + 1)) some) (omega (arith, some)) there over other in
     omega (arith, least, some)
 

@@ -25,7 +25,8 @@ needed ahead count low limit e = cases (nat_lt ahead count)
     (λ t. let f : nat_le (low + ahead) limit ≡ true = ap (λ b. b && nat_le (low + ahead) limit) (sym t) ∙ e in (grind (arith, nat_tests, t), grind (arith, nat_tests, f)))
     (λ f. absurd (let z : false ≡ true = ap (λ b. b && nat_le (low + ahead) limit) (sym f) ∙ e in cc))
 
-module _ (count n : ℕ) (v w : View) (table : TableId) (low high number limit upto : ℕ) (rows : Rows) (some : 0 < n) (buckets : 0 < count) (k : IsCut count n v table low high number limit upto rows w) (is : upto ≡ passed n limit rows) (end : (count ≤ number) ⊎ (limit < low + number)) where
+module _ (count n : ℕ) (v w : View) (table : TableId) (low high number limit upto : ℕ) (rows : Rows) (some : 0 < n) (buckets : 0 < count)
+    (k : IsCut count n v table low high number limit upto rows w) (is : upto ≡ passed n limit rows) (end : (count ≤ number) ⊎ (limit < low + number)) where
   reached_to : passed n high rows ≡ upto
   reached_to = cases (nat_lt (length rows) n)
       (λ t. ap (λ b. if b then high else last_key high rows) t ∙ sym (all (grind (arith, nat_tests, t)) k.gathered.enough))
@@ -59,6 +60,7 @@ module _ (count n : ℕ) (v w : View) (table : TableId) (low high number limit u
       before i under near (inl a) = omega (arith, under, a)
       before i under near (inr b) = omega (arith, near, b)
 
-      each_two : (ys : Rows) → Each (λ p. (i : ℕ) × (i < number) × Contains (k.gathered.part i) p) ys → Each (λ p. p.0 ≤ upto) ys → Each (λ p. ((i : ℕ) × (i < number) × Contains (k.gathered.part i) p) × (p.0 ≤ passed n high rows)) ys
+      each_two : (ys : Rows) → Each (λ p. (i : ℕ) × (i < number) × Contains (k.gathered.part i) p) ys → Each (λ p. p.0 ≤ upto) ys →
+          Each (λ p. ((i : ℕ) × (i < number) × Contains (k.gathered.part i) p) × (p.0 ≤ passed n high rows)) ys
       each_two [] c d = tt
       each_two (y ∷ ys) c d = ((c.0, subst (λ m. y.0 ≤ m) (sym reached_to) d.0), each_two ys c.1 d.1)

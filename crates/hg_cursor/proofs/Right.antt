@@ -20,12 +20,14 @@ replied_earlier : (buckets : ℕ) (h : History) (logs : ℕ → List LogEntry) (
 replied_earlier buckets h logs j [] l a = a
 replied_earlier buckets h logs j (e ∷ later) l a = replied_earlier buckets h logs j later l a.1
 
-module _ (count n : ℕ) (v w : View) (at : ℕ) (table : TableId) (low high : ℕ) (rows : Rows) (h : History) (logs : ℕ → List LogEntry) (r : ReadsAt at table v) (k : FetchesRows count n v table low high rows w) (g : GoesOn count w h logs) where
+module _ (count n : ℕ) (v w : View) (at : ℕ) (table : TableId) (low high : ℕ) (rows : Rows) (h : History) (logs : ℕ → List LogEntry) (r : ReadsAt at table v)
+    (k : FetchesRows count n v table low high rows w) (g : GoesOn count w h logs) where
   parts : (i : ℕ) → i < k.looked.number → AreRows (in_bucket count (bucket_at count table low i) table (λ rid. visible h rid at)) low high (k.looked.part i)
   parts i less =
       let log = ap (λ (p : SessionPart). p.log) (added_session v w _ k.looked.adds) in
       let whole : AreReplied count h logs (number w) (g.later.0 ++ (session w).log) = subst (AreReplied count h logs (number w)) g.later.1 (g.answers (number w)) in
-      let own : AreReplied count h logs (number w) (looks count table low high k.looked.part k.looked.number ++ (session v).log) = subst (AreReplied count h logs (number w)) log (replied_earlier count h logs (number w) g.later.0 (session w).log whole) in
+      let own : AreReplied count h logs (number w) (looks count table low high k.looked.part k.looked.number ++ (session v).log) = subst (AreReplied count h logs (number w)) log
+      (replied_earlier count h logs (number w) g.later.0 (session w).log whole) in
       subst (λ ws. AreRows (in_bucket count (bucket_at count table low i) table (seen h ws at)) low high (k.looked.part i)) r.unwritten
       (looks_replied count h logs (number w) table low high k.looked.part k.looked.number (session v).log _ r.opens own i less)
 

@@ -149,12 +149,16 @@ narrowed shown low high limit old rows k over under u = record {
 }
 
 -- one key more, and the next one after it up to a limit that may be lower
-pub one_more : (shown : ℕ → Image) (Sought : ℕ → Type 0) (low high limit : ℕ) (old : Rows) (gone : (key : ℕ) → (Sought key → ⊥) → (shown key).row ≡ None) (rows new : Rows) (k : ℕ) (next : Option ℕ) → IsWithin low high (Some k) → k ≤ limit → limit ≤ high → IsSoFar shown low high old rows (Some k) → new ≡ rows ++ rows_at k (shown k).row → IsWithin (k + 1) limit next → LeadsOn Sought (k + 1) limit next
+pub one_more : (shown : ℕ → Image) (Sought : ℕ → Type 0) (low high limit : ℕ) (old : Rows) (gone : (key : ℕ) → (Sought key → ⊥) → (shown key).row ≡ None) (rows new : Rows) (k : ℕ)
+    (next : Option ℕ) → IsWithin low high (Some k) → k ≤ limit → limit ≤ high → IsSoFar shown low high old rows (Some k) → new ≡ rows ++ rows_at k (shown k).row →
+    IsWithin (k + 1) limit next → LeadsOn Sought (k + 1) limit next
     → IsSoFar shown low limit old new next
-one_more shown Sought low high limit old gone rows new k next here over under s e within n = goes_on shown Sought low limit old gone new k next (narrowed shown low high limit old new k over under (row_added shown Sought low high old gone rows new k here.0 here.1 s e)) within n
+one_more shown Sought low high limit old gone rows new k next here over under s e within n = goes_on shown Sought low limit old gone new k next
+    (narrowed shown low high limit old new k over under (row_added shown Sought low high old gone rows new k here.0 here.1 s e)) within n
 
 -- where so many rows are up to a limit, or it is the highest, the same is so of a lower one
-pub still_enough : (n lower limit high : ℕ) (rows more new : Rows) → new ≡ rows ++ more → (lower ≡ limit) ⊎ (n ≤ count_upto lower new) → (limit ≡ high) ⊎ (n ≤ count_upto limit rows) → (lower ≡ high) ⊎ (n ≤ count_upto lower new)
+pub still_enough : (n lower limit high : ℕ) (rows more new : Rows) → new ≡ rows ++ more → (lower ≡ limit) ⊎ (n ≤ count_upto lower new) →
+    (limit ≡ high) ⊎ (n ≤ count_upto limit rows) → (lower ≡ high) ⊎ (n ≤ count_upto lower new)
 still_enough n lower limit high rows more new is (inl e) (inl f) = inl (e ∙ f)
 still_enough n lower limit high rows more new is (inl e) (inr many) =
     let sums : count_upto lower new ≡ count_upto lower rows + count_upto lower more = ap (sum_by (one_upto lower)) is ∙ sum_by-append (one_upto lower) rows more in
@@ -174,7 +178,8 @@ still_within low k high (Some m) here w = let a = here.0 in let c = w.0 in (omeg
 
 -- ---- where the search ends
 
-pub ends : (shown : ℕ → Image) (n low limit high : ℕ) (old rows : Rows) → IsSoFar shown low limit old rows None → limit ≤ high → (limit ≡ high) ⊎ (n ≤ count_upto limit rows) → Appends shown n low high old rows limit
+pub ends : (shown : ℕ → Image) (n low limit high : ℕ) (old rows : Rows) → IsSoFar shown low limit old rows None → limit ≤ high → (limit ≡ high) ⊎ (n ≤ count_upto limit rows) →
+    Appends shown n low high old rows limit
 ends shown n low limit high old rows s under enough = record {
   more = s.more;
   is = s.is;
@@ -184,7 +189,8 @@ ends shown n low limit high old rows s under enough = record {
 }
 
 -- a wider range, of which no other key is shown
-pub widened : (shown : ℕ → Image) (n low own high : ℕ) (old new : Rows) (upto : ℕ) → low ≤ own → ((k : ℕ) → low ≤ k → k < own → (shown k).row ≡ None) → Appends shown n own high old new upto → Appends shown n low high old new upto
+pub widened : (shown : ℕ → Image) (n low own high : ℕ) (old new : Rows) (upto : ℕ) → low ≤ own → ((k : ℕ) → low ≤ k → k < own → (shown k).row ≡ None) →
+    Appends shown n own high old new upto → Appends shown n low high old new upto
 widened shown n low own high old new upto less none a = record {
   more = a.more;
   is = a.is;
@@ -192,7 +198,8 @@ widened shown n low own high old new upto less none a = record {
   rows = record {
     ascend = a.rows.ascend;
     each = each_keeps _ _ (λ p q. (let l = q.0 in omega (arith, l, less), q.1, q.2)) a.more a.rows.each;
-    every = λ key l h. cases (nat_lt key own) (λ t. let under : key < own = grind (arith, nat_tests, t) in inr (none key l under)) (λ f. let over : own ≤ key = grind (arith, nat_tests, f) in a.rows.every key over h);
+    every = λ key l h. cases (nat_lt key own) (λ t. let under : key < own = grind (arith, nat_tests, t) in
+        inr (none key l under)) (λ f. let over : own ≤ key = grind (arith, nat_tests, f) in a.rows.every key over h);
   };
   enough = a.enough;
 }
@@ -223,7 +230,8 @@ rest_rows shown low high p rows a = record {
   every = λ key l h. go key l (let m = a.each.0.0 in a.every key (omega (arith, l, m)) h);
 }
   where
-    over : (xs : Rows) → Each (λ q. suc p.0 ≤ q.0) xs → Each (λ q. (low ≤ q.0) × (q.0 ≤ high) × ((shown q.0).row ≡ Some q.1)) xs → Each (λ q. (suc p.0 ≤ q.0) × (q.0 ≤ high) × ((shown q.0).row ≡ Some q.1)) xs
+    over : (xs : Rows) → Each (λ q. suc p.0 ≤ q.0) xs → Each (λ q. (low ≤ q.0) × (q.0 ≤ high) × ((shown q.0).row ≡ Some q.1)) xs →
+        Each (λ q. (suc p.0 ≤ q.0) × (q.0 ≤ high) × ((shown q.0).row ≡ Some q.1)) xs
     over [] l e = tt
     over (x ∷ xs) l e = ((l.0, e.0.1, e.0.2), over xs l.1 e.1)
 

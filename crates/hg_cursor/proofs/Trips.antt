@@ -53,14 +53,16 @@ first_session v j part os e = ap (λ (ps : List Part). session_there (first_in p
 pub arrived : (v u : View) (b : ℕ) → HasOnlySession v → Takes v b u → Beside (number v) (session v) b v.sights u
 arrived v u b only t = record {
   holds = t.part;
-  parts = session_arrives v (seeing (OfBucket b t.part ∷ []) t.seen []) u b t.part (only_session v only) refl t.after ∙ (λ i. OfSession (number v) (session v) ∷ OfBucket b t.part ∷ only_others v only i);
+  parts = session_arrives v (seeing (OfBucket b t.part ∷ []) t.seen []) u b t.part (only_session v only) refl t.after ∙
+      (λ i. OfSession (number v) (session v) ∷ OfBucket b t.part ∷ only_others v only i);
   kept = (t.seen, ap (λ (x : View). x.sights) t.after);
 }
 
 more_seen : (old sights xs : List Sight) → StartsWith sights old → StartsWith (sights ++ xs) old
 more_seen old sights xs k = (k.0 ++ xs, ap (λ l. l ++ xs) k.1 ∙ append_assoc old k.0 xs)
 
-pub looked : (j : ℕ) (part : SessionPart) (b n : ℕ) (old : List Sight) (ask : Ask) (u w : View) → Beside j part b old u → (k : Looks u ask n w) → Beside j (with_log (log_asked u ask n k.rows) part) b old w × IsAmong (Heard j (log_asked u ask n k.rows)) w.sights
+pub looked : (j : ℕ) (part : SessionPart) (b n : ℕ) (old : List Sight) (ask : Ask) (u w : View) → Beside j part b old u → (k : Looks u ask n w) →
+    Beside j (with_log (log_asked u ask n k.rows) part) b old w × IsAmong (Heard j (log_asked u ask n k.rows)) w.sights
 looked j part b n old ask u w h k =
     let e = first_number u j part _ h.parts in
     let s = first_session u j part _ h.parts in
@@ -83,7 +85,8 @@ departed j part b old u w h e =
     (session_departs u w has e ∙ (λ i. OfSession (n i) (s i) ∷ o i), (h.kept.0, ap (λ (x : View). x.sights) e ∙ h.kept.1))
 
 -- a pass that gave the bucket back is still one of the board
-pub left_pass : (t : BoardId) (z : Sizes) (p q : SessionPass) (j b : ℕ) (part : SessionPart) (old : List Sight) → IsSessionOf t z p → Beside j part b old (session_view p) → IsSeatOf t q.seat → session_rest q ≡ session_rest p → (session_view q).parts ≡ OfSession j part ∷ [] → IsSessionOf t z q
+pub left_pass : (t : BoardId) (z : Sizes) (p q : SessionPass) (j b : ℕ) (part : SessionPart) (old : List Sight) → IsSessionOf t z p → Beside j part b old (session_view p) →
+    IsSeatOf t q.seat → session_rest q ≡ session_rest p → (session_view q).parts ≡ OfSession j part ∷ [] → IsSessionOf t z q
 left_pass t z p q j b part old own h seat rest a =
     let n = first_number (session_view p) j part _ h.parts in
     let s = first_session (session_view p) j part _ h.parts in
@@ -92,7 +95,8 @@ left_pass t z p q j b part old own h seat rest a =
 -- ---- the reader, next to a bucket
 
 pub writer_beside : (j b : ℕ) (part : SessionPart) (old : List Sight) (u : View) (by : Writer) → Beside j part b old u → by.session ≡ j → by.transaction ≡ begans part.log → by ≡ writer u
-writer_beside j b part old u by h s t = (λ i. record { session = s i; transaction = t i }) ∙ (λ i. record { session = sym (first_number u j part _ h.parts) i; transaction = begans (sym (first_session u j part _ h.parts) i).log })
+writer_beside j b part old u by h s t = (λ i. record { session = s i; transaction = t i }) ∙
+    (λ i. record { session = sym (first_number u j part _ h.parts) i; transaction = begans (sym (first_session u j part _ h.parts) i).log })
 
 pub snapshot_beside : (j b : ℕ) (part : SessionPart) (old : List Sight) (u : View) → Beside j part b old u → snapshot u ≡ loaded_in part.phase
 snapshot_beside j b part old u h = ap (λ (p : SessionPart). loaded_in p.phase) (first_session u j part _ h.parts)

@@ -51,8 +51,8 @@ pub(crate) fn first_rows<R: Wait>(
     requires reads { ReadsAt request.at request.table (session_view pass.old) }
     requires range { request.low ≤ request.high }
     requires most { 0 < request.most }
-    ensures gains { Fetches (store_buckets store.now) request.most (session_view pass.old) request.table
-        request.low request.high result (session_view pass.new) }
+    ensures gains { Fetches (store_buckets store.now) request.most (session_view pass.old)
+        request.table request.low request.high result (session_view pass.new) }
     ensures reads { ReadsAt request.at request.table (session_view pass.new) }
     ensures heard { IsHeard (session_view pass.old) → IsHeard (session_view pass.new) }
     ensures own { IsSessionOf (board_id board.now) (sizes_of board.now) pass.new }

@@ -5,9 +5,9 @@ ghost use Rattle.std.specs.Option.{ForSome};
 
 use crate::buckets::{first_rows, last_passed};
 use crate::request::Request;
+use crate::tables::Tables;
 use hg_base::{NoMemory, RowList, TableId};
-use hg_rule::{Board, SessionPass};
-use hg_store::Store;
+use hg_rule::SessionPass;
 use std::alloc::Global;
 use std::sync::Wait;
 
@@ -27,7 +27,7 @@ impl Cursor {
     ghost use Rattle.hg_base.specs.History.{History};
     ghost use Rattle.hg_core.specs.declared.log.LogEntry.{LogEntry};
     ghost use Rattle.hg_rule.specs.Seats.{board_id, sizes_of, session_view, IsSessionOf};
-    ghost use Rattle.hg_store.specs.Stores.{store_board_id, store_buckets};
+    ghost use Rattle.hg_store.specs.Stores.{store_buckets};
     ghost use Rattle.hg_cursor.specs.Logs.{IsHeard, ReadsAt, GoesOn};
     ghost use Rattle.hg_cursor.specs.Cursors.{at_of, table_of, high_of, rest_of, shown_at, FetchesRest};
     ghost use Rattle.hg_cursor.specs.Given.{begins_at, AreFirstOf, HasMoved};
@@ -62,30 +62,31 @@ impl Cursor {
         &mut self,
         rt: &R,
         alloc: Global,
-        board: &Board,
-        store: &Store,
+        tables: &Tables<'_>,
         pass: &mut SessionPass,
         most: u32,
     ) -> Result<RowList, NoMemory>
-        requires board { store_board_id store.now ≡ board_id board.now }
-        requires buckets { store_buckets store.now ≡ (sizes_of board.now).buckets }
-        requires own { IsSessionOf (board_id board.now) (sizes_of board.now) pass.old }
+        requires own { IsSessionOf (board_id tables.now.board.now) (sizes_of tables.now.board.now)
+            pass.old }
         // the session is live at the cursor's snapshot, and has written nothing
         requires reads { ReadsAt (at_of self.old) (table_of self.old) (session_view pass.old) }
         requires most { 1 ≤ most }
         // the log gains one look for each bucket taken, also on Err; the rows are the first ones of these looks
-        ensures looks { FetchesRest (store_buckets store.now) most (session_view pass.old)
-            (table_of self.old) (rest_of self.old) (high_of self.old) result (session_view pass.new) }
+        ensures looks { FetchesRest (store_buckets tables.now.store.now) most
+            (session_view pass.old) (table_of self.old) (rest_of self.old) (high_of self.old)
+            result (session_view pass.new) }
         // for each history in which the entries of this session's log are right
         ensures rows { IfOk result (λ rows. (h : History) (logs : ℕ → List LogEntry) →
-            GoesOn (store_buckets store.now) (session_view pass.new) h logs →
-            AreFirstOf (shown_at h (table_of self.old) (at_of self.old)) most (rest_of self.old) (high_of self.old) rows) }
+            GoesOn (store_buckets tables.now.store.now) (session_view pass.new) h logs →
+            AreFirstOf (shown_at h (table_of self.old) (at_of self.old)) most
+            (rest_of self.old) (high_of self.old) rows) }
         ensures moved { IfOk result (λ rows. HasMoved most rows self.old self.new) }
         ensures refused { OnErr result (self.new ≡ self.old) }
         // the next fetch can follow
         ensures reads { ReadsAt (at_of self.old) (table_of self.old) (session_view pass.new) }
         ensures heard { IsHeard (session_view pass.old) → IsHeard (session_view pass.new) }
-        ensures own { IsSessionOf (board_id board.now) (sizes_of board.now) pass.new }
+        ensures own { IsSessionOf (board_id tables.now.board.now) (sizes_of tables.now.board.now)
+            pass.new }
     {
         let Some(low) = self.rest else {
             return Ok(RowList::from(Vec::new(alloc)));
@@ -97,7 +98,7 @@ impl Cursor {
             high: self.high,
             most: most as usize,
         };
-        let rows = first_rows(rt, alloc, board, store, pass, request)?;
+        let rows = first_rows(rt, alloc, tables.board, tables.store, pass, request)?;
         let reached = last_passed(rows.as_slice(), request.most, self.high);
         self.rest = if reached < self.high {
             Some(reached + 1)

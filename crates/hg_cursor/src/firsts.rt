@@ -24,7 +24,8 @@ impl Model for Firsts {
 
     ghost view = { λ a. record { rows = a.rows.items; most = a.most } };
 
-    ghost invariant = { λ a. IsHeap nat_cmp (heap_items a.keys) × AreAmong (heap_items a.keys) a.rows.items };
+    ghost invariant = { λ a. IsHeap nat_cmp (heap_items a.keys) ×
+        AreAmong (heap_items a.keys) a.rows.items };
 }
 
 impl Firsts {

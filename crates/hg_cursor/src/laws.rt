@@ -16,7 +16,8 @@ ghost use Rattle.hg_cursor.specs.Given.{begins_at, Fetched, joined};
 
 /// The rows of all fetches, joined, are a prefix of the scan, and the whole of it where the cursor is done.
 pub fn fetches_are_the_scan()
-    ensures prefix { (look : ℕ → Image) (low high : ℕ) (fetches : List (ℕ × Rows)) (rest : Option ℕ) (all : Rows) →
+    ensures prefix { (look : ℕ → Image) (low high : ℕ) (fetches : List (ℕ × Rows))
+        (rest : Option ℕ) (all : Rows) →
         Fetched look high (begins_at low high) fetches rest →
         AreRows look low high all →
         StartsWith all (joined fetches) }
@@ -32,7 +33,8 @@ pub fn histories_go_on()
     ensures backed { (z : Sizes) (mark : ℕ) (v : View) (b : IsBacked z mark v) →
         HasOnlySession v →
         GoesOn z.buckets v b.state.history b.state.log }
-    ensures earlier { (buckets : ℕ) (v w : View) (entries : List LogEntry) (h : History) (logs : ℕ → List LogEntry) →
+    ensures earlier { (buckets : ℕ) (v w : View) (entries : List LogEntry) (h : History)
+        (logs : ℕ → List LogEntry) →
         Adds v entries w →
         GoesOn buckets w h logs →
         GoesOn buckets v h logs }

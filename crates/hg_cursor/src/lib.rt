@@ -22,6 +22,8 @@ mod firsts;
 mod laws;
 mod looks;
 mod request;
+mod tables;
 
 pub use cursor::Cursor;
 pub use laws::{fetches_are_the_scan, histories_go_on};
+pub use tables::Tables;

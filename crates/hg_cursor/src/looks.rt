@@ -93,7 +93,8 @@ fn push_row(
     firsts: &mut Firsts,
 ) -> Result<bool, NoMemory>
     ensures added { (v : View) → Holds v held.now →
-        OnOk result (firsts.new.rows ≡ firsts.old.rows ++ rows_at rid.key (read_by by at (held_in v rid)).row) }
+        OnOk result (firsts.new.rows ≡
+        firsts.old.rows ++ rows_at rid.key (read_by by at (held_in v rid)).row) }
     ensures most { firsts.new.most ≡ firsts.old.most }
 {
     if let Some(Image { row: Some(row) }) = held.read(rid, at, by) {

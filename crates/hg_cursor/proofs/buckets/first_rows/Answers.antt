@@ -18,7 +18,8 @@ loop-request-init g c =
     let count = store_buckets c.args.store.now in
     let v = session_view c.args.pass.now in
     record {
-      gathered = subst (λ (k : Copied). IsGathered count c.args.request.most v c.args.request.table c.args.request.low c.args.request.high 0 c.args.request.high k.rows v) (sym c.new-firsts.ensures) (none_gathered count c.args.request.most v c.args.request.table c.args.request.low c.args.request.high c.requires.range c.requires.reads.only);
+      gathered = subst (λ (k : Copied). IsGathered count c.args.request.most v c.args.request.table c.args.request.low c.args.request.high 0 c.args.request.high k.rows v)
+          (sym c.new-firsts.ensures) (none_gathered count c.args.request.most v c.args.request.table c.args.request.low c.args.request.high c.requires.range c.requires.reads.only);
       most = ap (λ (k : Copied). k.most) c.new-firsts.ensures;
       reads = c.requires.reads;
       heard = λ h. h;
@@ -37,7 +38,8 @@ returns-in_err-limit-clause-gains g c =
     let here = needed c.loop-request.ahead c.from-count.result c.args.request.low c.loop-request.limit test in
     let refused : c.from_residual.result ≡ Err c.in_err-limit.field-0.0 = search rules in
     subst (λ r. Fetches count c.args.request.most v c.args.request.table c.args.request.low c.args.request.high r w) (sym refused)
-    (stops count c.args.request.most v u w c.args.request.table c.args.request.low c.args.request.high c.loop-request.ahead c.loop-request.limit c.loop-request.limit c.loop-request.firsts.rows c.see_bucket.new.firsts.rows h.gathered c.see_bucket.ensures.sees.part c.see_bucket.ensures.sees.adds
+    (stops count c.args.request.most v u w c.args.request.table c.args.request.low c.args.request.high c.loop-request.ahead c.loop-request.limit c.loop-request.limit
+    c.loop-request.firsts.rows c.see_bucket.new.firsts.rows h.gathered c.see_bucket.ensures.sees.part c.see_bucket.ensures.sees.adds
     (subst (λ n. c.loop-request.ahead < n) counted here.0) here.1)
 
 pub loop-request-preserved : goal.loop-request-preserved

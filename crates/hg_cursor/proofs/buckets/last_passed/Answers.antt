@@ -12,4 +12,5 @@ returns-in-Some c =
     let within = slice_get_within c.args.rows.now (length c.args.rows.now - 1) c.in-Some.row.now got in
     let many : c.args.most ≤ length c.args.rows.now = search rules in
     let test : nat_lt (length c.args.rows.now) c.args.most ≡ false = grind (arith, nat_tests, many) in
-    sym (ap (λ b. if b then c.args.high else last_key c.args.high c.args.rows.now) test ∙ last_got c.args.high c.args.rows.now (length c.args.rows.now - 1) c.in-Some.row.now (omega (arith, within)) got)
+    sym (ap (λ b. if b then c.args.high else last_key c.args.high c.args.rows.now) test ∙ last_got c.args.high c.args.rows.now (length c.args.rows.now - 1) c.in-Some.row.now
+    (omega (arith, within)) got)

@@ -13,7 +13,8 @@ pub returns-then-is_dense-clause-own : goal.returns-then-is_dense-clause-own
 returns-then-is_dense-clause-own c = λ v b h are own. own_next c.args.count b c.args.table c.args.key c.requires.some own
 
 pub returns-then-is_dense-clause-leads : goal.returns-then-is_dense-clause-leads
-returns-then-is_dense-clause-leads c = λ v b h are own k l m has. own_apart c.args.count b c.args.table c.args.key k c.requires.some own (own_key c.args.count b (bucket v).content c.args.table k are has) l
+returns-then-is_dense-clause-leads c = λ v b h are own k l m has. own_apart c.args.count b c.args.table c.args.key k c.requires.some own
+    (own_key c.args.count b (bucket v).content c.args.table k are has) l
 
 pub returns-else-is_dense-clause-own : goal.returns-else-is_dense-clause-own
 returns-else-is_dense-clause-own c = λ v b h are own. c.next_from.ensures.own v b h are (own_next c.args.count b c.args.table c.args.key c.requires.some own)

@@ -21,14 +21,17 @@ loop-next-preserved c =
       most = c.push_row.ensures.most ∙ inv.most;
       own_next = λ v b h are own. c.next_after-next.ensures.own v b h are (subst (λ o. IfSome o (IsOwnKey c.args.count b l.request.table)) c.in-Some.is (inv.own_next v b h are own));
       so_far = λ v b h are own.
-          one_more (read_of c.args.by l.request.at l.request.table (bucket v).content) (HasVersion (bucket v).content l.request.table) l.own c.loop-next.limit lower c.args.firsts.now.rows (unread c.args.by l.request.at l.request.table (bucket v).content)
+          one_more (read_of c.args.by l.request.at l.request.table (bucket v).content)
+          (HasVersion (bucket v).content l.request.table) l.own c.loop-next.limit lower c.args.firsts.now.rows (unread c.args.by l.request.at l.request.table (bucket v).content)
           c.loop-next.firsts.rows c.push_row.new.firsts.rows key c.next_after-next.result here within.0 within.1
-          (subst (IsSoFar (read_of c.args.by l.request.at l.request.table (bucket v).content) l.own c.loop-next.limit c.args.firsts.now.rows c.loop-next.firsts.rows) c.in-Some.is (inv.so_far v b h are own))
+          (subst (IsSoFar (read_of c.args.by l.request.at l.request.table (bucket v).content) l.own c.loop-next.limit c.args.firsts.now.rows c.loop-next.firsts.rows) c.in-Some.is
+          (inv.so_far v b h are own))
           (c.in_ok-found.ensures.added v h)
           c.next_after-next.ensures.within
           (c.next_after-next.ensures.leads v b h are (subst (λ o. IfSome o (IsOwnKey c.args.count b l.request.table)) c.in-Some.is (inv.own_next v b h are own)));
       enough = λ v b h are own.
-          still_enough c.args.firsts.now.most lower c.loop-next.limit l.limit c.loop-next.firsts.rows (rows_at key (read_of c.args.by l.request.at l.request.table (bucket v).content key).row) c.push_row.new.firsts.rows (c.in_ok-found.ensures.added v h)
+          still_enough c.args.firsts.now.most lower c.loop-next.limit l.limit c.loop-next.firsts.rows
+          (rows_at key (read_of c.args.by l.request.at l.request.table (bucket v).content key).row) c.push_row.new.firsts.rows (c.in_ok-found.ensures.added v h)
           (subst (λ n. (lower ≡ c.loop-next.limit) ⊎ (n ≤ count_upto lower c.push_row.new.firsts.rows)) (c.push_row.ensures.most ∙ inv.most) c.limit_after-limit.ensures.enough)
           (inv.enough v b h are own);
     }
@@ -38,4 +41,5 @@ returns-clause-rows c = λ v b h are own.
     let shown = read_of c.args.by c.args.look.request.at c.args.look.request.table (bucket v).content in
     let inv = c.loop-next.invariant in
     let none : c.loop-next.next ≡ None = search rules in
-    ends shown c.args.firsts.now.most c.args.look.own c.loop-next.limit c.args.look.limit c.args.firsts.now.rows c.loop-next.firsts.rows (subst (IsSoFar shown c.args.look.own c.loop-next.limit c.args.firsts.now.rows c.loop-next.firsts.rows) none (inv.so_far v b h are own)) inv.below (inv.enough v b h are own)
+    ends shown c.args.firsts.now.most c.args.look.own c.loop-next.limit c.args.look.limit c.args.firsts.now.rows c.loop-next.firsts.rows
+    (subst (IsSoFar shown c.args.look.own c.loop-next.limit c.args.firsts.now.rows c.loop-next.firsts.rows) none (inv.so_far v b h are own)) inv.below (inv.enough v b h are own)

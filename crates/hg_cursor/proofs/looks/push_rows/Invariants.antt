@@ -13,9 +13,12 @@ invariant-loop-next l = record {
   below : l.limit ≤ l.look.limit;
   within : IsWithin l.look.own l.limit l.next;
   most : l.firsts.most ≡ l.fn.firsts.most;
-  own_next : (v : View) (b : ℕ) → Holds v l.fn.held → AreOwn l.count b (bucket v).content → IsOwnKey l.count b l.look.request.table l.look.own → IfSome l.next (IsOwnKey l.count b l.look.request.table);
-  so_far : (v : View) (b : ℕ) → Holds v l.fn.held → AreOwn l.count b (bucket v).content → IsOwnKey l.count b l.look.request.table l.look.own → IsSoFar (read_of l.by l.look.request.at l.look.request.table (bucket v).content) l.look.own l.limit l.fn.firsts.rows l.firsts.rows l.next;
-  enough : (v : View) (b : ℕ) → Holds v l.fn.held → AreOwn l.count b (bucket v).content → IsOwnKey l.count b l.look.request.table l.look.own → (l.limit ≡ l.look.limit) ⊎ (l.fn.firsts.most ≤ count_upto l.limit l.firsts.rows);
+  own_next : (v : View) (b : ℕ) → Holds v l.fn.held → AreOwn l.count b (bucket v).content → IsOwnKey l.count b l.look.request.table l.look.own →
+      IfSome l.next (IsOwnKey l.count b l.look.request.table);
+  so_far : (v : View) (b : ℕ) → Holds v l.fn.held → AreOwn l.count b (bucket v).content → IsOwnKey l.count b l.look.request.table l.look.own →
+      IsSoFar (read_of l.by l.look.request.at l.look.request.table (bucket v).content) l.look.own l.limit l.fn.firsts.rows l.firsts.rows l.next;
+  enough : (v : View) (b : ℕ) → Holds v l.fn.held → AreOwn l.count b (bucket v).content → IsOwnKey l.count b l.look.request.table l.look.own →
+      (l.limit ≡ l.look.limit) ⊎ (l.fn.firsts.most ≤ count_upto l.limit l.firsts.rows);
 }
 
 abbrev pub decreases-loop-next : goal.decreases-loop-next

@@ -35,7 +35,8 @@ returns-clause-sees g c =
     let l = c.args.look in
     let live : l.request.at ≡ loaded_in (session v).phase = sym (ap loaded_in reads.live) in
     let at = live ∙ sym (snapshot_beside (number v) b (session v) v.sights u h) in
-    let placed = held_own (sizes_of c.args.board.now) c.take-held.ensures.backed.0 b u c.take-held.ensures.backed.1 (subst (λ n. HoldsBucket n u) c.take-held.ensures.held.1 c.take-held.ensures.holds.has) in
+    let placed = held_own (sizes_of c.args.board.now) c.take-held.ensures.backed.0 b u c.take-held.ensures.backed.1
+    (subst (λ n. HoldsBucket n u) c.take-held.ensures.held.1 c.take-held.ensures.holds.has) in
     let are = subst (λ n. AreOwn n b (bucket u).content) (sym c.requires.buckets) placed in
     let counted : c.from-count.result ≡ count = search rules in
     let rows = saw_rows count (number v) b m (session v) v.sights l u w h k in
@@ -43,7 +44,8 @@ returns-clause-sees g c =
     let d = departed (number v) _ b v.sights w x seen.0 c.give.ensures.view in
     sees count (number v) b m (session v) v.sights l u w h k v x c.writer-by.result c.args.firsts.now c.push_rows-reached.new.firsts c.push_rows-reached.result
     c.requires.first c.requires.within.1 c.bucket_of-bucket.ensures.own are by at c.push_rows-reached.ensures.most
-    (c.push_rows-reached.ensures.rows u b c.take-held.ensures.holds (subst (λ n. AreOwn n b (bucket u).content) (sym counted) are) (ap (λ n. bucket_of n (record_at l.request.table l.own)) counted ∙ sym c.bucket_of-bucket.ensures.own))
+    (c.push_rows-reached.ensures.rows u b c.take-held.ensures.holds (subst (λ n. AreOwn n b (bucket u).content) (sym counted) are)
+    (ap (λ n. bucket_of n (record_at l.request.table l.own)) counted ∙ sym c.bucket_of-bucket.ensures.own))
     (record { parts = d.0 ∙ (λ i. OfSession (number v) (with_log (rows i) (session v)) ∷ []); kept = d.1 })
 
 pub returns-clause-heard : goal.returns-clause-heard

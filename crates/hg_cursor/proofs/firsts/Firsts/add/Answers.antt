@@ -13,5 +13,6 @@ invariant_of-self-then-len-self c = (
 pub invariant_of-self-2 : goal.invariant_of-self-2
 invariant_of-self-2 c = (
   c.in_ok-push-2.ensures.heap_order c.self.invariant.0,
-  subst (AreAmong (heap_items c.push-2.new.self)) (sym c.in_ok-push.ensures.items) (added (heap_items c.self.inside.keys) (heap_items c.push-2.new.self) c.self.inside.rows.items c.args.key c.args.row c.in_ok-push-2.ensures.permutation c.self.invariant.1),
+  subst (AreAmong (heap_items c.push-2.new.self)) (sym c.in_ok-push.ensures.items)
+      (added (heap_items c.self.inside.keys) (heap_items c.push-2.new.self) c.self.inside.rows.items c.args.key c.args.row c.in_ok-push-2.ensures.permutation c.self.invariant.1),
 )
