@@ -44,7 +44,8 @@ none_below n r (y ∷ ys) is h = go (same_rid r y) refl (none_below n r ys is h.
     go false e rest = rest
 
 -- one table more
-module _ (p : PassRecord) (v w : View) (n k before between after : ℕ) (t : TableId) (is : t.0 ≡ n) (many : k ≡ length (recorded t p)) (a : SpendsTables n p v before between) (rest : (r : Rid) → n ≤ r.table.0 → held w r ≡ held v r) (b : Spends w t k between after) where
+module _ (p : PassRecord) (v w : View) (n k before between after : ℕ) (t : TableId) (is : t.0 ≡ n) (many : k ≡ length (recorded t p)) (a : SpendsTables n p v before between)
+    (rest : (r : Rid) → n ≤ r.table.0 → held w r ≡ held v r) (b : Spends w t k between after) where
   number : (r : Rid) → r.table ≡ t → r.table.0 ≡ n
   number r e = ap (λ (x : TableId). x.0) e ∙ is
 
@@ -65,6 +66,7 @@ module _ (p : PassRecord) (v w : View) (n k before between after : ℕ) (t : Tab
     are_below = each_both (λ (r : Rid). r.table.0 < suc n) b.looked a.looked
         (each_from (IsLongOf t w) (λ (r : Rid). r.table.0 < suc n) b.looked (λ r h. let same = number r h.0 in omega (arith, same)) b.are_long)
         (each_from (λ (r : Rid). r.table.0 < n) (λ (r : Rid). r.table.0 < suc n) a.looked (λ r h. omega (arith, h)) a.are_below);
-    are_long = each_both (λ (r : Rid). IsLongOf r.table v r) b.looked a.looked (each_from (IsLongOf t w) (λ (r : Rid). IsLongOf r.table v r) b.looked (λ r h. long_still t v w r (stays r h.0) h) b.are_long) a.are_long;
+    are_long = each_both (λ (r : Rid). IsLongOf r.table v r) b.looked a.looked
+        (each_from (IsLongOf t w) (λ (r : Rid). IsLongOf r.table v r) b.looked (λ r h. long_still t v w r (stays r h.0) h) b.are_long) a.are_long;
     few = omega (arith, a.few, b.few, sums b.looked b.are_long, sum_by-append (record_cost p v) b.looked a.looked);
   }

@@ -7,7 +7,8 @@ ghost use Rattle.hg_rule.specs.Seats.{BoardId, board_id, sizes_of, IsPassOf};
 ghost use Rattle.hg_store.specs.Stores.{store_board_id, store_buckets};
 ghost use Rattle.hg_tracker.specs.Boards.{trackers_board_id, board_sizes};
 
-use crate::visiting::visit_all;
+use crate::tools::Tools;
+use crate::visits::visit_all;
 use hg_base::{Kind, NoMemory, Report, Steps};
 use hg_rule::CollectorPass;
 use hg_store::Store;
@@ -102,7 +103,12 @@ impl IntervalCollector {
             self.new }
     {
         trackers.gather(&mut self.pass, &mut self.gathered);
-        let removed = visit_all(rt, trackers, store, &mut self.pass, &self.gathered, steps);
+        let tools = Tools {
+            trackers,
+            store,
+            gathered: &self.gathered,
+        };
+        let removed = visit_all(rt, &tools, &mut self.pass, steps);
         rewrite(&mut self.report, Kind::Interval, &self.gathered, removed);
     }
 

@@ -19,7 +19,9 @@
 #![tactic(auto)]
 
 mod collector;
-mod visiting;
+mod tools;
+mod visits;
 
 pub use collector::IntervalCollector;
-pub use visiting::visit_bucket;
+pub use tools::Tools;
+pub use visits::visit_bucket;

@@ -34,9 +34,11 @@ module _ (Q : Rid → List Version → Type 0) (buckets : ℕ) where
       let is : IsVisitOf Interval Q (pass u).mark b one.visit = subst (λ mark. IsVisitOf Interval Q mark b one.visit) same.mark_is one.is in
       let at : one.visit.bucket ≡ b = ap (λ (x : Visit). x.bucket) is.is in record {
         on = goes_on Interval u v w a.on one.on;
-        gone_is = (let s : removed_all Interval (one.on.visits ++ a.on.visits) ≡ removed_all Interval one.on.visits + removed_all Interval a.on.visits = removed_append Interval one.on.visits a.on.visits in omega (arith, s, a.gone_is, one.gone_is, one.on.sum));
+        gone_is = (let s : removed_all Interval (one.on.visits ++ a.on.visits) ≡ removed_all Interval one.on.visits + removed_all Interval a.on.visits = removed_append Interval
+            one.on.visits a.on.visits in omega (arith, s, a.gone_is, one.gone_is, one.on.sum));
         numbers_are = (λ i. sym at i ∷ a.numbers_are i) ∙ ap (λ vs. visited (vs ++ a.on.visits)) (sym one.only);
-        each = subst (λ vs. AreVisits Q (pass u).mark buckets (vs ++ a.on.visits)) (sym one.only) ((subst (λ n. n < buckets) (sym at) low, subst (λ n. IsVisitOf Interval Q (pass u).mark n one.visit) (sym at) is), a.each);
+        each = subst (λ vs. AreVisits Q (pass u).mark buckets (vs ++ a.on.visits)) (sym one.only)
+            ((subst (λ n. n < buckets) (sym at) low, subst (λ n. IsVisitOf Interval Q (pass u).mark n one.visit) (sym at) is), a.each);
       }
 
   -- no more went than the pass ever removed
@@ -62,13 +64,15 @@ pub record Turns (t : BoardId) (d : TableId) (sessions buckets : ℕ) (g : Gathe
   pub shown : IsGatherOf sessions (pass (pass_view h.pass)) g
 
 module _ (t : BoardId) (d : TableId) (sessions buckets : ℕ) (g : Gathered) (old : Helper) where
-  pub turn_first : (h : Helper) (b : ℕ) → h.pass ≡ old.pass → h.removed ≡ old.removed → h.number ≡ old.number → IsReady old → IsGatherOf sessions (pass (pass_view old.pass)) g → IsHelperOf t d old → IsDrawerOf d h.drawer → Drew (drawn_by old.drawer) b (drawn_by h.drawer)
+  pub turn_first : (h : Helper) (b : ℕ) → h.pass ≡ old.pass → h.removed ≡ old.removed → h.number ≡ old.number → IsReady old → IsGatherOf sessions (pass (pass_view old.pass)) g →
+      IsHelperOf t d old → IsDrawerOf d h.drawer → Drew (drawn_by old.drawer) b (drawn_by h.drawer)
       → Turns t d sessions buckets g old h b 0
   turn_first h b same removed number ready shown own drawer drew =
       let gone : h.removed ≡ 0 = removed ∙ ready.none in record {
         numbers = [];
         helps = subst (λ n. Helps (IsCleanBy (record_of (pass (pass_view old.pass)))) buckets (pass_view old.pass) [] n (pass_view h.pass)) (sym gone)
-            (subst (λ (p : CollectorPass). Helps (IsCleanBy (record_of (pass (pass_view old.pass)))) buckets (pass_view old.pass) [] 0 (pass_view p)) (sym same) (helps_none _ buckets (pass_view old.pass) own.0.1));
+            (subst (λ (p : CollectorPass). Helps (IsCleanBy (record_of (pass (pass_view old.pass)))) buckets (pass_view old.pass) [] 0 (pass_view p)) (sym same)
+            (helps_none _ buckets (pass_view old.pass) own.0.1));
         drew = drew.numbers ∙ ap (λ (v : Drawn). b ∷ v.numbers) ready.fresh;
         quota_is = (let l : suc (drawn_by h.drawer).left ≡ helper_quota = drew.left ∙ ap (λ (v : Drawn). v.left) ready.fresh in omega arith);
         short = omega arith;
@@ -84,14 +88,17 @@ module _ (t : BoardId) (d : TableId) (sessions buckets : ℕ) (g : Gathered) (ol
     left_some low = let e = a.quota_is in let s = a.short in omega arith
 
     -- one bucket more, and one number
-    pub turn_more : (later : Helper) (k c : ℕ) → b < buckets → Visits Interval (IsCleanBy (record_of (pass (pass_view h.pass)))) b k (pass_view h.pass) (pass_view later.pass) → removed_all Interval (pass (pass_view later.pass)).visits ≤ 2 ^ 41
-        → later.removed ≡ h.removed + k → later.number ≡ h.number → IsGatherOf sessions (pass (pass_view later.pass)) g → IsPassOf t later.pass → IsDrawerOf d later.drawer → Drew (drawn_by h.drawer) c (drawn_by later.drawer)
+    pub turn_more : (later : Helper) (k c : ℕ) → b < buckets → Visits Interval (IsCleanBy (record_of (pass (pass_view h.pass)))) b k (pass_view h.pass) (pass_view later.pass) →
+        removed_all Interval (pass (pass_view later.pass)).visits ≤ 2 ^ 41
+        → later.removed ≡ h.removed + k → later.number ≡ h.number → IsGatherOf sessions (pass (pass_view later.pass)) g → IsPassOf t later.pass → IsDrawerOf d later.drawer →
+        Drew (drawn_by h.drawer) c (drawn_by later.drawer)
         → Turns t d sessions buckets g old later c (asked + 1)
     turn_more later k c low visits few_all removed number shown own drawer drew =
         let Q = IsCleanBy (record_of (pass (pass_view old.pass))) in
         let same = (same_pass Interval (pass_view old.pass) (pass_view h.pass) a.helps.on).record_is in
         let one = subst (λ (p : PassRecord). Visits Interval (IsCleanBy p) b k (pass_view h.pass) (pass_view later.pass)) same visits in
-        let helps : Helps Q buckets (pass_view old.pass) (b ∷ a.numbers) (h.removed + k) (pass_view later.pass) = helps_more Q buckets (pass_view old.pass) (pass_view h.pass) (pass_view later.pass) b h.removed k a.numbers a.helps one low in
+        let helps : Helps Q buckets (pass_view old.pass) (b ∷ a.numbers) (h.removed + k) (pass_view later.pass) = helps_more Q buckets (pass_view old.pass) (pass_view h.pass)
+        (pass_view later.pass) b h.removed k a.numbers a.helps one low in
         let few : h.removed + k ≤ 2 ^ 41 = helps_few Q buckets (pass_view old.pass) (pass_view later.pass) (b ∷ a.numbers) (h.removed + k) helps few_all in record {
           numbers = b ∷ a.numbers;
           helps = subst (λ n. Helps Q buckets (pass_view old.pass) (b ∷ a.numbers) n (pass_view later.pass)) (sym removed) helps;

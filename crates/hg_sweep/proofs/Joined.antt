@@ -1,5 +1,6 @@
 -- Helpers are hired, work, and come back.
-use Rattle.std.proofs.Common.{◌≡◌, inl, inr, ℕ, zero, suc, ◌+◌, ◌*◌, ◌-◌, ◌<◌, ◌≤◌, ◌^◌, eqb, ltb, List, [], ◌∷◌, ◌++◌, length, take, get_or, refl, sym, ap, ◌∙◌, subst, arith, append_assoc, append-nil, length-append, eq-eqb, ne_eqb}
+use Rattle.std.proofs.Common.{◌≡◌, inl, inr, ℕ, zero, suc, ◌+◌, ◌*◌, ◌-◌, ◌<◌, ◌≤◌, ◌^◌, eqb, ltb, List, [], ◌∷◌, ◌++◌, length, take, get_or, refl, sym, ap, ◌∙◌, subst, arith, append_assoc}
+use Rattle.std.proofs.Common.{append-nil, length-append, eq-eqb, ne_eqb}
 use Rattle.std.specs.Prelude.{All}
 use Rattle.std.proofs.lemmas.Bool.{lt-ltb, le-ltb}
 use native.Mathlib.Decide.{dec_le}
@@ -88,7 +89,8 @@ module _ (t : BoardId) (d : TableId) (x : View) where
     events_same = ap (λ (v : View). v.events) a.own_is
 
     -- a helper more
-    module _ (z : View) (z_is : z ≡ halved y) (h : Helper) (view_is : pass_view h.pass ≡ branch (number (pass_view h.pass)) y) (own : IsHelperOf t d h) (few : h.number ≤ 16) (nothing : h.removed ≡ 0) (mine : drawn_by h.drawer ≡ record { left = helper_quota; numbers = [] }) (later : Drawn) (later_is : later ≡ hirer drawn) (enough : helper_quota ≤ drawn.left) where
+    module _ (z : View) (z_is : z ≡ halved y) (h : Helper) (view_is : pass_view h.pass ≡ branch (number (pass_view h.pass)) y) (own : IsHelperOf t d h) (few : h.number ≤ 16)
+        (nothing : h.removed ≡ 0) (mine : drawn_by h.drawer ≡ record { left = helper_quota; numbers = [] }) (later : Drawn) (later_is : later ≡ hirer drawn) (enough : helper_quota ≤ drawn.left) where
       kept : (pass z).share ≡ kept_of (pass y).share
       kept = ap (λ (v : View). (pass v).share) z_is
 
@@ -98,8 +100,10 @@ module _ (t : BoardId) (d : TableId) (x : View) where
       pub hired_more : HasHired t d (suc n) x (hs ++ h ∷ []) z later
       hired_more = record {
         own_is = z_is ∙ (λ i. seeing (OfPass (number_same i) (record (pass_same i) { share = sym kept i }) ∷ others_same i) (sights_same i) (events_same i));
-        shared = (let a1 : ℕ = (pass z).share in let a2 : ℕ = shares (hs ++ h ∷ []) in let a3 : ℕ = shares hs in let a4 : ℕ = share_of h in let a5 : ℕ = (pass y).share in let a6 : ℕ = (pass x).share in let a7 : ℕ = kept_of (pass y).share in let a8 : ℕ = given_of (pass y).share in
-            let h1 : a2 ≡ a3 + a4 = sum_snoc share_of hs h in let h2 : a5 + a3 ≡ a6 = a.shared in let h3 : a1 ≡ a7 = kept in let h4 : a4 ≡ a8 = given in let h5 : a7 + a8 ≡ a5 = halves_both (pass y).share in omega arith);
+        shared = (let a1 : ℕ = (pass z).share in let a2 : ℕ = shares (hs ++ h ∷ []) in let a3 : ℕ = shares hs in let a4 : ℕ = share_of h in let a5 : ℕ = (pass y).share in
+            let a6 : ℕ = (pass x).share in let a7 : ℕ = kept_of (pass y).share in let a8 : ℕ = given_of (pass y).share in
+            let h1 : a2 ≡ a3 + a4 = sum_snoc share_of hs h in let h2 : a5 + a3 ≡ a6 = a.shared in let h3 : a1 ≡ a7 = kept in let h4 : a4 ≡ a8 = given in
+            let h5 : a7 + a8 ≡ a5 = halves_both (pass y).share in omega arith);
         each = each_append (IsHiredBy t d x) hs (h ∷ []) a.each (
           record {
             own = own;
@@ -125,7 +129,8 @@ module _ (t : BoardId) (d : TableId) (buckets : ℕ) (x : View) where
     pub shared : shares later ≡ shares hs
     pub many : length later ≡ length hs
 
-  pub worked : (hs later : List Helper) → Each (IsHiredBy t d x) hs → length later ≡ length hs → ((i : ℕ) (o : Helper) → i < length hs → HasHelped buckets (get_or hs i o) (get_or later i o) × IsHelperOf t d (get_or later i o)) → Worked hs later
+  pub worked : (hs later : List Helper) → Each (IsHiredBy t d x) hs → length later ≡ length hs →
+      ((i : ℕ) (o : Helper) → i < length hs → HasHelped buckets (get_or hs i o) (get_or later i o) × IsHelperOf t d (get_or later i o)) → Worked hs later
   worked [] [] h e f = record { back = tt; shared = refl; many = refl }
   worked [] (b ∷ later) h e f = absurd (let a : ℕ = length later in let e' : suc a ≡ 0 = e in omega arith)
   worked (a ∷ hs) [] h e f = absurd (let b : ℕ = length hs in let e' : 0 ≡ suc b = e in omega arith)
@@ -147,7 +152,8 @@ module _ (t : BoardId) (d : TableId) (buckets n : ℕ) (x : View) where
     share = (pass y).share;
     visits = [];
     parts = ap (λ (v : View). v.parts) a.own_is;
-    shared = (let a1 : ℕ = (pass y).share in let a2 : ℕ = shares later in let a3 : ℕ = shares hs in let a4 : ℕ = (pass x).share in let h1 : a2 ≡ a3 = w.shared in let h2 : a1 + a3 ≡ a4 = a.shared in omega arith);
+    shared = (let a1 : ℕ = (pass y).share in let a2 : ℕ = shares later in let a3 : ℕ = shares hs in let a4 : ℕ = (pass x).share in let h1 : a2 ≡ a3 = w.shared in
+        let h2 : a1 + a3 ≡ a4 = a.shared in omega arith);
     steps = [];
     kept = ([], ap (λ (v : View). v.sights) a.own_is ∙ sym (append-nil x.sights));
     events = ap (λ (v : View). v.events) a.own_is ∙ sym (append-nil x.events);
@@ -157,7 +163,8 @@ module _ (t : BoardId) (d : TableId) (buckets n : ℕ) (x : View) where
     gone_is = refl;
     each = tt;
     numbers = λ b l. ap (times b) a.none;
-    quota_is = (let a1 : ℕ = length later in let a2 : ℕ = length hs in let a3 : ℕ = length drawn.numbers in let h1 : a1 ≡ a2 = w.many in let h2 : a2 ≡ n = a.count in let h3 : a3 ≡ 0 = ap length a.none in let h4 : drawn.left + n * helper_quota ≡ whole_quota = a.left in omega arith);
+    quota_is = (let a1 : ℕ = length later in let a2 : ℕ = length hs in let a3 : ℕ = length drawn.numbers in let h1 : a1 ≡ a2 = w.many in let h2 : a2 ≡ n = a.count in
+        let h3 : a3 ≡ 0 = ap length a.none in let h4 : drawn.left + n * helper_quota ≡ whole_quota = a.left in omega arith);
     past = inl (w.many ∙ a.count);
     few = (let a1 : ℕ = length later in let a2 : ℕ = length hs in let h1 : a1 ≡ a2 = w.many in let h2 : a2 ≡ n = a.count in omega arith);
     back = w.back;
@@ -175,7 +182,10 @@ module _ (t : BoardId) (d : TableId) (buckets n : ℕ) (x : View) where
     more = b.helped.helps.on.visits
 
     pub back_parts : w.parts ≡ OfPass (number v0) (record (pass x) { visits = more; share = share_of b.hired }) ∷ []
-    back_parts = b.helped.helps.on.parts ∙ ((λ i. OfPass (number v0) (record (pass (b.hired_is.view_is i)) { visits = more ++ (pass (b.hired_is.view_is i)).visits; share = share_of b.hired }) ∷ others (b.hired_is.view_is i))
+    back_parts = b.helped.helps.on.parts ∙ ((λ i. OfPass (number v0) (record (pass (b.hired_is.view_is i)) {
+      visits = more ++ (pass (b.hired_is.view_is i)).visits;
+      share = share_of b.hired;
+    }) ∷ others (b.hired_is.view_is i))
         ∙ ap (λ (vs : List Visit). OfPass (number v0) (record (pass x) { visits = vs; share = share_of b.hired }) ∷ []) (append-nil more))
 
     pub back_alone : HasOnlyPass w
@@ -194,7 +204,8 @@ module _ (t : BoardId) (d : TableId) (buckets n : ℕ) (x : View) where
     back_each = subst (λ (p : PassRecord). AreVisits (IsCleanBy p) p.mark buckets more) back_record b.helped.helps.each
 
     -- a helper more is united
-    module _ (hs : List Helper) (y : View) (drawn : Drawn) (m : ℕ) (a : Unites t d buckets n x (hs ++ h ∷ []) y drawn m) (z : View) (z_is : z ≡ united y w) (later : Drawn) (later_is : later ≡ together drawn (drawn_by h.drawer)) where
+    module _ (hs : List Helper) (y : View) (drawn : Drawn) (m : ℕ) (a : Unites t d buckets n x (hs ++ h ∷ []) y drawn m) (z : View) (z_is : z ≡ united y w) (later : Drawn)
+        (later_is : later ≡ together drawn (drawn_by h.drawer)) where
       abbrev nh : List ℕ
       nh = b.helped.numbers
 
@@ -240,27 +251,37 @@ module _ (t : BoardId) (d : TableId) (buckets n : ℕ) (x : View) where
       unites_more = record {
         share = a.share + share_of h;
         visits = more ++ a.visits;
-        parts = ap (λ (v : View). v.parts) z_is ∙ ((λ i. OfPass (united_number_same i) (record (united_pass_same i) { visits = back_visits i ++ (united_pass_same i).visits; share = (united_pass_same i).share + share_of h }) ∷ united_others_same i)
+        parts = ap (λ (v : View). v.parts) z_is ∙ ((λ i. OfPass (united_number_same i) (record (united_pass_same i) {
+          visits = back_visits i ++ (united_pass_same i).visits;
+          share = (united_pass_same i).share + share_of h;
+        }) ∷ united_others_same i)
             ∙ ap (λ (vs : List Visit). OfPass (number x) (record (pass x) { visits = vs; share = a.share + share_of h }) ∷ others x) (sym (append_assoc more a.visits (pass x).visits)));
-        shared = (let a1 : ℕ = a.share in let a2 : ℕ = share_of h in let a3 : ℕ = shares hs in let a4 : ℕ = shares (hs ++ h ∷ []) in let a5 : ℕ = (pass x).share in let h1 : a4 ≡ a3 + a2 = sums in let h2 : a1 + a4 ≡ a5 = a.shared in omega arith);
+        shared = (let a1 : ℕ = a.share in let a2 : ℕ = share_of h in let a3 : ℕ = shares hs in let a4 : ℕ = shares (hs ++ h ∷ []) in let a5 : ℕ = (pass x).share in
+            let h1 : a4 ≡ a3 + a2 = sums in let h2 : a1 + a4 ≡ a5 = a.shared in omega arith);
         steps = a.steps ++ b.helped.helps.on.steps;
         kept = (a.kept.0 ++ w.sights, ap (λ (v : View). v.sights) z_is ∙ (ap (λ l. l ++ w.sights) a.kept.1 ∙ append_assoc x.sights a.kept.0 w.sights));
         events = ap (λ (v : View). v.events) z_is ∙ ((λ i. a.events i ++ back_events i) ∙ append_assoc x.events a.steps b.helped.helps.on.steps);
         work = works a.steps b.helped.helps.on.steps a.work b.helped.helps.on.work;
         only = each_append (IsOnlyFor Interval) more a.visits b.helped.helps.on.only a.only;
-        sum_is = (let s : removed_all Interval (more ++ a.visits) ≡ removed_all Interval more + removed_all Interval a.visits = removed_append Interval more a.visits in let l = gone_on a.steps b.helped.helps.on.steps in let g1 = a.sum_is in let g2 = b.helped.helps.on.sum in omega (arith, s, l, g1, g2));
+        sum_is = (let s : removed_all Interval (more ++ a.visits) ≡ removed_all Interval more + removed_all Interval a.visits = removed_append Interval more a.visits in
+            let l = gone_on a.steps b.helped.helps.on.steps in let g1 = a.sum_is in let g2 = b.helped.helps.on.sum in omega (arith, s, l, g1, g2));
         gone_is = (let l = gone_on a.steps b.helped.helps.on.steps in let g1 = a.gone_is in let g2 = b.helped.helps.gone_is in let g3 = b.helped.helps.on.sum in omega (arith, l, g1, g2, g3));
         each = each_append (λ (v : Visit). (v.bucket < buckets) × IsVisitOf Interval (IsCleanBy (record_of (pass x))) (pass x).mark v.bucket v) more a.visits back_each a.each;
         numbers = counted;
-        quota_is = (let l1 : ℕ = later.left in let l2 : ℕ = drawn.left in let l3 : ℕ = (drawn_by h.drawer).left in let l4 : ℕ = length later.numbers in let l5 : ℕ = length drawn.numbers in let l6 : ℕ = length nh in let l7 : ℕ = length hs in let l8 : ℕ = length (hs ++ h ∷ []) in
-            let e1 : l1 ≡ l2 + l3 = ap (λ (v : Drawn). v.left) later_is in let e2 : l4 ≡ suc l6 + l5 = ap length numbers_after ∙ length-append (b.helped.past ∷ nh) drawn.numbers in let e3 : l8 ≡ l7 + 1 = longer in let e4 : l3 + suc l6 ≡ helper_quota = b.helped.quota_is in let e5 : l2 + l5 + l8 * helper_quota ≡ whole_quota = a.quota_is in omega arith);
+        quota_is = (let l1 : ℕ = later.left in let l2 : ℕ = drawn.left in let l3 : ℕ = (drawn_by h.drawer).left in let l4 : ℕ = length later.numbers in
+            let l5 : ℕ = length drawn.numbers in let l6 : ℕ = length nh in let l7 : ℕ = length hs in let l8 : ℕ = length (hs ++ h ∷ []) in
+            let e1 : l1 ≡ l2 + l3 = ap (λ (v : Drawn). v.left) later_is in let e2 : l4 ≡ suc l6 + l5 = ap length numbers_after ∙ length-append (b.helped.past ∷ nh) drawn.numbers in
+            let e3 : l8 ≡ l7 + 1 = longer in let e4 : l3 + suc l6 ≡ helper_quota = b.helped.quota_is in let e5 : l2 + l5 + l8 * helper_quota ≡ whole_quota = a.quota_is in omega arith);
         past = inr (
           b.helped.past,
           b.helped.over,
-          (let c1 : ℕ = times b.helped.past later.numbers in let c2 : ℕ = one (eqb b.helped.past b.helped.past) in let c3 : ℕ = times b.helped.past nh in let c4 : ℕ = times b.helped.past drawn.numbers in
-              let e1 : c1 ≡ (c2 + c3) + c4 = ap (times b.helped.past) numbers_after ∙ times_append b.helped.past (b.helped.past ∷ nh) drawn.numbers in let e2 : c2 ≡ 1 = ap one (eq-eqb b.helped.past b.helped.past refl) in omega arith),
+          (let c1 : ℕ = times b.helped.past later.numbers in let c2 : ℕ = one (eqb b.helped.past b.helped.past) in let c3 : ℕ = times b.helped.past nh in
+              let c4 : ℕ = times b.helped.past drawn.numbers in
+              let e1 : c1 ≡ (c2 + c3) + c4 = ap (times b.helped.past) numbers_after ∙ times_append b.helped.past (b.helped.past ∷ nh) drawn.numbers in
+              let e2 : c2 ≡ 1 = ap one (eq-eqb b.helped.past b.helped.past refl) in omega arith),
         );
-        few = (let r1 : ℕ = h.removed in let r2 : ℕ = length hs in let r3 : ℕ = length (hs ++ h ∷ []) in let e1 : r3 ≡ r2 + 1 = longer in let l1 : r1 ≤ 2 ^ 41 = b.helped.few in let l2 : m + r3 * 2 ^ 41 ≤ n * 2 ^ 41 = a.few in omega arith);
+        few = (let r1 : ℕ = h.removed in let r2 : ℕ = length hs in let r3 : ℕ = length (hs ++ h ∷ []) in let e1 : r3 ≡ r2 + 1 = longer in let l1 : r1 ≤ 2 ^ 41 = b.helped.few in
+            let l2 : m + r3 * 2 ^ 41 ≤ n * 2 ^ 41 = a.few in omega arith);
         back = each_left (IsBack t d buckets x) hs (h ∷ []) a.back;
       }
 
@@ -273,11 +294,13 @@ module _ (t : BoardId) (d : TableId) (buckets n : ℕ) (x : View) where
       where
         go : HasPast buckets n [] drawn.numbers → buckets < all.0
         go (inl e) = absurd (let e' : 0 ≡ n = e in omega arith)
-        go (inr p) = let l : p.0 < all.0 = ltb_less p.0 all.0 (let c1 : ℕ = times p.0 drawn.numbers in let c2 : ℕ = one (ltb p.0 all.0) in let e : c1 ≡ c2 = all.1 p.0 in let l : 0 < c1 = p.2 in omega arith) in let o = p.1 in omega arith
+        go (inr p) = let l : p.0 < all.0 = ltb_less p.0 all.0 (let c1 : ℕ = times p.0 drawn.numbers in let c2 : ℕ = one (ltb p.0 all.0) in let e : c1 ≡ c2 = all.1 p.0 in
+            let l : 0 < c1 = p.2 in omega arith) in let o = p.1 in omega arith
 
     none_over : (b : ℕ) (visits : List Visit) → buckets ≤ b → AreVisits (IsCleanBy (record_of (pass x))) (pass x).mark buckets visits → times b (visited visits) ≡ 0
     none_over b [] l h = refl
-    none_over b (v ∷ visits) l h = let c1 : ℕ = one (eqb v.bucket b) in let c2 : ℕ = times b (visited visits) in let e1 : c1 ≡ 0 = ap one (ne_eqb v.bucket b (λ (e : v.bucket ≡ b). let o = h.0.0 in omega arith)) in let e2 : c2 ≡ 0 = none_over b visits l h.1 in omega arith
+    none_over b (v ∷ visits) l h = let c1 : ℕ = one (eqb v.bucket b) in let c2 : ℕ = times b (visited visits) in
+        let e1 : c1 ≡ 0 = ap one (ne_eqb v.bucket b (λ (e : v.bucket ≡ b). let o = h.0.0 in omega arith)) in let e2 : c2 ≡ 0 = none_over b visits l h.1 in omega arith
 
     once : (b : ℕ) → times b (visited a.visits) ≡ one (ltb b buckets)
     once b = go (dec_le (suc b) buckets)
@@ -290,7 +313,8 @@ module _ (t : BoardId) (d : TableId) (buckets n : ℕ) (x : View) where
     visit_once = record { once = once; each = a.each }
 
     pub united_parts : y.parts ≡ OfPass (number x) (record (pass x) { visits = a.visits ++ (pass x).visits }) ∷ others x
-    united_parts = a.parts ∙ ap (λ (s : ℕ). OfPass (number x) (record (pass x) { visits = a.visits ++ (pass x).visits; share = s }) ∷ others x) (let s : ℕ = a.share in let u : ℕ = (pass x).share in let e : s + 0 ≡ u = a.shared in let h : s ≡ u = omega arith in h)
+    united_parts = a.parts ∙ ap (λ (s : ℕ). OfPass (number x) (record (pass x) { visits = a.visits ++ (pass x).visits; share = s }) ∷ others x) (let s : ℕ = a.share in
+        let u : ℕ = (pass x).share in let e : s + 0 ≡ u = a.shared in let h : s ≡ u = omega arith in h)
 
     -- the round's visits and steps
     abbrev pub goes : GoesOn Interval x y
@@ -298,7 +322,8 @@ module _ (t : BoardId) (d : TableId) (buckets n : ℕ) (x : View) where
 
 -- ---- the last helper of a list
 
-module _ (t : BoardId) (d : TableId) (buckets n : ℕ) (x : View) (hs l : List Helper) (h : Helper) (y : View) (drawn : Drawn) (m : ℕ) (a : Unites t d buckets n x l y drawn m) (last : l ≡ hs ++ h ∷ []) where
+module _ (t : BoardId) (d : TableId) (buckets n : ℕ) (x : View) (hs l : List Helper) (h : Helper) (y : View) (drawn : Drawn) (m : ℕ) (a : Unites t d buckets n x l y drawn m)
+    (last : l ≡ hs ++ h ∷ []) where
   pub last_unites : Unites t d buckets n x (hs ++ h ∷ []) y drawn m
   last_unites = subst (λ (k : List Helper). Unites t d buckets n x k y drawn m) last a
 
@@ -312,7 +337,8 @@ module _ (t : BoardId) (d : TableId) (buckets n : ℕ) (x : View) (hs l : List H
       let s : h.removed ≤ 2 ^ 41 = last_back.helped.few in
       omega (arith, u, e, s)
 
-pub all_quota : (t : BoardId) (d : TableId) (buckets n : ℕ) (x : View) (l : List Helper) (y : View) (drawn : Drawn) (m : ℕ) → Unites t d buckets n x l y drawn m → l ≡ [] → drawn.left + length drawn.numbers ≡ whole_quota
+pub all_quota : (t : BoardId) (d : TableId) (buckets n : ℕ) (x : View) (l : List Helper) (y : View) (drawn : Drawn) (m : ℕ) → Unites t d buckets n x l y drawn m → l ≡ [] →
+    drawn.left + length drawn.numbers ≡ whole_quota
 all_quota t d buckets n x l y drawn m a none =
     let q : drawn.left + length drawn.numbers + length l * helper_quota ≡ whole_quota = a.quota_is in
     let e : length l ≡ 0 = ap (λ (k : List Helper). length k) none in
@@ -325,9 +351,19 @@ take_whole (x ∷ xs) ys = ap (λ l. x ∷ l) (take_whole xs ys)
 -- ---- who is hired may work
 
 shown_still : (sessions : ℕ) (x v : View) (n share : ℕ) (g : Gathered) → v ≡ seeing (OfPass n (branched x share) ∷ []) x.sights [] → IsGatherOf sessions (pass x) g → IsGatherOf sessions (pass v) g
-shown_still sessions x v n share g is h = subst (λ (u : View). IsGatherOf sessions (pass u) g) (sym is) record { noted = h.noted; loaded = h.loaded; shuffled = h.shuffled; rises = h.rises; lists = h.lists }
+shown_still sessions x v n share g is h = subst (λ (u : View). IsGatherOf sessions (pass u) g) (sym is) record {
+  noted = h.noted;
+  loaded = h.loaded;
+  shuffled = h.shuffled;
+  rises = h.rises;
+  lists = h.lists;
+}
 
 pub willing : (t : BoardId) (d : TableId) (z : Sizes) (g : Gathered) (x : View) (hs : List Helper) → IsGatherOf z.sessions (pass x) g → Each (IsHiredBy t d x) hs → All (IsWilling t d z g) hs
 willing t d z g x [] shown h k o l = absurd (omega arith)
-willing t d z g x (a ∷ hs) shown h zero o l = record { own = h.0.own; ready = h.0.ready; shown = shown_still z.sessions x (pass_view a.pass) (number (pass_view a.pass)) (share_of a) g h.0.view_is shown }
+willing t d z g x (a ∷ hs) shown h zero o l = record {
+  own = h.0.own;
+  ready = h.0.ready;
+  shown = shown_still z.sessions x (pass_view a.pass) (number (pass_view a.pass)) (share_of a) g h.0.view_is shown;
+}
 willing t d z g x (a ∷ hs) shown h (suc k) o l = willing t d z g x hs shown h.1 k o (omega arith)

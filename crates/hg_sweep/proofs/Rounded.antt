@@ -26,7 +26,8 @@ all_back t d buckets n x hs later y drawn a same f =
     subst (λ m. Unites t d buckets m x later y drawn 0) (sym (same ∙ a.count)) (unites_none t d buckets n x hs later y drawn a (worked t d buckets x hs later a.each same f))
 
 -- all are united
-pub round_made : (t : BoardId) (d : TableId) (z : Sizes) (n : ℕ) (v x w : View) (drawn : Drawn) (removed : ℕ) (report : Report) → HasGathered v z.sessions x → Unites t d z.buckets n x [] w drawn removed → 0 < n → AreAll drawn.numbers → IsReportBy Interval (pass x) removed report → SweepsBeside z v report w
+pub round_made : (t : BoardId) (d : TableId) (z : Sizes) (n : ℕ) (v x w : View) (drawn : Drawn) (removed : ℕ) (report : Report) → HasGathered v z.sessions x →
+    Unites t d z.buckets n x [] w drawn removed → 0 < n → AreAll drawn.numbers → IsReportBy Interval (pass x) removed report → SweepsBeside z v report w
 round_made t d z n v x w drawn removed report gathers a some all r =
     let on = goes t d z.buckets n x w drawn removed a some all in
     let gone : report.removed ≡ _ = r.removed_is ∙ a.gone_is in record {
@@ -39,6 +40,7 @@ round_made t d z n v x w drawn removed report gathers a some all r =
     }
 
 -- its share is what it was
-pub round_share : (t : BoardId) (d : TableId) (z : Sizes) (n : ℕ) (v x w : View) (drawn : Drawn) (removed : ℕ) → HasGathered v z.sessions x → Unites t d z.buckets n x [] w drawn removed → 0 < n → AreAll drawn.numbers → (pass w).share ≡ (pass v).share
+pub round_share : (t : BoardId) (d : TableId) (z : Sizes) (n : ℕ) (v x w : View) (drawn : Drawn) (removed : ℕ) → HasGathered v z.sessions x →
+    Unites t d z.buckets n x [] w drawn removed → 0 < n → AreAll drawn.numbers → (pass w).share ≡ (pass v).share
 round_share t d z n v x w drawn removed gathers a some all =
     ap (λ ps. (pass_there (first_in ps)).share) (goes t d z.buckets n x w drawn removed a some all).parts ∙ ap (λ ps. (pass_there (first_in ps)).share) gathers.parts

@@ -1,5 +1,6 @@
 -- Each step of the word keeps its rule.
-use Rattle.std.proofs.Common.{◌≡◌, ℕ, suc, ◌+◌, ◌-◌, ◌%◌, ◌^◌, ◌<◌, ◌≤◌, eqb, ltb, List, [], ◌∷◌, ◌++◌, length, get_or, set, refl, sym, ap, ◌∙◌, subst, arith, eq-eqb, ne_eqb, length-set, length-append, get_or-set_same}
+use Rattle.std.proofs.Common.{◌≡◌, ℕ, suc, ◌+◌, ◌-◌, ◌%◌, ◌^◌, ◌<◌, ◌≤◌, eqb, ltb, List, [], ◌∷◌, ◌++◌, length, get_or, set, refl, sym, ap, ◌∙◌, subst, arith, eq-eqb, ne_eqb, length-set}
+use Rattle.std.proofs.Common.{length-append, get_or-set_same}
 use Rattle.std.specs.Prelude.{slice_index}
 use Rattle.std.proofs.lemmas.Bool.{lt-ltb, le-ltb}
 use mathlib.Core.Option.{some, none}
@@ -30,10 +31,14 @@ next_below : (n word : ℕ) → one (ltb n (suc word)) ≡ one (eqb word n) + on
 next_below n word = go (dec_le (suc n) word) (ℕ_discrete word n)
   where
     go : Dec (suc n ≤ word) → Dec (word ≡ n) → one (ltb n (suc word)) ≡ one (eqb word n) + one (ltb n word)
-    go (yes l) d = let x : ℕ = one (ltb n (suc word)) in let y : ℕ = one (eqb word n) in let z : ℕ = one (ltb n word) in let e1 : x ≡ 1 = ap one (lt-ltb n (suc word) (omega arith)) in let e2 : y ≡ 0 = ap one (ne_eqb word n (λ (e : word ≡ n). omega arith)) in let e3 : z ≡ 1 = ap one (lt-ltb n word (omega arith)) in omega arith
-    go (no l) (yes e) = let x : ℕ = one (ltb n (suc word)) in let y : ℕ = one (eqb word n) in let z : ℕ = one (ltb n word) in let e1 : x ≡ 1 = ap one (lt-ltb n (suc word) (omega arith)) in let e2 : y ≡ 1 = ap one (eq-eqb word n e) in let e3 : z ≡ 0 = ap one (le-ltb n word (omega arith)) in omega arith
+    go (yes l) d = let x : ℕ = one (ltb n (suc word)) in let y : ℕ = one (eqb word n) in let z : ℕ = one (ltb n word) in
+        let e1 : x ≡ 1 = ap one (lt-ltb n (suc word) (omega arith)) in let e2 : y ≡ 0 = ap one (ne_eqb word n (λ (e : word ≡ n). omega arith)) in
+        let e3 : z ≡ 1 = ap one (lt-ltb n word (omega arith)) in omega arith
+    go (no l) (yes e) = let x : ℕ = one (ltb n (suc word)) in let y : ℕ = one (eqb word n) in let z : ℕ = one (ltb n word) in
+        let e1 : x ≡ 1 = ap one (lt-ltb n (suc word) (omega arith)) in let e2 : y ≡ 1 = ap one (eq-eqb word n e) in let e3 : z ≡ 0 = ap one (le-ltb n word (omega arith)) in omega arith
     go (no l) (no apart) = let x : ℕ = one (ltb n (suc word)) in let y : ℕ = one (eqb word n) in let z : ℕ = one (ltb n word) in
-        let big : suc word ≤ n = omega arith in let e1 : x ≡ 0 = ap one (le-ltb n (suc word) big) in let e2 : y ≡ 0 = ap one (ne_eqb word n apart) in let e3 : z ≡ 0 = ap one (le-ltb n word (omega arith)) in omega arith
+        let big : suc word ≤ n = omega arith in let e1 : x ≡ 0 = ap one (le-ltb n (suc word) big) in let e2 : y ≡ 0 = ap one (ne_eqb word n apart) in
+        let e3 : z ≡ 0 = ap one (le-ltb n word (omega arith)) in omega arith
 
 -- ---- the rule at first
 
@@ -55,7 +60,8 @@ below t r id v at = go v.numbers refl
     go [] e = omega arith
     go (n ∷ ns) e = ltb_less n (slice_index t.words 0)
         (let a : ℕ = times n v.numbers in let b : ℕ = sum (λ v. times n v.numbers) t.views in let c : ℕ = one (ltb n (slice_index t.words 0)) in let d : ℕ = one (eqb n n) in let f : ℕ = times n ns in
-        let h1 : a ≤ b = sum_one (λ v. times n v.numbers) t.views id v at in let h2 : b ≡ c = r.each n in let h3 : a ≡ d + f = ap (times n) e in let h4 : d ≡ 1 = ap one (eq-eqb n n refl) in omega arith)
+        let h1 : a ≤ b = sum_one (λ v. times n v.numbers) t.views id v at in let h2 : b ≡ c = r.each n in let h3 : a ≡ d + f = ap (times n) e in
+        let h4 : d ≡ 1 = ap one (eq-eqb n n refl) in omega arith)
 
 pub may_draw : (slots id : ℕ) (m : Seated) → 0 < m.0.left → Allows IsDrawn slots id m 0 (λ n. (n + 1) % 2 ^ 64) (draws (step slots 0 1 0 none) m)
 may_draw slots id m some_left t r deep at small =
@@ -74,10 +80,14 @@ may_draw slots id m some_left t r deep at small =
       tt,
       record {
         words = length-set t.words 0 new ∙ r.words;
-        each = λ k. (let a : ℕ = sum (λ v. times k v.numbers) (set t.views id w) in let b : ℕ = sum (λ v. times k v.numbers) t.views in let c : ℕ = times k v.numbers in let d : ℕ = one (eqb n k) in let x : ℕ = one (ltb k (suc n)) in let y : ℕ = one (ltb k n) in
-            let h1 : a + c ≡ b + (d + c) = sum_set (λ v. times k v.numbers) t.views id v w at in let h2 : b ≡ y = r.each k in let h3 : x ≡ d + y = next_below k n in let h4 : a ≡ x = omega arith in h4) ∙ ap (λ u. one (ltb k u)) (sym word);
-        many_are = (let a : ℕ = sum many (set t.views id w) in let b : ℕ = sum many t.views in let c : ℕ = length v.numbers in let h1 : a + c ≡ b + suc c = sum_set many t.views id v w at in let h2 : b ≡ n = r.many_are in let h3 : a ≡ suc n = omega arith in h3) ∙ sym word;
-        shared = (let a : ℕ = sum quota (set t.views id w) in let b : ℕ = sum quota t.views in let c : ℕ = length v.numbers in let l : ℕ = v.left in let h1 : a + (l + c) ≡ b + ((l - 1) + suc c) = sum_set quota t.views id v w at in let h3 : a ≡ b = omega arith in h3) ∙ r.shared;
+        each = λ k. (let a : ℕ = sum (λ v. times k v.numbers) (set t.views id w) in let b : ℕ = sum (λ v. times k v.numbers) t.views in let c : ℕ = times k v.numbers in
+            let d : ℕ = one (eqb n k) in let x : ℕ = one (ltb k (suc n)) in let y : ℕ = one (ltb k n) in
+            let h1 : a + c ≡ b + (d + c) = sum_set (λ v. times k v.numbers) t.views id v w at in let h2 : b ≡ y = r.each k in let h3 : x ≡ d + y = next_below k n in
+            let h4 : a ≡ x = omega arith in h4) ∙ ap (λ u. one (ltb k u)) (sym word);
+        many_are = (let a : ℕ = sum many (set t.views id w) in let b : ℕ = sum many t.views in let c : ℕ = length v.numbers in
+            let h1 : a + c ≡ b + suc c = sum_set many t.views id v w at in let h2 : b ≡ n = r.many_are in let h3 : a ≡ suc n = omega arith in h3) ∙ sym word;
+        shared = (let a : ℕ = sum quota (set t.views id w) in let b : ℕ = sum quota t.views in let c : ℕ = length v.numbers in let l : ℕ = v.left in
+            let h1 : a + (l + c) ≡ b + ((l - 1) + suc c) = sum_set quota t.views id v w at in let h3 : a ≡ b = omega arith in h3) ∙ r.shared;
       },
       (record { numbers = refl; left = (let l : ℕ = v.left in let h : suc (l - 1) ≡ l = omega arith in h); over = below t r id v at }, refl),
     )
@@ -105,17 +115,23 @@ may_restart slots id m all t r deep at small =
     let v : Drawn = m.0 in
     let word : slice_index (set t.words 0 0) 0 ≡ 0 = get_or-set_same t.words 0 0 0 (let e = r.words in omega arith) in
     let mine : sum quota t.views ≡ quota v = r.shared ∙ sym all in
-    let alone : (n : ℕ) → sum (λ v. times n v.numbers) t.views ≡ times n v.numbers = (λ n. sum_whole quota (λ v. times n v.numbers) (λ x e. times_none n x.numbers (let a : ℕ = x.left in let b : ℕ = length x.numbers in let e' : a + b ≡ 0 = e in let h : b ≡ 0 = omega arith in h)) t.views id v at mine) in
-    let length_alone : sum many t.views ≡ many v = sum_whole quota many (λ x e. (let a : ℕ = x.left in let b : ℕ = length x.numbers in let e' : a + b ≡ 0 = e in let h : b ≡ 0 = omega arith in h)) t.views id v at mine in (
+    let alone : (n : ℕ) → sum (λ v. times n v.numbers) t.views ≡ times n v.numbers =
+    (λ n. sum_whole quota (λ v. times n v.numbers) (λ x e. times_none n x.numbers (let a : ℕ = x.left in let b : ℕ = length x.numbers in let e' : a + b ≡ 0 = e in
+    let h : b ≡ 0 = omega arith in h)) t.views id v at mine) in
+    let length_alone : sum many t.views ≡ many v = sum_whole quota many (λ x e. (let a : ℕ = x.left in let b : ℕ = length x.numbers in let e' : a + b ≡ 0 = e in
+    let h : b ≡ 0 = omega arith in h)) t.views id v at mine in (
       fresh,
       keeps,
       tt,
       record {
         words = length-set t.words 0 0 ∙ r.words;
         each = λ n. (let a : ℕ = sum (λ v. times n v.numbers) (set t.views id fresh) in let b : ℕ = sum (λ v. times n v.numbers) t.views in let c : ℕ = times n v.numbers in
-            let h1 : a + c ≡ b + 0 = sum_set (λ v. times n v.numbers) t.views id v fresh at in let h2 : b ≡ c = alone n in let h3 : a ≡ 0 = omega arith in h3) ∙ (sym (ap one (le-ltb n 0 (omega arith))) ∙ ap (λ u. one (ltb n u)) (sym word));
-        many_are = (let a : ℕ = sum many (set t.views id fresh) in let b : ℕ = sum many t.views in let c : ℕ = length v.numbers in let h1 : a + c ≡ b + 0 = sum_set many t.views id v fresh at in let h2 : b ≡ c = length_alone in let h3 : a ≡ 0 = omega arith in h3) ∙ sym word;
-        shared = let a : ℕ = sum quota (set t.views id fresh) in let b : ℕ = sum quota t.views in let c : ℕ = v.left + length v.numbers in let x : ℕ = whole_quota in let h1 : a + c ≡ b + (x + 0) = sum_set quota t.views id v fresh at in let h2 : c ≡ x = all in let h4 : b ≡ x = r.shared in omega arith;
+            let h1 : a + c ≡ b + 0 = sum_set (λ v. times n v.numbers) t.views id v fresh at in let h2 : b ≡ c = alone n in let h3 : a ≡ 0 = omega arith in h3) ∙
+            (sym (ap one (le-ltb n 0 (omega arith))) ∙ ap (λ u. one (ltb n u)) (sym word));
+        many_are = (let a : ℕ = sum many (set t.views id fresh) in let b : ℕ = sum many t.views in let c : ℕ = length v.numbers in
+            let h1 : a + c ≡ b + 0 = sum_set many t.views id v fresh at in let h2 : b ≡ c = length_alone in let h3 : a ≡ 0 = omega arith in h3) ∙ sym word;
+        shared = let a : ℕ = sum quota (set t.views id fresh) in let b : ℕ = sum quota t.views in let c : ℕ = v.left + length v.numbers in let x : ℕ = whole_quota in
+            let h1 : a + c ≡ b + (x + 0) = sum_set quota t.views id v fresh at in let h2 : c ≡ x = all in let h4 : b ≡ x = r.shared in omega arith;
       },
       ((get_or t.words 0 0, λ n. sym (alone n) ∙ r.each n), (refl, refl)),
     )
@@ -125,23 +141,33 @@ may_restart slots id m all t r deep at small =
 pub may_hire : (id : ℕ) (v : Drawn) → helper_quota ≤ v.left → Splits IsDrawn id v (hirer v) hired
 may_hire id v enough t r at = record {
   words = r.words;
-  each = λ n. (let a : ℕ = sum (λ v. times n v.numbers) (set t.views id (hirer v) ++ hired ∷ []) in let b : ℕ = sum (λ v. times n v.numbers) (set t.views id (hirer v)) in let c : ℕ = sum (λ v. times n v.numbers) t.views in let d : ℕ = times n v.numbers in
-      let h1 : a ≡ b + 0 = sum_snoc (λ v. times n v.numbers) (set t.views id (hirer v)) hired in let h2 : b + d ≡ c + d = sum_set (λ v. times n v.numbers) t.views id v (hirer v) at in let h3 : a ≡ c = omega arith in h3) ∙ r.each n;
+  each = λ n. (let a : ℕ = sum (λ v. times n v.numbers) (set t.views id (hirer v) ++ hired ∷ []) in let b : ℕ = sum (λ v. times n v.numbers) (set t.views id (hirer v)) in
+      let c : ℕ = sum (λ v. times n v.numbers) t.views in let d : ℕ = times n v.numbers in
+      let h1 : a ≡ b + 0 = sum_snoc (λ v. times n v.numbers) (set t.views id (hirer v)) hired in
+      let h2 : b + d ≡ c + d = sum_set (λ v. times n v.numbers) t.views id v (hirer v) at in let h3 : a ≡ c = omega arith in h3) ∙ r.each n;
   many_are = (let a : ℕ = sum many (set t.views id (hirer v) ++ hired ∷ []) in let b : ℕ = sum many (set t.views id (hirer v)) in let c : ℕ = sum many t.views in let d : ℕ = length v.numbers in
       let h1 : a ≡ b + 0 = sum_snoc many (set t.views id (hirer v)) hired in let h2 : b + d ≡ c + d = sum_set many t.views id v (hirer v) at in let h3 : a ≡ c = omega arith in h3) ∙ r.many_are;
-  shared = (let a : ℕ = sum quota (set t.views id (hirer v) ++ hired ∷ []) in let b : ℕ = sum quota (set t.views id (hirer v)) in let c : ℕ = sum quota t.views in let d : ℕ = length v.numbers in let l : ℕ = v.left in let x : ℕ = helper_quota in
-      let h1 : a ≡ b + (x + 0) = sum_snoc quota (set t.views id (hirer v)) hired in let h2 : b + (l + d) ≡ c + ((l - x) + d) = sum_set quota t.views id v (hirer v) at in let h4 : x ≤ l = enough in let h3 : a ≡ c = omega arith in h3) ∙ r.shared;
+  shared = (let a : ℕ = sum quota (set t.views id (hirer v) ++ hired ∷ []) in let b : ℕ = sum quota (set t.views id (hirer v)) in let c : ℕ = sum quota t.views in
+      let d : ℕ = length v.numbers in let l : ℕ = v.left in let x : ℕ = helper_quota in
+      let h1 : a ≡ b + (x + 0) = sum_snoc quota (set t.views id (hirer v)) hired in let h2 : b + (l + d) ≡ c + ((l - x) + d) = sum_set quota t.views id v (hirer v) at in
+      let h4 : x ≤ l = enough in let h3 : a ≡ c = omega arith in h3) ∙ r.shared;
 }
 
 pub may_take_back : (id : ℕ) (v : Drawn) (other : ℕ) (w : Drawn) → Joins IsDrawn id v other w (together v w) spent
 may_take_back id v other w t r at apart at2 = record {
   words = r.words;
-  each = λ n. (let f : Drawn → ℕ = (λ v. times n v.numbers) in let a : ℕ = sum f (set (set t.views id b) other spent) in let c : ℕ = sum f (set t.views id b) in let d : ℕ = sum f t.views in let x : ℕ = times n v.numbers in let y : ℕ = times n w.numbers in let z : ℕ = times n (w.numbers ++ v.numbers) in
-      let h1 : a + y ≡ c + 0 = sum_set f (set t.views id b) other w spent at2 in let h2 : c + x ≡ d + z = sum_set f t.views id v b at in let h3 : z ≡ y + x = times_append n w.numbers v.numbers in let h4 : a ≡ d = omega arith in h4) ∙ r.each n;
-  many_are = (let a : ℕ = sum many (set (set t.views id b) other spent) in let c : ℕ = sum many (set t.views id b) in let d : ℕ = sum many t.views in let x : ℕ = length v.numbers in let y : ℕ = length w.numbers in let z : ℕ = length (w.numbers ++ v.numbers) in
-      let h1 : a + y ≡ c + 0 = sum_set many (set t.views id b) other w spent at2 in let h2 : c + x ≡ d + z = sum_set many t.views id v b at in let h3 : z ≡ y + x = length-append w.numbers v.numbers in let h4 : a ≡ d = omega arith in h4) ∙ r.many_are;
-  shared = (let a : ℕ = sum quota (set (set t.views id b) other spent) in let c : ℕ = sum quota (set t.views id b) in let d : ℕ = sum quota t.views in let x : ℕ = length v.numbers in let y : ℕ = length w.numbers in let z : ℕ = length (w.numbers ++ v.numbers) in let l : ℕ = v.left in let k : ℕ = w.left in
-      let h1 : a + (k + y) ≡ c + (0 + 0) = sum_set quota (set t.views id b) other w spent at2 in let h2 : c + (l + x) ≡ d + ((l + k) + z) = sum_set quota t.views id v b at in let h3 : z ≡ y + x = length-append w.numbers v.numbers in let h4 : a ≡ d = omega arith in h4) ∙ r.shared;
+  each = λ n. (let f : Drawn → ℕ = (λ v. times n v.numbers) in let a : ℕ = sum f (set (set t.views id b) other spent) in let c : ℕ = sum f (set t.views id b) in
+      let d : ℕ = sum f t.views in let x : ℕ = times n v.numbers in let y : ℕ = times n w.numbers in let z : ℕ = times n (w.numbers ++ v.numbers) in
+      let h1 : a + y ≡ c + 0 = sum_set f (set t.views id b) other w spent at2 in let h2 : c + x ≡ d + z = sum_set f t.views id v b at in
+      let h3 : z ≡ y + x = times_append n w.numbers v.numbers in let h4 : a ≡ d = omega arith in h4) ∙ r.each n;
+  many_are = (let a : ℕ = sum many (set (set t.views id b) other spent) in let c : ℕ = sum many (set t.views id b) in let d : ℕ = sum many t.views in
+      let x : ℕ = length v.numbers in let y : ℕ = length w.numbers in let z : ℕ = length (w.numbers ++ v.numbers) in
+      let h1 : a + y ≡ c + 0 = sum_set many (set t.views id b) other w spent at2 in let h2 : c + x ≡ d + z = sum_set many t.views id v b at in
+      let h3 : z ≡ y + x = length-append w.numbers v.numbers in let h4 : a ≡ d = omega arith in h4) ∙ r.many_are;
+  shared = (let a : ℕ = sum quota (set (set t.views id b) other spent) in let c : ℕ = sum quota (set t.views id b) in let d : ℕ = sum quota t.views in
+      let x : ℕ = length v.numbers in let y : ℕ = length w.numbers in let z : ℕ = length (w.numbers ++ v.numbers) in let l : ℕ = v.left in let k : ℕ = w.left in
+      let h1 : a + (k + y) ≡ c + (0 + 0) = sum_set quota (set t.views id b) other w spent at2 in let h2 : c + (l + x) ≡ d + ((l + k) + z) = sum_set quota t.views id v b at in
+      let h3 : z ≡ y + x = length-append w.numbers v.numbers in let h4 : a ≡ d = omega arith in h4) ∙ r.shared;
 }
   where
     b : Drawn

@@ -6,8 +6,7 @@ ghost use Rattle.hg_rule.specs.Sharing.{MaySplit};
 ghost use Rattle.hg_rule.specs.Views.{pass as own_pass};
 ghost use Rattle.hg_rule.specs.Seats.{board_id, pass_view, IsPassOf};
 ghost use Rattle.hg_tracker.specs.Boards.{trackers_board_id, board_sizes};
-ghost use Rattle.hg_tracker.specs.Gathers.{tables_in};
-ghost use Rattle.hg_store.specs.Stores.{store_board_id, store_buckets};
+ghost use Rattle.hg_store.specs.Stores.{store_buckets};
 ghost use Rattle.hg_sweep.specs.declared.helper.Helper.{Helper};
 ghost use Rattle.hg_sweep.specs.declared.draws.Drawn.{Drawn};
 ghost use Rattle.hg_sweep.specs.Word.{fresh, AreAll};
@@ -18,9 +17,8 @@ ghost use Rattle.hg_sweep.specs.Seats.{draws_id, drawn_by, IsDrawerOf};
 use crate::draws::{Drawer, Draws};
 use crate::helper::Helper;
 use hg_base::Gate;
+use hg_gc_interval::Tools;
 use hg_rule::{Board, CollectorPass};
-use hg_store::Store;
-use hg_tracker::{Gathered, Trackers};
 use std::sync::Wait;
 use std::thread;
 use std::thread::Threads;
@@ -107,22 +105,18 @@ pub(crate) fn retire(
 /// Lets all helpers work at the same time, each in a thread of its own.
 pub(crate) fn work<R: Threads + Wait + Sync, G: Gate + Sync>(
     rt: &R,
-    trackers: &Trackers,
-    store: &Store,
-    gathered: &Gathered,
+    tools: &Tools<'_>,
     draws: &Draws,
     gate: &G,
     helpers: &mut [Helper],
 )
-    requires hired { All (IsWilling (trackers_board_id trackers.now) (draws_id draws.now)
-        (board_sizes trackers.now) gathered.now) helpers.old }
-    requires board { store_board_id store.now ≡ trackers_board_id trackers.now }
-    requires tables { tables_in gathered.now ≡ (board_sizes trackers.now).tables }
+    requires hired { All (IsWilling (trackers_board_id tools.now.trackers.now) (draws_id draws.now)
+        (board_sizes tools.now.trackers.now) tools.now.gathered.now) helpers.old }
     // each helper, by its index in the list
     ensures helped { (i : ℕ) (d : Helper) → i < length helpers.old →
-        HasHelped (store_buckets store.now) (slice_index_or helpers.old i d)
+        HasHelped (store_buckets tools.now.store.now) (slice_index_or helpers.old i d)
         (slice_index_or helpers.new i d) ×
-        IsHelperOf (trackers_board_id trackers.now) (draws_id draws.now)
+        IsHelperOf (trackers_board_id tools.now.trackers.now) (draws_id draws.now)
         (slice_index_or helpers.new i d) }
 {
     let count = helpers.len().max(1);
@@ -130,6 +124,6 @@ pub(crate) fn work<R: Threads + Wait + Sync, G: Gate + Sync>(
         rt,
         helpers,
         count,
-        &|_, helper| helper.work(rt, trackers, store, gathered, draws, gate),
+        &|_, helper| helper.work(rt, tools, draws, gate),
     );
 }

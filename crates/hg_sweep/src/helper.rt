@@ -4,16 +4,14 @@ ghost use Rattle.std.specs.Prelude.{◌≡◌, ◌<◌, ◌≤◌};
 ghost use Rattle.hg_rule.specs.Views.{pass as own_pass};
 ghost use Rattle.hg_rule.specs.Seats.{pass_view};
 ghost use Rattle.hg_tracker.specs.Boards.{trackers_board_id, board_sizes};
-ghost use Rattle.hg_tracker.specs.Gathers.{tables_in, IsGatherOf};
-ghost use Rattle.hg_store.specs.Stores.{store_board_id, store_buckets};
+ghost use Rattle.hg_tracker.specs.Gathers.{IsGatherOf};
+ghost use Rattle.hg_store.specs.Stores.{store_buckets};
 ghost use Rattle.hg_sweep.specs.Seats.{draws_id};
 
 use crate::draws::{Drawer, Draws};
 use hg_base::{Gate, Steps};
-use hg_gc_interval::visit_bucket;
+use hg_gc_interval::{Tools, visit_bucket};
 use hg_rule::CollectorPass;
-use hg_store::Store;
-use hg_tracker::{Gathered, Trackers};
 use std::marker::Brand;
 use std::sync::Wait;
 use std::sync::ledger::{Blank, Ledger};
@@ -37,36 +35,26 @@ impl Helper {
     fn sweep<R: Wait, G: Gate, L: Ledger>(
         &mut self,
         rt: &R,
-        trackers: &Trackers,
-        store: &Store,
-        gathered: &Gathered,
+        tools: &Tools<'_>,
         draws: &Draws,
         gate: &G,
         steps: &mut Steps<L>,
     )
-        requires own { IsHelperOf (trackers_board_id trackers.now) (draws_id draws.now) self.old }
+        requires own { IsHelperOf (trackers_board_id tools.now.trackers.now) (draws_id draws.now)
+            self.old }
         requires ready { IsReady self.old }
-        requires board { store_board_id store.now ≡ trackers_board_id trackers.now }
-        requires tables { tables_in gathered.now ≡ (board_sizes trackers.now).tables }
-        requires shown { IsGatherOf (board_sizes trackers.now).sessions
-            (own_pass (pass_view self.old.pass)) gathered.now }
-        ensures helped { HasHelped (store_buckets store.now) self.old self.new }
-        ensures own { IsHelperOf (trackers_board_id trackers.now) (draws_id draws.now) self.new }
+        requires shown { IsGatherOf (board_sizes tools.now.trackers.now).sessions
+            (own_pass (pass_view self.old.pass)) tools.now.gathered.now }
+        ensures helped { HasHelped (store_buckets tools.now.store.now) self.old self.new }
+        ensures own { IsHelperOf (trackers_board_id tools.now.trackers.now) (draws_id draws.now)
+            self.new }
     {
         let mut asked = 0;
         let mut b = draws.draw(&mut self.drawer);
-        while b < store.buckets() as u64 {
+        while b < tools.store.buckets() as u64 {
             asked += 1;
             gate.at(rt, FIRST + self.number, asked);
-            self.removed += visit_bucket(
-                rt,
-                trackers,
-                store,
-                &mut self.pass,
-                gathered,
-                b as u32,
-                steps,
-            );
+            self.removed += visit_bucket(rt, tools, &mut self.pass, b as u32, steps);
             b = draws.draw(&mut self.drawer);
         }
     }
@@ -74,48 +62,44 @@ impl Helper {
     fn sweep_as<R: Wait, G: Gate, L: Ledger>(
         &mut self,
         rt: &R,
-        trackers: &Trackers,
-        store: &Store,
-        gathered: &Gathered,
+        tools: &Tools<'_>,
         draws: &Draws,
         gate: &G,
         blank: Blank,
     )
-        requires own { IsHelperOf (trackers_board_id trackers.now) (draws_id draws.now) self.old }
+        requires own { IsHelperOf (trackers_board_id tools.now.trackers.now) (draws_id draws.now)
+            self.old }
         requires ready { IsReady self.old }
-        requires board { store_board_id store.now ≡ trackers_board_id trackers.now }
-        requires tables { tables_in gathered.now ≡ (board_sizes trackers.now).tables }
-        requires shown { IsGatherOf (board_sizes trackers.now).sessions
-            (own_pass (pass_view self.old.pass)) gathered.now }
+        requires shown { IsGatherOf (board_sizes tools.now.trackers.now).sessions
+            (own_pass (pass_view self.old.pass)) tools.now.gathered.now }
         requires name { blank.name ≡ L.name }
         requires parts { blank.parts ≡ L.parts }
         requires some { 0 < blank.parts }
-        ensures helped { HasHelped (store_buckets store.now) self.old self.new }
-        ensures own { IsHelperOf (trackers_board_id trackers.now) (draws_id draws.now) self.new }
+        ensures helped { HasHelped (store_buckets tools.now.store.now) self.old self.new }
+        ensures own { IsHelperOf (trackers_board_id tools.now.trackers.now) (draws_id draws.now)
+            self.new }
     {
         let mut steps: Steps<L> = Steps::new(blank);
-        self.sweep(rt, trackers, store, gathered, draws, gate, &mut steps);
+        self.sweep(rt, tools, draws, gate, &mut steps);
     }
 
     /// Its part of a round. Nobody reads its count of steps.
     pub(crate) fn work<R: Wait, G: Gate>(
         &mut self,
         rt: &R,
-        trackers: &Trackers,
-        store: &Store,
-        gathered: &Gathered,
+        tools: &Tools<'_>,
         draws: &Draws,
         gate: &G,
     )
-        requires own { IsHelperOf (trackers_board_id trackers.now) (draws_id draws.now) self.old }
+        requires own { IsHelperOf (trackers_board_id tools.now.trackers.now) (draws_id draws.now)
+            self.old }
         requires ready { IsReady self.old }
-        requires board { store_board_id store.now ≡ trackers_board_id trackers.now }
-        requires tables { tables_in gathered.now ≡ (board_sizes trackers.now).tables }
-        requires shown { IsGatherOf (board_sizes trackers.now).sessions
-            (own_pass (pass_view self.old.pass)) gathered.now }
-        ensures helped { HasHelped (store_buckets store.now) self.old self.new }
-        ensures own { IsHelperOf (trackers_board_id trackers.now) (draws_id draws.now) self.new }
+        requires shown { IsGatherOf (board_sizes tools.now.trackers.now).sessions
+            (own_pass (pass_view self.old.pass)) tools.now.gathered.now }
+        ensures helped { HasHelped (store_buckets tools.now.store.now) self.old self.new }
+        ensures own { IsHelperOf (trackers_board_id tools.now.trackers.now) (draws_id draws.now)
+            self.new }
     {
-        self.sweep_as::<R, G, Brand>(rt, trackers, store, gathered, draws, gate, Blank::new(1));
+        self.sweep_as::<R, G, Brand>(rt, tools, draws, gate, Blank::new(1));
     }
 }

@@ -11,6 +11,7 @@ use crate::crew::{hire, retire, work};
 use crate::draws::{Drawer, Draws};
 use crate::helper::Helper;
 use hg_base::{Gate, Kind, NoMemory, Report};
+use hg_gc_interval::Tools;
 use hg_rule::CollectorPass;
 use hg_store::Store;
 use hg_tracker::{Gathered, Trackers};
@@ -100,7 +101,8 @@ impl SweepTeam {
         &self.report
     }
 
-    /// One round. Helper h asks the gate as worker 200 + h before each of its buckets, counted from 1. It holds one bucket's lock at a time.
+    /// One round. Helper h asks the gate as worker 200 + h before each of its buckets, counted from 1. It holds one bucket's lock
+    /// at a time.
     pub fn collect<R: Threads + Wait + Sync, G: Gate + Sync>(
         &mut self,
         rt: &R,
@@ -127,15 +129,12 @@ impl SweepTeam {
             self.count,
             &mut self.helpers,
         );
-        work(
-            rt,
+        let tools = Tools {
             trackers,
             store,
-            &self.gathered,
-            &self.draws,
-            gate,
-            self.helpers.as_mut_slice(),
-        );
+            gathered: &self.gathered,
+        };
+        work(rt, &tools, &self.draws, gate, self.helpers.as_mut_slice());
         let removed = retire(
             board,
             &mut self.pass,

@@ -42,7 +42,9 @@ loop-helper-preserved c =
     let room : vec_capacity c.pop.new.self ≡ vec_capacity c.loop-helper.helpers = search rules in (
       λ buckets x first.
           let u = c.loop-helper.invariant.0 buckets x first in
-          unites_more _ _ buckets _ x c.in-Some.helper (last_back _ _ _ _ _ _ _ _ _ _ _ u last) c.pop.new.self.items (pass_view c.loop-helper.pass) (drawn_by c.loop-helper.drawer) c.loop-helper.removed (last_unites _ _ _ _ _ _ _ _ _ _ _ u last) (pass_view c.unite.new.self) c.unite.ensures.view (drawn_by c.take_back.new.drawer) c.take_back.ensures.both,
+          unites_more _ _ buckets _ x c.in-Some.helper (last_back _ _ _ _ _ _ _ _ _ _ _ u last) c.pop.new.self.items (pass_view c.loop-helper.pass)
+          (drawn_by c.loop-helper.drawer) c.loop-helper.removed (last_unites _ _ _ _ _ _ _ _ _ _ _ u last) (pass_view c.unite.new.self) c.unite.ensures.view
+          (drawn_by c.take_back.new.drawer) c.take_back.ensures.both,
       c.unite.ensures.own,
       c.take_back.ensures.own,
       omega (arith, room, c.loop-helper.invariant.3),
@@ -57,5 +59,9 @@ restart-requires-clause-all c =
 
 pub returns-clause-united : goal.returns-clause-united
 returns-clause-united c buckets x first =
-    let none : c.loop-helper.helpers.items ≡ [] = search rules in
-    (drawn_by c.loop-helper.drawer, subst (λ (l : List Helper). Unites (board_id c.args.board.now) (draws_id c.args.draws.now) buckets (length c.args.helpers.now.items) x l (pass_view c.loop-helper.pass) (drawn_by c.loop-helper.drawer) c.loop-helper.removed) none (c.loop-helper.invariant.0 buckets x first), c.restart.ensures.all)
+    let none : c.loop-helper.helpers.items ≡ [] = search rules in (
+      drawn_by c.loop-helper.drawer,
+      subst (λ (l : List Helper). Unites (board_id c.args.board.now) (draws_id c.args.draws.now) buckets (length c.args.helpers.now.items) x l
+          (pass_view c.loop-helper.pass) (drawn_by c.loop-helper.drawer) c.loop-helper.removed) none (c.loop-helper.invariant.0 buckets x first),
+      c.restart.ensures.all,
+    )

@@ -25,12 +25,14 @@ returns-clause-sweeps g c =
     let shown = c.gather.ensures.shown in
     let gathers = c.gather.ensures.gathered in
     let report = c.rewrite.ensures.reports _ _ shown in
-    let visits = subst (λ n. VisitsAll Interval (IsCleanBy (record_of (pass x))) z.buckets n x w) (sym report.removed_is) (subst (λ n. VisitsAll Interval (IsCleanBy (record_of (pass x))) n c.visit_all-removed.result x w) c.requires.buckets c.visit_all-removed.ensures.visits) in
+    let visits = subst (λ n. VisitsAll Interval (IsCleanBy (record_of (pass x))) z.buckets n x w) (sym report.removed_is)
+    (subst (λ n. VisitsAll Interval (IsCleanBy (record_of (pass x))) n c.visit_all-removed.result x w) c.requires.buckets c.visit_all-removed.ensures.visits) in
     record {
       gathered = x;
       gathers = gathers;
       visits = visits;
-      reports = reports Interval v x w _ (gather_events v x) (gather_gains v x z.sessions gathers) (gather_round v x z.sessions gathers) (gather_removes_none v x) visits.on c.visit_all-removed.result report visits.gone_is gathers.most;
+      reports = reports Interval v x w _ (gather_events v x) (gather_gains v x z.sessions gathers) (gather_round v x z.sessions gathers)
+          (gather_removes_none v x) visits.on c.visit_all-removed.result report visits.gone_is gathers.most;
     }
 
 pub returns-clause-cost : goal.returns-clause-cost
@@ -39,4 +41,5 @@ returns-clause-cost g c =
     let x = pass_view c.gather.new.pass in
     let w = pass_view c.visit_all-removed.new.pass in
     let same = (same_pass Interval x w c.visit_all-removed.ensures.visits.on).record_is in
-    subst (λ (p : PassRecord). VisitsCost z p z.buckets c.args.steps.now c.visit_all-removed.new.steps) (sym same) (subst (λ n. VisitsCost z (record_of (pass x)) n c.args.steps.now c.visit_all-removed.new.steps) c.requires.buckets c.visit_all-removed.ensures.cost)
+    subst (λ (p : PassRecord). VisitsCost z p z.buckets c.args.steps.now c.visit_all-removed.new.steps) (sym same)
+    (subst (λ n. VisitsCost z (record_of (pass x)) n c.args.steps.now c.visit_all-removed.new.steps) c.requires.buckets c.visit_all-removed.ensures.cost)

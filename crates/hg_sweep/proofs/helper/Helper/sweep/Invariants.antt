@@ -5,7 +5,8 @@ use Rattle.hg_sweep.proofs.Helped.{Turns}
 use Rattle.hg_sweep.proofs.helper.Helper.sweep.Given as goal
 
 abbrev pub invariant-loop-b : goal.invariant-loop-b
-invariant-loop-b g l = Turns (trackers_board_id l.trackers) (draws_id l.draws) (board_sizes l.trackers).sessions (store_buckets l.store) l.gathered l.fn.self l.self l.b l.asked
+invariant-loop-b g l = Turns (trackers_board_id l.tools.trackers.now) (draws_id l.draws) (board_sizes l.tools.trackers.now).sessions
+    (store_buckets l.tools.store.now) l.tools.gathered.now l.fn.self l.self l.b l.asked
 
 abbrev pub decreases-loop-b : goal.decreases-loop-b
 decreases-loop-b g l = (drawn_by l.self.drawer).left

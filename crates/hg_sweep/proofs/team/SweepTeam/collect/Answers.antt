@@ -29,7 +29,8 @@ retire-removed-requires-clause-back g c =
     let ids : trackers_board_id c.args.trackers.now ≡ t = sym (ap board_id c.board-board.ensures) in
     let ran : (k : ℕ) (o : Helper) → k < length hs → HasHelped (store_buckets c.args.store.now) (get_or hs k o) (get_or now k o) × IsHelperOf t d (get_or now k o) =
     subst (λ b. (k : ℕ) (o : Helper) → k < length hs → HasHelped (store_buckets c.args.store.now) (get_or hs k o) (get_or now k o) × IsHelperOf b d (get_or now k o)) ids
-    (subst (λ (l : List Helper). (k : ℕ) (o : Helper) → k < length l → HasHelped (store_buckets c.args.store.now) (get_or l k o) (get_or now k o) × IsHelperOf (trackers_board_id c.args.trackers.now) d (get_or now k o)) value c.work.ensures.helped) in
+    (subst (λ (l : List Helper). (k : ℕ) (o : Helper) → k < length l → HasHelped (store_buckets c.args.store.now) (get_or l k o) (get_or now k o) ×
+    IsHelperOf (trackers_board_id c.args.trackers.now) d (get_or now k o)) value c.work.ensures.helped) in
     let u = all_back t d (store_buckets c.args.store.now) c.args.self.now.count x hs now (pass_view c.hire.new.pass) (drawn_by c.hire.new.drawer) c.hire.ensures.hired same ran in
     (store_buckets c.args.store.now, x, subst (λ (l : List Helper). Unites t d (store_buckets c.args.store.now) (length l) x l (pass_view c.hire.new.pass) (drawn_by c.hire.new.drawer) 0) (sym all) u)
 
@@ -38,7 +39,8 @@ abbrev taken_of : (g : given.Over) → goal.After-rewrite g → List Helper
 taken_of g c = take c.hire.new.helpers.len (c.work.new.helpers ++ drop (length c.work.new.helpers) c.hire.new.helpers.items)
 
 -- the helpers are back
-began : (g : given.Over) (c : goal.After-rewrite g) → Unites (board_id c.board-board.result.now) (draws_id c.args.self.now.draws) (store_buckets c.args.store.now) (length (taken_of g c)) (pass_view c.gather.new.pass) (taken_of g c) (pass_view c.hire.new.pass) (drawn_by c.hire.new.drawer) 0
+began : (g : given.Over) (c : goal.After-rewrite g) → Unites (board_id c.board-board.result.now) (draws_id c.args.self.now.draws) (store_buckets c.args.store.now)
+    (length (taken_of g c)) (pass_view c.gather.new.pass) (taken_of g c) (pass_view c.hire.new.pass) (drawn_by c.hire.new.drawer) 0
 began g c =
     let t = board_id c.board-board.result.now in
     let d = draws_id c.args.self.now.draws in
@@ -53,7 +55,8 @@ began g c =
     let ids : trackers_board_id c.args.trackers.now ≡ t = sym (ap board_id c.board-board.ensures) in
     let ran : (k : ℕ) (o : Helper) → k < length hs → HasHelped (store_buckets c.args.store.now) (get_or hs k o) (get_or now k o) × IsHelperOf t d (get_or now k o) =
     subst (λ b. (k : ℕ) (o : Helper) → k < length hs → HasHelped (store_buckets c.args.store.now) (get_or hs k o) (get_or now k o) × IsHelperOf b d (get_or now k o)) ids
-    (subst (λ (l : List Helper). (k : ℕ) (o : Helper) → k < length l → HasHelped (store_buckets c.args.store.now) (get_or l k o) (get_or now k o) × IsHelperOf (trackers_board_id c.args.trackers.now) d (get_or now k o)) value c.work.ensures.helped) in
+    (subst (λ (l : List Helper). (k : ℕ) (o : Helper) → k < length l → HasHelped (store_buckets c.args.store.now) (get_or l k o) (get_or now k o) ×
+    IsHelperOf (trackers_board_id c.args.trackers.now) d (get_or now k o)) value c.work.ensures.helped) in
     let u = all_back t d (store_buckets c.args.store.now) c.args.self.now.count x hs now (pass_view c.hire.new.pass) (drawn_by c.hire.new.drawer) c.hire.ensures.hired same ran in
     subst (λ (l : List Helper). Unites t d (store_buckets c.args.store.now) (length l) x l (pass_view c.hire.new.pass) (drawn_by c.hire.new.drawer) 0) (sym all) u
 
@@ -75,7 +78,8 @@ work-requires-clause-hired g c κs within =
     let z = board_sizes c.args.trackers.now in
     let ids : t ≡ trackers_board_id c.args.trackers.now = ap board_id c.board-board.ensures in
     subst (All (IsWilling (trackers_board_id c.args.trackers.now) d z c.gather.new.into)) (sym c.as_mut_slice.ensures.value)
-    (subst (λ b. All (IsWilling b d z c.gather.new.into) c.hire.new.helpers.items) ids (willing t d z c.gather.new.into (pass_view c.gather.new.pass) c.hire.new.helpers.items c.gather.ensures.shown c.hire.ensures.hired.each))
+    (subst (λ b. All (IsWilling b d z c.gather.new.into) c.hire.new.helpers.items) ids
+    (willing t d z c.gather.new.into (pass_view c.gather.new.pass) c.hire.new.helpers.items c.gather.ensures.shown c.hire.ensures.hired.each))
 
 pub returns-clause-sweeps : goal.returns-clause-sweeps
 returns-clause-sweeps g c =

@@ -1,4 +1,4 @@
-//! A bucket is taken, swept and given back.
+//! Visits of buckets: each is taken, swept and given back.
 
 ghost use Rattle.std.specs.Prelude.{◌≡◌, ◌<◌, ◌≤◌, ◌^◌};
 ghost use Rattle.hg_base.specs.declared.report.Kind.TheVariants.{Interval};
@@ -9,16 +9,17 @@ ghost use Rattle.hg_rule.specs.Views.{pass as own_pass};
 ghost use Rattle.hg_rule.specs.Seats.{board_id, sizes_of, pass_view, IsPassOf};
 ghost use Rattle.hg_tracker.specs.Boards.{trackers_board_id, board_sizes};
 ghost use Rattle.hg_tracker.specs.Gathers.{tables_in, IsGatherOf};
-ghost use Rattle.hg_store.specs.Stores.{store_board_id, store_buckets, held_board_id, held_number, Holds};
+ghost use Rattle.hg_store.specs.Stores.{store_buckets, held_board_id, held_number, Holds};
 ghost use Rattle.hg_visit.specs.Visits.{Visits, VisitsAll};
 ghost use Rattle.hg_visit.specs.Tables.{ClearsTables};
 ghost use Rattle.hg_gc_interval.specs.Sweeping.{IsCleanBy};
 ghost use Rattle.hg_gc_interval.specs.Costs.{SpendsTables, VisitCosts, VisitsCost};
 
+use crate::tools::Tools;
 use hg_base::{Steps, TableId};
 use hg_rule::{Board, CollectorPass};
-use hg_store::{Held, Store};
-use hg_tracker::{Gathered, Trackers};
+use hg_store::{Guards, Held};
+use hg_tracker::Gathered;
 use std::sync::Wait;
 use std::sync::ledger::Ledger;
 
@@ -50,7 +51,8 @@ fn sweep_tables<L: Ledger>(
     for number in 0..gathered.tables() {
         let table = TableId(number as u8);
         let snapshots = gathered.for_table(table);
-        gone += held.sweep(board, pass, table, horizon, snapshots, steps);
+        let guards = Guards { horizon, snapshots };
+        gone += held.sweep(board, pass, table, &guards, steps);
     }
     gone
 }
@@ -59,31 +61,27 @@ fn sweep_tables<L: Ledger>(
 /// many versions went.
 pub fn visit_bucket<R: Wait, L: Ledger>(
     rt: &R,
-    trackers: &Trackers,
-    store: &Store,
+    tools: &Tools<'_>,
     pass: &mut CollectorPass,
-    gathered: &Gathered,
     b: u32,
     steps: &mut Steps<L>,
 ) -> u64
-    requires own { IsPassOf (trackers_board_id trackers.now) pass.old }
-    requires board { store_board_id store.now ≡ trackers_board_id trackers.now }
-    requires tables { tables_in gathered.now ≡ (board_sizes trackers.now).tables }
-    requires shown { IsGatherOf (board_sizes trackers.now).sessions (own_pass (pass_view pass.old))
-        gathered.now }
-    requires bucket { b < store_buckets store.now }
+    requires own { IsPassOf (trackers_board_id tools.now.trackers.now) pass.old }
+    requires shown { IsGatherOf (board_sizes tools.now.trackers.now).sessions
+        (own_pass (pass_view pass.old)) tools.now.gathered.now }
+    requires bucket { b < store_buckets tools.now.store.now }
     ensures visits { Visits Interval (IsCleanBy (record_of (own_pass (pass_view pass.old)))) b
         result (pass_view pass.old) (pass_view pass.new) }
-    ensures shown { IsGatherOf (board_sizes trackers.now).sessions (own_pass (pass_view pass.new))
-        gathered.now }
+    ensures shown { IsGatherOf (board_sizes tools.now.trackers.now).sessions
+        (own_pass (pass_view pass.new)) tools.now.gathered.now }
     ensures few { removed_all Interval (own_pass (pass_view pass.new)).visits ≤ 2 ^ 41 }
-    ensures cost { VisitCosts (board_sizes trackers.now) (record_of (own_pass (pass_view pass.old)))
-        b steps.old steps.new }
-    ensures own { IsPassOf (trackers_board_id trackers.now) pass.new }
+    ensures cost { VisitCosts (board_sizes tools.now.trackers.now)
+        (record_of (own_pass (pass_view pass.old))) b steps.old steps.new }
+    ensures own { IsPassOf (trackers_board_id tools.now.trackers.now) pass.new }
 {
-    let board = trackers.board();
-    let mut held = store.take(rt, board, b, pass);
-    let gone = sweep_tables(board, pass, &mut held, gathered, steps);
+    let board = tools.trackers.board();
+    let mut held = tools.store.take(rt, board, b, pass);
+    let gone = sweep_tables(board, pass, &mut held, tools.gathered, steps);
     held.give(board, pass);
     gone
 }
@@ -91,26 +89,23 @@ pub fn visit_bucket<R: Wait, L: Ledger>(
 /// Visits each bucket, in order. The answer says how many versions went.
 pub(crate) fn visit_all<R: Wait, L: Ledger>(
     rt: &R,
-    trackers: &Trackers,
-    store: &Store,
+    tools: &Tools<'_>,
     pass: &mut CollectorPass,
-    gathered: &Gathered,
     steps: &mut Steps<L>,
 ) -> u64
-    requires own { IsPassOf (trackers_board_id trackers.now) pass.old }
-    requires board { store_board_id store.now ≡ trackers_board_id trackers.now }
-    requires tables { tables_in gathered.now ≡ (board_sizes trackers.now).tables }
-    requires shown { IsGatherOf (board_sizes trackers.now).sessions (own_pass (pass_view pass.old))
-        gathered.now }
+    requires own { IsPassOf (trackers_board_id tools.now.trackers.now) pass.old }
+    requires shown { IsGatherOf (board_sizes tools.now.trackers.now).sessions
+        (own_pass (pass_view pass.old)) tools.now.gathered.now }
     ensures visits { VisitsAll Interval (IsCleanBy (record_of (own_pass (pass_view pass.old))))
-        (store_buckets store.now) result (pass_view pass.old) (pass_view pass.new) }
-    ensures cost { VisitsCost (board_sizes trackers.now) (record_of (own_pass (pass_view pass.old)))
-        (store_buckets store.now) steps.old steps.new }
-    ensures own { IsPassOf (trackers_board_id trackers.now) pass.new }
+        (store_buckets tools.now.store.now) result (pass_view pass.old) (pass_view pass.new) }
+    ensures cost { VisitsCost (board_sizes tools.now.trackers.now)
+        (record_of (own_pass (pass_view pass.old))) (store_buckets tools.now.store.now)
+        steps.old steps.new }
+    ensures own { IsPassOf (trackers_board_id tools.now.trackers.now) pass.new }
 {
     let mut gone = 0;
-    for b in 0..store.buckets() {
-        gone += visit_bucket(rt, trackers, store, pass, gathered, b, steps);
+    for b in 0..tools.store.buckets() {
+        gone += visit_bucket(rt, tools, pass, b, steps);
     }
     gone
 }

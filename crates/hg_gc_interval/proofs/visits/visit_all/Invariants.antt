@@ -7,11 +7,11 @@ use Rattle.hg_tracker.specs.Gathers.{IsGatherOf}
 use Rattle.hg_visit.specs.Visits.{VisitsAll}
 use Rattle.hg_gc_interval.specs.Sweeping.{IsCleanBy}
 use Rattle.hg_gc_interval.specs.Costs.{VisitsCost}
-use Rattle.hg_gc_interval.proofs.visiting.visit_all.Given as goal
+use Rattle.hg_gc_interval.proofs.visits.visit_all.Given as goal
 
 abbrev pub invariant-loop-b : goal.invariant-loop-b
 invariant-loop-b g l =
     VisitsAll Interval (IsCleanBy (record_of (own_pass (pass_view l.fn.pass)))) l.b l.gone (pass_view l.fn.pass) (pass_view l.pass)
-    × IsPassOf (trackers_board_id l.trackers) l.pass
-    × IsGatherOf (board_sizes l.trackers).sessions (own_pass (pass_view l.pass)) l.gathered
-    × VisitsCost (board_sizes l.trackers) (record_of (own_pass (pass_view l.fn.pass))) l.b l.fn.steps l.steps
+    × IsPassOf (trackers_board_id l.tools.trackers.now) l.pass
+    × IsGatherOf (board_sizes l.tools.trackers.now).sessions (own_pass (pass_view l.pass)) l.tools.gathered.now
+    × VisitsCost (board_sizes l.tools.trackers.now) (record_of (own_pass (pass_view l.fn.pass))) l.b l.fn.steps l.steps

@@ -15,7 +15,7 @@ use Rattle.hg_visit.proofs.Snapshots.{have_same, same_length, whole_record}
 use Rattle.hg_gc_interval.specs.Sweeping.{IsCleanBy}
 use Rattle.hg_gc_interval.specs.Costs.{SpendsTables}
 use Rattle.hg_gc_interval.proofs.Spending.{spends_more}
-use Rattle.hg_gc_interval.proofs.visiting.sweep_tables.Goals as goal
+use Rattle.hg_gc_interval.proofs.visits.sweep_tables.Goals as goal
 
 abbrev at : TableId → ℕ → Rid
 at t k = record { table = t; key = k }
@@ -33,7 +33,8 @@ sweep-gone-requires-clause-gathered g c =
     let same = record_still Interval (IsCleanBy (record_of (pass v))) c.loop-number.number c.loop-number.gone v (pass_view c.loop-number.pass) c.loop-number.invariant.0 in (
       c.horizon-horizon.ensures _ _ c.requires.shown ∙ ap horizon (sym same),
       c.for_table-snapshots.ensures.rises _ _ c.requires.shown,
-      have_same c.for_table-snapshots.result.now (recorded t (record_of (pass (pass_view c.loop-number.pass)))) (λ n. c.for_table-snapshots.ensures.numbers _ _ c.requires.shown n ∙ ap (λ p. times n (recorded t p)) (sym same)),
+      have_same c.for_table-snapshots.result.now (recorded t (record_of (pass (pass_view c.loop-number.pass)))) (λ n. c.for_table-snapshots.ensures.numbers _ _ c.requires.shown n ∙
+          ap (λ p. times n (recorded t p)) (sym same)),
     )
 
 pub loop-number-preserved : goal.loop-number-preserved
@@ -50,8 +51,10 @@ loop-number-preserved g c =
     let next : suc n ≡ n + 1 = omega arith in
     let xs = c.for_table-snapshots.result.now in
     let many = same_length xs (recorded t (record_of (pass v))) (c.for_table-snapshots.ensures.numbers _ _ c.requires.shown) in
-    let cost = spends_more (record_of (pass v)) v w n (length xs) c.args.steps.now c.loop-number.steps c.sweep-gone.new.steps t (omega arith) many c.loop-number.invariant.5 c.loop-number.invariant.0.rest c.sweep-gone.ensures.spends in
-    let more : ClearsTables Interval Q (suc n) (c.loop-number.gone + c.sweep-gone.result) v x = tables_more Interval Q v w x n c.loop-number.gone c.sweep-gone.result t (omega arith) c.loop-number.invariant.0 c.sweep-gone.ensures.steps c.sweep-gone.ensures.gone left c.sweep-gone.ensures.left.1 in (
+    let cost = spends_more (record_of (pass v)) v w n (length xs) c.args.steps.now c.loop-number.steps c.sweep-gone.new.steps t
+    (omega arith) many c.loop-number.invariant.5 c.loop-number.invariant.0.rest c.sweep-gone.ensures.spends in
+    let more : ClearsTables Interval Q (suc n) (c.loop-number.gone + c.sweep-gone.result) v x = tables_more Interval Q v w x n c.loop-number.gone c.sweep-gone.result t
+    (omega arith) c.loop-number.invariant.0 c.sweep-gone.ensures.steps c.sweep-gone.ensures.gone left c.sweep-gone.ensures.left.1 in (
       subst (λ k. ClearsTables Interval Q k (c.loop-number.gone + c.sweep-gone.result) v x) next more,
       c.sweep-gone.ensures.holds.0.1,
       c.sweep-gone.ensures.holds.0.0,
