@@ -43,7 +43,8 @@ pub cuts_more : (buckets bound : ℕ) (u v w : View) (xs ys : List Rid) (m n : �
 cuts_more buckets bound u v w xs ys m n a b =
     let s = same_pass Group u v a.on in
     let C : Rid → Type 0 = λ r. WasCut buckets (number u) (pass u).mark bound (b.on.visits ++ a.on.visits) (a.on.steps ++ b.on.steps) r in
-    let there : Each (WasCut buckets (number u) (pass u).mark bound b.on.visits b.on.steps) ys = subst (λ (k : ℕ × ℕ). Each (WasCut buckets k.0 k.1 bound b.on.visits b.on.steps) ys) (λ i. (s.number_is i, s.mark_is i)) b.cut in record {
+    let there : Each (WasCut buckets (number u) (pass u).mark bound b.on.visits b.on.steps) ys = subst
+    (λ (k : ℕ × ℕ). Each (WasCut buckets k.0 k.1 bound b.on.visits b.on.steps) ys) (λ i. (s.number_is i, s.mark_is i)) b.cut in record {
       on = goes_on Group u v w a.on b.on;
       gone_is = let l = gone_on a.on.steps b.on.steps in omega (arith, l, a.gone_is, b.gone_is);
       takes_none = let l = takes_on a.on.steps b.on.steps in omega (arith, l, a.takes_none, b.takes_none);
@@ -64,7 +65,8 @@ each_from : (P : Rid → Type 0) (xs : List Rid) → ((r : Rid) → Contains xs 
 each_from P [] f = tt
 each_from P (x ∷ xs) f = (f x (here x xs), each_from P xs (λ r h. f r (there x r xs h)))
 
-pub cuts_listed : (buckets bound : ℕ) (v w : View) (old sorted left : List Rid) (n : ℕ) → IsPermutation old sorted → left ≡ dedup same_rid sorted → CutsAll buckets bound v left n w → CutsAll buckets bound v old n w
+pub cuts_listed : (buckets bound : ℕ) (v w : View) (old sorted left : List Rid) (n : ℕ) → IsPermutation old sorted → left ≡ dedup same_rid sorted →
+    CutsAll buckets bound v left n w → CutsAll buckets bound v old n w
 cuts_listed buckets bound v w old sorted left n moved is c = record {
   on = c.on;
   gone_is = c.gone_is;

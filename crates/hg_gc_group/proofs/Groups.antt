@@ -46,7 +46,16 @@ all_work p [] = tt
 all_work p (m ∷ marks) = (tt, all_work p marks)
 
 abbrev taken_on : (v w : View) (bound : ℕ) (cs : List GroupContext) → HasPass v → TakesNext v bound cs w → GoesOn Group v w
-taken_on v w bound cs own t = record { visits = []; steps = takes_by (number v) t.marks; work = all_work (number v) t.marks; only = tt; sum = gone_none (number v) t.marks; parts = t.parts ∙ own; kept = t.kept; events = t.events }
+taken_on v w bound cs own t = record {
+  visits = [];
+  steps = takes_by (number v) t.marks;
+  work = all_work (number v) t.marks;
+  only = tt;
+  sum = gone_none (number v) t.marks;
+  parts = t.parts ∙ own;
+  kept = t.kept;
+  events = t.events;
+}
 
 -- ---- counts
 
@@ -69,7 +78,8 @@ saw_later : {A : Type 0} (a : A) (xs ys : List A) → StartsWith ys xs → IsAmo
 saw_later a xs ys k h = subst (IsAmong a) (sym k.1) (among_first a xs k.0 h)
 
 -- what was taken earlier
-taken_before : (buckets p mark bound : ℕ) (sights seen : List Sight) (visits more : List Visit) (steps later : List Event) (k : ℕ) → StartsWith seen sights → WasTaken buckets p mark bound sights visits steps k → WasTaken buckets p mark bound seen (more ++ visits) (steps ++ later) k
+taken_before : (buckets p mark bound : ℕ) (sights seen : List Sight) (visits more : List Visit) (steps later : List Event) (k : ℕ) → StartsWith seen sights →
+    WasTaken buckets p mark bound sights visits steps k → WasTaken buckets p mark bound seen (more ++ visits) (steps ++ later) k
 taken_before buckets p mark bound sights seen visits more steps later k kept t = record {
   history = t.history;
   saw = saw_later _ sights seen kept t.saw;
@@ -93,7 +103,8 @@ onto_long n (c ∷ cs) earlier = let long : length (suc n ∷ earlier) ≡ suc (
 
 onto_falls : (n : ℕ) (cs : List GroupContext) (earlier : List ℕ) → FallsBelow (suc n) earlier → FallsBelow (suc (n + length cs)) (onto n cs earlier)
 onto_falls n [] earlier f = falls_up (suc n) (suc (n + 0)) earlier (omega arith) f
-onto_falls n (c ∷ cs) earlier f = falls_up (suc (suc n + length cs)) (suc (n + suc (length cs))) (onto (suc n) cs (suc n ∷ earlier)) (omega arith) (onto_falls (suc n) cs (suc n ∷ earlier) (omega arith, f))
+onto_falls n (c ∷ cs) earlier f = falls_up (suc (suc n + length cs)) (suc (n + suc (length cs))) (onto (suc n) cs (suc n ∷ earlier)) (omega arith)
+    (onto_falls (suc n) cs (suc n ∷ earlier) (omega arith, f))
 
 onto_over : (low n : ℕ) (cs : List GroupContext) (earlier : List ℕ) → low ≤ n → Each (λ k. low < k) earlier → Each (λ k. low < k) (onto n cs earlier)
 onto_over low n [] earlier le each = each
@@ -103,7 +114,8 @@ module _ (buckets p mark bound : ℕ) (sights : List Sight) (visits : List Visit
   abbrev Cut : Rid → Type 0
   Cut r = WasCut buckets p mark bound visits steps r
 
-  taken_each : (n : ℕ) (cs : List GroupContext) (earlier : List ℕ) → AreNext n h cs → Each Cut (records_of cs) → Each (WasTaken buckets p mark bound sights visits steps) earlier → Each (WasTaken buckets p mark bound sights visits steps) (onto n cs earlier)
+  taken_each : (n : ℕ) (cs : List GroupContext) (earlier : List ℕ) → AreNext n h cs → Each Cut (records_of cs) → Each (WasTaken buckets p mark bound sights visits steps) earlier →
+      Each (WasTaken buckets p mark bound sights visits steps) (onto n cs earlier)
   taken_each n [] earlier next cuts each = each
   taken_each n (c ∷ cs) earlier next cuts each = taken_each (suc n) cs (suc n ∷ earlier) next.1 (each_right Cut c.records.list (records_of cs) cuts) (
     record {
@@ -157,7 +169,8 @@ module _ (buckets bound : ℕ) (u v : View) (m : ℕ) (a : TakesGroups buckets b
         cuts =
             let s = same_pass Group u x to in
             each_keeps _ _ (λ r c. cut_after buckets (number u) (pass u).mark bound r a.on.visits b.on.visits to.steps b.on.steps c) (records_of cs)
-            (each_right _ old (records_of cs) (subst (λ (k : ℕ × (ℕ × List Rid)). Each (WasCut buckets k.0 k.1.0 bound b.on.visits b.on.steps) k.1.1) (λ i. (s.number_is i, (s.mark_is i, is i))) b.cut))
+            (each_right _ old (records_of cs) (subst (λ (k : ℕ × (ℕ × List Rid)). Each (WasCut buckets k.0 k.1.0 bound b.on.visits b.on.steps) k.1.1)
+            (λ i. (s.number_is i, (s.mark_is i, is i))) b.cut))
 
         earlier : Each (WasTaken buckets (number u) (pass u).mark bound w.sights on.visits on.steps) a.taken
         earlier = each_keeps _ _ (λ k e. taken_before buckets (number u) (pass u).mark bound x.sights w.sights a.on.visits b.on.visits to.steps b.on.steps k b.on.kept
@@ -173,7 +186,8 @@ module _ (buckets bound : ℕ) (u v : View) (m : ℕ) (a : TakesGroups buckets b
               gone_is = gone_is;
               taken = onto t.before cs a.taken;
               count = omega (arith, k1, k2, takes_are (number v) t.marks, t.count, a.count, b.takes_none, onto_long t.before cs a.taken);
-              falls = falls_up (suc (t.before + length cs)) (suc (seen_taken w.sights)) (onto t.before cs a.taken) (omega (arith, seen, t.taken)) (onto_falls t.before cs a.taken (falls_up (suc (seen_taken v.sights)) (suc t.before) a.taken (omega (arith, t.seen)) a.falls));
+              falls = falls_up (suc (t.before + length cs)) (suc (seen_taken w.sights)) (onto t.before cs a.taken) (omega (arith, seen, t.taken))
+                  (onto_falls t.before cs a.taken (falls_up (suc (seen_taken v.sights)) (suc t.before) a.taken (omega (arith, t.seen)) a.falls));
               over = onto_over (seen_taken u.sights) t.before cs a.taken (omega (arith, low, t.seen)) a.over;
               each = taken_each buckets (number u) (pass u).mark bound w.sights on.visits on.steps t.history (saw_later _ x.sights w.sights b.on.kept t.saw) t.before cs a.taken t.next cuts earlier;
             }
@@ -181,12 +195,14 @@ module _ (buckets bound : ℕ) (u v : View) (m : ℕ) (a : TakesGroups buckets b
 -- ---- one turn
 
 -- the records of the groups that were taken together were cut
-module _ (buckets bound : ℕ) (u v x y : View) (m n : ℕ) (old new : List Rid) (o : Option GroupContext) (a : TakesGroups buckets bound u m v) (t : TakesSome v bound old o new x) (b : CutsAll buckets bound x new n y) where
+module _ (buckets bound : ℕ) (u v x y : View) (m n : ℕ) (old new : List Rid) (o : Option GroupContext) (a : TakesGroups buckets bound u m v) (t : TakesSome v bound old o new x)
+    (b : CutsAll buckets bound x new n y) where
   pub batch_few : removed_all Group (pass y).visits ≤ 2 ^ 41 → m + n ≤ 2 ^ 41
   batch_few few = more_few buckets bound u v m a x (t.contexts ++ option_to_list o) t.takes y new n b few
 
 -- and those of the last one
-module _ (buckets bound : ℕ) (u v x y w : View) (m n k : ℕ) (old new rids : List Rid) (last : GroupContext) (a : TakesGroups buckets bound u m v) (t : TakesSome v bound old (Some last) new x) (b : CutsAll buckets bound x new n y) (is : rids ≡ last.records.list) (d : CutsAll buckets bound y rids k w) where
+module _ (buckets bound : ℕ) (u v x y w : View) (m n k : ℕ) (old new rids : List Rid) (last : GroupContext) (a : TakesGroups buckets bound u m v)
+    (t : TakesSome v bound old (Some last) new x) (b : CutsAll buckets bound x new n y) (is : rids ≡ last.records.list) (d : CutsAll buckets bound y rids k w) where
   abbrev all : List GroupContext
   all = t.contexts ++ last ∷ []
 

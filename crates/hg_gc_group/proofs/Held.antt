@@ -44,7 +44,14 @@ module _ (bound : ℕ) (v w x : View) (rids : List Rid) (m : ℕ) (r : Rid) (a :
       go false e = subst (IsCutAt bound) (sym e) c.1.1
 
   cut_now : IsCutIn bound (number v) (a.removes.steps ++ one) x r
-  cut_now = (removed_of w r Group, (among_later _ a.removes.steps one (inl (λ i. Reclaim (a.removes.counts.same_number i) Group r (removed_of w r Group))), subst (IsCutAt bound) (sym (held_here w x r Group step)) left_cut))
+  cut_now = (
+    removed_of w r Group,
+    (
+      among_later _ a.removes.steps one (inl (λ i. Reclaim (a.removes.counts.same_number i) Group r (removed_of w r Group))),
+      subst (IsCutAt bound)
+          (sym (held_here w x r Group step)) left_cut,
+    ),
+  )
 
   pub held_more : CutsHeld bound v (rids ++ r ∷ []) (m + removed_of w r Group) x
   held_more = record {
@@ -56,5 +63,6 @@ module _ (bound : ℕ) (v w x : View) (rids : List Rid) (m : ℕ) (r : Rid) (a :
       events = ap (λ (u : View). u.events) step ∙ (ap (λ l. l ++ one) a.removes.events ∙ append_assoc v.events a.removes.steps one);
     };
     takes_none = let l = takes_on a.removes.steps one in omega (arith, l, a.takes_none);
-    cut = each_snoc (IsCutIn bound (number v) (a.removes.steps ++ one) x) rids r (each_keeps (IsCutIn bound (number v) a.removes.steps w) (IsCutIn bound (number v) (a.removes.steps ++ one) x) cut_still rids a.cut) cut_now;
+    cut = each_snoc (IsCutIn bound (number v) (a.removes.steps ++ one) x) rids r
+        (each_keeps (IsCutIn bound (number v) a.removes.steps w) (IsCutIn bound (number v) (a.removes.steps ++ one) x) cut_still rids a.cut) cut_now;
   }

@@ -29,7 +29,8 @@ each_both : (P Q S : Rid → Type 0) → ((r : Rid) → P r → Q r → S r) →
 each_both P Q S f [] a b = tt
 each_both P Q S f (r ∷ rids) a b = (f r a.0 b.0, each_both P Q S f rids a.1 b.1)
 
-module _ (buckets b bound gone : ℕ) (v x y w : View) (rids : List Rid) (own : HasPass v) (takes : Takes v b x) (owns : HasPass y) (c : CutsHeld bound x rids gone y) (left : w ≡ without_bucket y) (placed : AreIn buckets b rids) where
+module _ (buckets b bound gone : ℕ) (v x y w : View) (rids : List Rid) (own : HasPass v) (takes : Takes v b x) (owns : HasPass y) (c : CutsHeld bound x rids gone y)
+    (left : w ≡ without_bucket y) (placed : AreIn buckets b rids) where
   abbrev content : Content
   content = (bucket y).content
 
@@ -42,7 +43,8 @@ module _ (buckets b bound gone : ℕ) (v x y w : View) (rids : List Rid) (own : 
   behind : beyond y ≡ others v
   behind = c.removes.counts.rest ∙ ap (λ ps. after_first (after_first ps)) (parts_taken Group v x b own takes)
 
-  was_cut : (r : Rid) → bucket_of buckets r ≡ b → IsCutIn bound (number x) c.removes.steps y r → WasCut buckets (number v) (pass v).mark bound (closed_visit Group (pass v).mark b gone content ∷ []) c.removes.steps r
+  was_cut : (r : Rid) → bucket_of buckets r ≡ b → IsCutIn bound (number x) c.removes.steps y r →
+      WasCut buckets (number v) (pass v).mark bound (closed_visit Group (pass v).mark b gone content ∷ []) c.removes.steps r
   was_cut r at cut = record {
     gone = cut.0;
     step = subst (λ p. IsAmong (Reclaim p Group r cut.0) c.removes.steps) (number_taken Group v x b own takes) cut.1.0;
@@ -66,7 +68,8 @@ module _ (buckets b bound gone : ℕ) (v x y w : View) (rids : List Rid) (own : 
     };
     gone_is = sym c.removes.removed;
     takes_none = c.takes_none;
-    cut = each_both (λ r. bucket_of buckets r ≡ b) (IsCutIn bound (number x) c.removes.steps y) (WasCut buckets (number v) (pass v).mark bound (closed_visit Group (pass v).mark b gone content ∷ []) c.removes.steps) was_cut rids placed c.cut;
+    cut = each_both (λ r. bucket_of buckets r ≡ b) (IsCutIn bound (number x) c.removes.steps y)
+        (WasCut buckets (number v) (pass v).mark bound (closed_visit Group (pass v).mark b gone content ∷ []) c.removes.steps) was_cut rids placed c.cut;
   }
 
   -- no more went than was ever made
@@ -76,5 +79,6 @@ module _ (buckets b bound gone : ℕ) (v x y w : View) (rids : List Rid) (own : 
       let before = few Group z mark x room backed (own_taken Group v x b own takes) in
       let arrived : removed_all Group (pass x).visits ≡ removed_all Group (arriving b (pass v)).visits = ap (λ (p : PassPart). removed_all Group p.visits) (pass_taken Group v x b own takes) in
       let most = total_at z mark b x backed holds in
-      let all : removed_all Group (pass w).visits ≡ removed_all Group (closed_visit Group (pass v).mark b gone content ∷ (pass v).visits) = ap (removed_all Group) (visits_after Group v w cuts_run.on) in
+      let all : removed_all Group (pass w).visits ≡ removed_all Group (closed_visit Group (pass v).mark b gone content ∷ (pass v).visits) = ap (removed_all Group)
+      (visits_after Group v w cuts_run.on) in
       omega (arith, before, arrived, most, all, more_is Group gone, c.removes.counts.versions, room.begins)

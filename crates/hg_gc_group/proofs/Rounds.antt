@@ -14,7 +14,8 @@ use Rattle.hg_visit.proofs.Rounds.{reports}
 use Rattle.hg_gc_group.specs.Taking.{TakesAll}
 use Rattle.hg_gc_group.specs.Collectors.{Collects}
 
-pub collects : (z : Sizes) (v x w : View) (report : Report) (n : ℕ) → HasGathered v z.sessions x → TakesAll z.buckets (group_bound (record_of (pass x))) x report.removed w → IsReportBy Group (pass x) n report → Collects z v report w
+pub collects : (z : Sizes) (v x w : View) (report : Report) (n : ℕ) → HasGathered v z.sessions x → TakesAll z.buckets (group_bound (record_of (pass x))) x report.removed w →
+    IsReportBy Group (pass x) n report → Collects z v report w
 collects z v x w report n g t told =
     let r = reports Group v x w report (gather_events v x) (gather_gains v x z.sessions g) (gather_round v x z.sessions g) (gather_removes_none v x) t.some.on n told t.some.gone_is g.most in
     record { gathered = x; gathers = g; takes = t; steps = r.steps; events = r.events; round = r.round; report_is = r.report_is; most = r.most }

@@ -24,7 +24,7 @@
 #![tactic(auto)]
 
 mod collector;
-mod cutting;
-mod taking;
+mod cuts;
+mod intake;
 
 pub use collector::GroupCollector;

@@ -34,7 +34,8 @@ one_try p j n false loaded = refl
 tries_loaded : (p : ℕ) (es : List Entry) (outcomes : List Bool) (loaded : List (ℕ × Loaded)) → loaded_after loaded (tries_of p es outcomes) ≡ moved_by es outcomes loaded
 tries_loaded p [] outcomes loaded = refl
 tries_loaded p (e ∷ es) [] loaded = refl
-tries_loaded p (e ∷ es) (b ∷ outcomes) loaded = ap (λ l. loaded_after l (tries_of p es outcomes)) (one_try p e.session e.number b loaded) ∙ tries_loaded p es outcomes (if b then moved_in e.session loaded else loaded)
+tries_loaded p (e ∷ es) (b ∷ outcomes) loaded = ap (λ l. loaded_after l (tries_of p es outcomes)) (one_try p e.session e.number b loaded) ∙
+    tries_loaded p es outcomes (if b then moved_in e.session loaded else loaded)
 
 no_marks : (xs ys : List Event) → Each IsNoMark xs → Each IsNoMark ys → Each IsNoMark (xs ++ ys)
 no_marks [] ys a b = b
@@ -118,16 +119,19 @@ samples_move_none : (p : ℕ) (loaded : List (ℕ × Loaded)) → moves_in (samp
 samples_move_none p [] = refl
 samples_move_none p (e ∷ loaded) = moves_on (samples_of p loaded) (sample_of p e.0 e.1) ∙ (λ i. samples_move_none p loaded i ++ sample_moves_none p e.0 e.1.register e.1.mask i)
 
-sample_sampled : (p j : ℕ) (register : Register) (mask : Option ℕ) (loaded : List (ℕ × Loaded)) → sampled loaded (sample_of p j (record { register = register; mask = mask })) ≡ (j, record { register = register; mask = mask }) ∷ loaded
+sample_sampled : (p j : ℕ) (register : Register) (mask : Option ℕ) (loaded : List (ℕ × Loaded)) →
+    sampled loaded (sample_of p j (record { register = register; mask = mask })) ≡ (j, record { register = register; mask = mask }) ∷ loaded
 sample_sampled p j register None loaded = refl
 sample_sampled p j register (Some mask) loaded = mask_joins j mask register loaded
 
 samples_sampled : (p : ℕ) (loaded : List (ℕ × Loaded)) → sampled [] (samples_of p loaded) ≡ loaded
 samples_sampled p [] = refl
-samples_sampled p (e ∷ loaded) = sampled_on [] (samples_of p loaded) (sample_of p e.0 e.1) ∙ (ap (λ l. sampled l (sample_of p e.0 e.1)) (samples_sampled p loaded) ∙ sample_sampled p e.0 e.1.register e.1.mask loaded)
+samples_sampled p (e ∷ loaded) = sampled_on [] (samples_of p loaded) (sample_of p e.0 e.1) ∙
+    (ap (λ l. sampled l (sample_of p e.0 e.1)) (samples_sampled p loaded) ∙ sample_sampled p e.0 e.1.register e.1.mask loaded)
 
 -- a gather, tries of what it found long in use, and work
-pub tries_long : (long p q mark : ℕ) (loaded : List (ℕ × Loaded)) (outcomes : List Bool) (work : List Event) → Each IsWork work → length outcomes ≡ length (filter (is_long mark long) (entries_of loaded))
+pub tries_long : (long p q mark : ℕ) (loaded : List (ℕ × Loaded)) (outcomes : List Bool) (work : List Event) → Each IsWork work →
+    length outcomes ≡ length (filter (is_long mark long) (entries_of loaded))
     → TriesLong long (((Mark p mark ∷ samples_of p loaded) ++ tries_of q (filter (is_long mark long) (entries_of loaded)) outcomes) ++ work)
 tries_long long p q mark loaded outcomes work w many =
     let es = filter (is_long mark long) (entries_of loaded) in

@@ -5,7 +5,7 @@ ghost use Rattle.hg_rule.specs.Seats.{BoardId, board_id, sizes_of, IsPassOf};
 ghost use Rattle.hg_store.specs.Stores.{store_board_id, store_buckets};
 ghost use Rattle.hg_tracker.specs.Boards.{trackers_board_id, board_sizes};
 
-use crate::visiting::visit_all;
+use crate::visits::visit_all;
 use hg_base::{Kind, NoMemory, Report};
 use hg_rule::CollectorPass;
 use hg_store::Store;

@@ -19,6 +19,6 @@
 #![tactic(auto)]
 
 mod collector;
-mod visiting;
+mod visits;
 
 pub use collector::TableCollector;

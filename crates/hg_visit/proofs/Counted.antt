@@ -64,7 +64,8 @@ firsts_all n buckets (Over ∷ log) = firsts_all n buckets log
 all_in : (kind : Kind) (n : ℕ) (visits : List Visit) → Each (λ (v : Visit). v.bucket < n) visits → sum_below n (λ b. removed_in kind b visits) ≡ removed_all kind visits
 all_in kind n [] e = below_none n
 all_in kind n (v ∷ visits) e =
-    let grown = below_grown n v.bucket (removed_by kind v.removed) (λ b. removed_in kind b visits) (λ b. removed_in kind b (v ∷ visits)) e.0 (λ k other. apart k (v.bucket == k) refl other) (here (v.bucket == v.bucket) refl) in
+    let grown = below_grown n v.bucket (removed_by kind v.removed) (λ b. removed_in kind b visits) (λ b. removed_in kind b (v ∷ visits)) e.0
+    (λ k other. apart k (v.bucket == k) refl other) (here (v.bucket == v.bucket) refl) in
     omega (arith, grown, all_in kind n visits e.1)
   where
     apart : (k : ℕ) (b : Bool) → (v.bucket == k) ≡ b → (k ≡ v.bucket → ⊥) → (if b then removed_by kind v.removed else 0) + removed_in kind k visits ≡ removed_in kind k visits
@@ -92,7 +93,8 @@ module _ (kind : Kind) (s : CoreState) (h : IsSteady s) where
       let logs = λ (b : ℕ). sum_to s.sessions (λ j. first_writes (is_of s.buckets b) (s.log j)) in
       let same = below_least s.buckets (λ b. (s.counters b).made) logs (λ b. omega (arith, h.counters_balance.made b)) in
       let swap = sums_swap s.buckets s.sessions (λ b j. first_writes (is_of s.buckets b) (s.log j)) in
-      let most = sum_most s.sessions s.quota (λ j. sum_below s.buckets (λ b. first_writes (is_of s.buckets b) (s.log j))) (λ j. omega (arith, firsts_all s.buckets s.buckets (s.log j), h.logs_answer.written j)) in
+      let most = sum_most s.sessions s.quota (λ j. sum_below s.buckets (λ b. first_writes (is_of s.buckets b) (s.log j)))
+      (λ j. omega (arith, firsts_all s.buckets s.buckets (s.log j), h.logs_answer.written j)) in
       omega (arith, same, swap, most)
 
   pub few_removed : (p : ℕ) → removed_all kind (s.visits p) ≤ s.sessions * s.quota

@@ -67,7 +67,8 @@ removed_for kind k [] h = go (same_kind kind k)
     go false = refl
 removed_for kind k (v ∷ visits) h = go (same_kind kind k) (ap (removed_by k) h.0 ∙ by_more kind k (removed_by kind v.removed)) (removed_for kind k visits h.1)
   where
-    go : (t : Bool) → removed_by k v.removed ≡ (if t then removed_by kind v.removed else 0) → removed_all k visits ≡ (if t then removed_all kind visits else 0) → removed_all k (v ∷ visits) ≡ (if t then removed_all kind (v ∷ visits) else 0)
+    go : (t : Bool) → removed_by k v.removed ≡ (if t then removed_by kind v.removed else 0) → removed_all k visits ≡ (if t then removed_all kind visits else 0) →
+        removed_all k (v ∷ visits) ≡ (if t then removed_all kind (v ∷ visits) else 0)
     go true a b = omega (arith, a, b)
     go false a b = omega (arith, a, b)
 

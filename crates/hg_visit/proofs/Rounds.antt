@@ -14,7 +14,8 @@ use Rattle.hg_visit.specs.Visits.{GoesOn}
 use Rattle.hg_visit.specs.Reports.{IsReportBy, Reports}
 use Rattle.hg_visit.proofs.Going.{same_pass}
 
-module _ (kind : Kind) (v x w : View) (report : Report) (before : List Event) (gains : x.events ≡ v.events ++ before) (first : IsRoundOf (number v) (pass x) before) (none : gone_in before ≡ 0) (on : GoesOn kind x w) where
+module _ (kind : Kind) (v x w : View) (report : Report) (before : List Event) (gains : x.events ≡ v.events ++ before) (first : IsRoundOf (number v) (pass x) before)
+    (none : gone_in before ≡ 0) (on : GoesOn kind x w) where
   abbrev steps : List Event
   steps = before ++ on.steps
 
@@ -46,6 +47,7 @@ module _ (kind : Kind) (v x w : View) (report : Report) (before : List Event) (g
       }
 
   -- its steps are those before the visits, and those of the visits
-  pub reports_steps : (n : ℕ) (r : IsReportBy kind (pass x) n report) (gone : report.removed ≡ gone_in on.steps) (most : Each (AtMost (pass x).mark) v.sights) → (reports n r gone most).steps ≡ before ++ on.steps
+  pub reports_steps : (n : ℕ) (r : IsReportBy kind (pass x) n report) (gone : report.removed ≡ gone_in on.steps) (most : Each (AtMost (pass x).mark) v.sights) →
+      (reports n r gone most).steps ≡ before ++ on.steps
   unfolding reports
   reports_steps n r gone most = λ i. before ++ on.steps

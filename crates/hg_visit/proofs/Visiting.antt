@@ -110,7 +110,8 @@ module _ (kind : Kind) (v x : View) (b : ℕ) (own : HasPass v) (takes : Takes v
           let before = few kind z mark x room backed own_taken in
           let arrived : removed_all kind (pass x).visits ≡ removed_all kind (arriving b (pass v)).visits = ap (λ (p : PassPart). removed_all kind p.visits) pass_taken in
           let most = total_at z mark b x backed holds in
-          let all : removed_all kind (pass w).visits ≡ removed_all kind (closed_visit kind (pass v).mark b gone content ∷ (pass v).visits) = ap (removed_all kind) (visits_after kind v w visit_is.on) in
+          let all : removed_all kind (pass w).visits ≡ removed_all kind (closed_visit kind (pass v).mark b gone content ∷ (pass v).visits) = ap (removed_all kind)
+          (visits_after kind v w visit_is.on) in
           omega (arith, before, arrived, most, all, more_is kind gone, c.removes.counts.versions, room.begins)
 
 -- ---- one visit after the other

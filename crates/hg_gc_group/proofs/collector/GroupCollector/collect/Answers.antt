@@ -33,7 +33,8 @@ returns-clause-collects g c =
     let x = pass_view c.gather.new.pass in
     let w = pass_view c.take_groups-removed.new.self.pass in
     let shown = c.gather.ensures.shown in
-    let there = subst (λ (u : View). TakesAll (sizes_of c.board-board.result.now).buckets c.least-bound.result u c.take_groups-removed.result w) c.look_at.ensures.stays c.take_groups-removed.ensures.takes in
+    let there = subst (λ (u : View). TakesAll (sizes_of c.board-board.result.now).buckets c.least-bound.result u c.take_groups-removed.result w) c.look_at.ensures.stays
+    c.take_groups-removed.ensures.takes in
     let at = subst (λ n. TakesAll (sizes_of c.board-board.result.now).buckets n x c.take_groups-removed.result w) (c.least-bound.ensures _ _ shown) there in
     let takes = subst (λ (b : Board). TakesAll (sizes_of b).buckets (group_bound (record_of (pass x))) x c.take_groups-removed.result w) c.board-board.ensures at in
     let report = c.rewrite.ensures.reports _ _ (subst (IsGatherOf (board_sizes c.args.trackers.now).sessions (pass x)) (sym c.take_groups-removed.ensures.same.0) shown) in

@@ -28,7 +28,8 @@ returns-clause-cuts g c =
     let gathers = c.gather.ensures.gathered in
     let moves = c.move_long.ensures.moved in
     let report = c.rewrite.ensures.reports _ _ shown in
-    let visits = subst (λ n. VisitsAll Table (IsCutBy (record_of (pass y))) z.buckets n y w) (sym report.removed_is) (subst (λ n. VisitsAll Table (IsCutBy (record_of (pass y))) n c.visit_all-removed.result y w) c.requires.buckets c.visit_all-removed.ensures.visits) in
+    let visits = subst (λ n. VisitsAll Table (IsCutBy (record_of (pass y))) z.buckets n y w) (sym report.removed_is)
+    (subst (λ n. VisitsAll Table (IsCutBy (record_of (pass y))) n c.visit_all-removed.result y w) c.requires.buckets c.visit_all-removed.ensures.visits) in
     let most = subst (λ m. Each (AtMost m) v.sights) (sym (moving_mark v x y z.sessions _ _ gathers moves)) gathers.most in
     let stays : pass_view c.look_at.new.pass ≡ w = c.look_at.ensures.stays in
     subst (Cuts z c.args.long v c.rewrite.new.report) (sym stays) record {
@@ -39,6 +40,9 @@ returns-clause-cuts g c =
       moves = moves;
       loaded = shown.loaded;
       visits = visits;
-      reports = reports Table v y w _ (moving_events v x y z.sessions _ _ gathers moves) (moving_gains v x y z.sessions _ _ gathers moves) (moving_round v x y z.sessions _ _ gathers moves) (moving_removes_none v x y z.sessions _ _ gathers moves) visits.on c.visit_all-removed.result report visits.gone_is most;
-      tries = subst (TriesLong c.args.long) (sym (reports_steps Table v y w _ (moving_events v x y z.sessions _ _ gathers moves) (moving_gains v x y z.sessions _ _ gathers moves) (moving_round v x y z.sessions _ _ gathers moves) (moving_removes_none v x y z.sessions _ _ gathers moves) visits.on c.visit_all-removed.result report visits.gone_is most)) (tries_long c.args.long (number v) (number x) (pass x).mark (pass x).loaded moves.outcomes visits.on.steps visits.on.work moves.each);
+      reports = reports Table v y w _ (moving_events v x y z.sessions _ _ gathers moves) (moving_gains v x y z.sessions _ _ gathers moves)
+          (moving_round v x y z.sessions _ _ gathers moves) (moving_removes_none v x y z.sessions _ _ gathers moves) visits.on c.visit_all-removed.result report visits.gone_is most;
+      tries = subst (TriesLong c.args.long) (sym (reports_steps Table v y w _ (moving_events v x y z.sessions _ _ gathers moves) (moving_gains v x y z.sessions _ _ gathers moves)
+          (moving_round v x y z.sessions _ _ gathers moves) (moving_removes_none v x y z.sessions _ _ gathers moves) visits.on c.visit_all-removed.result report visits.gone_is
+          most)) (tries_long c.args.long (number v) (number x) (pass x).mark (pass x).loaded moves.outcomes visits.on.steps visits.on.work moves.each);
     }

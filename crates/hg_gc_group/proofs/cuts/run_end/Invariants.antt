@@ -2,7 +2,7 @@ use Rattle.std.specs.Prelude.{◌-◌, ◌<◌, ◌≤◌, length}
 use Rattle.std.specs.List.{between}
 use Rattle.hg_store.specs.Stores.{store_buckets}
 use Rattle.hg_gc_group.specs.Cutting.{AreIn}
-use Rattle.hg_gc_group.proofs.cutting.run_end.Given as goal
+use Rattle.hg_gc_group.proofs.cuts.run_end.Given as goal
 
 -- the records so far are in the bucket
 abbrev pub invariant-loop-next : goal.invariant-loop-next

@@ -5,14 +5,20 @@ use Rattle.hg_rule.specs.Seats.{sizes_of, pass_view}
 use Rattle.hg_gc_group.specs.Cutting.{CutsAll}
 use Rattle.hg_gc_group.proofs.Going.{cuts_none, cuts_more, run_more}
 use Rattle.hg_gc_group.proofs.Groups.{cut_few}
-use Rattle.hg_gc_group.proofs.cutting.cut_all.Given as given
-use Rattle.hg_gc_group.proofs.cutting.cut_all.Goals as goal
+use Rattle.hg_gc_group.proofs.cuts.cut_all.Given as given
+use Rattle.hg_gc_group.proofs.cuts.cut_all.Goals as goal
 
 pub loop-done-init : goal.loop-done-init
-loop-done-init g c = record { cuts = cuts_none (sizes_of c.args.board.now).buckets c.args.bound (pass_view c.args.pass.now) c.requires.own.1; within = omega arith; few = c.requires.few; own = c.requires.own }
+loop-done-init g c = record {
+  cuts = cuts_none (sizes_of c.args.board.now).buckets c.args.bound (pass_view c.args.pass.now) c.requires.own.1;
+  within = omega arith;
+  few = c.requires.few;
+  own = c.requires.own;
+}
 
 -- one run more
-more : (g : given.Over) (c : goal.After-cut_run-gone g) → CutsAll (sizes_of c.args.board.now).buckets c.args.bound (pass_view c.args.pass.now) (take c.run_end-next.result c.args.rids.now) (c.loop-done.gone + c.cut_run-gone.result) (pass_view c.cut_run-gone.new.pass)
+more : (g : given.Over) (c : goal.After-cut_run-gone g) → CutsAll (sizes_of c.args.board.now).buckets c.args.bound (pass_view c.args.pass.now)
+    (take c.run_end-next.result c.args.rids.now) (c.loop-done.gone + c.cut_run-gone.result) (pass_view c.cut_run-gone.new.pass)
 more g c =
     let z = (sizes_of c.args.board.now).buckets in
     let v = pass_view c.args.pass.now in
@@ -25,7 +31,8 @@ more g c =
     (cuts_more z c.args.bound v (pass_view c.loop-done.pass) w (take done rids) (between done next rids) c.loop-done.gone c.cut_run-gone.result c.loop-done.invariant.cuts c.cut_run-gone.ensures.cuts)
 
 pub overflow_add-gone : goal.overflow_add-gone
-overflow_add-gone g c = let few = cut_few (sizes_of c.args.board.now).buckets c.args.bound (pass_view c.args.pass.now) (pass_view c.cut_run-gone.new.pass) _ (c.loop-done.gone + c.cut_run-gone.result) (more g c) c.cut_run-gone.ensures.few in omega (arith, few)
+overflow_add-gone g c = let few = cut_few (sizes_of c.args.board.now).buckets c.args.bound (pass_view c.args.pass.now) (pass_view c.cut_run-gone.new.pass) _
+    (c.loop-done.gone + c.cut_run-gone.result) (more g c) c.cut_run-gone.ensures.few in omega (arith, few)
 
 pub loop-done-preserved : goal.loop-done-preserved
 loop-done-preserved g c = record { cuts = more g c; within = c.run_end-next.ensures.some.1; few = c.cut_run-gone.ensures.few; own = c.cut_run-gone.ensures.own }
@@ -34,4 +41,5 @@ pub returns-clause-cuts : goal.returns-clause-cuts
 returns-clause-cuts g c =
     let rids = c.args.rids.now in
     let end : c.loop-done.done ≡ length rids = omega (arith, c.loop-done.invariant.within, c.loop-done-test.false) in
-    subst (λ l. CutsAll (sizes_of c.args.board.now).buckets c.args.bound (pass_view c.args.pass.now) l c.loop-done.gone (pass_view c.loop-done.pass)) (ap (λ n. take n rids) end ∙ take_all rids) c.loop-done.invariant.cuts
+    subst (λ l. CutsAll (sizes_of c.args.board.now).buckets c.args.bound (pass_view c.args.pass.now) l c.loop-done.gone (pass_view c.loop-done.pass)) (ap (λ n. take n rids) end ∙
+    take_all rids) c.loop-done.invariant.cuts

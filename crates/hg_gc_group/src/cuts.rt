@@ -1,4 +1,4 @@
-//! Records are cut at the bound of the pass's record, bucket by bucket.
+//! Cuts of records at the bound of the pass's record, bucket by bucket.
 
 ghost use Rattle.std.specs.Prelude.{◌≡◌, ℕ, ◌<◌, ◌≤◌, ◌^◌, [], length};
 ghost use Rattle.std.specs.List.{between};

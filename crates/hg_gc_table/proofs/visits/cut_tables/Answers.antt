@@ -12,7 +12,7 @@ use Rattle.hg_visit.specs.Tables.{ClearsTables}
 use Rattle.hg_visit.proofs.Tables.{record_still, tables_more}
 use Rattle.hg_visit.proofs.Snapshots.{whole_record}
 use Rattle.hg_gc_table.specs.Cutting.{IsCutBy}
-use Rattle.hg_gc_table.proofs.visiting.cut_tables.Goals as goal
+use Rattle.hg_gc_table.proofs.visits.cut_tables.Goals as goal
 
 abbrev at : TableId → ℕ → Rid
 at t k = record { table = t; key = k }
@@ -41,7 +41,8 @@ loop-number-preserved c =
     let low = c.bound-bound.ensures _ _ c.requires.shown in
     let left : (k : ℕ) → Q (at t k) (held x (at t k)) = λ k. subst (λ b. IsCutAt b (held x (at t k))) low (c.cut_table-gone.ensures.cut k) in
     let next : suc n ≡ n + 1 = omega arith in
-    let more : ClearsTables Table Q (suc n) (c.loop-number.gone + c.cut_table-gone.result) v x = tables_more Table Q v w x n c.loop-number.gone c.cut_table-gone.result t (omega arith) c.loop-number.invariant.0 c.cut_table-gone.ensures.steps c.cut_table-gone.ensures.gone left c.cut_table-gone.ensures.left.1 in (
+    let more : ClearsTables Table Q (suc n) (c.loop-number.gone + c.cut_table-gone.result) v x = tables_more Table Q v w x n c.loop-number.gone c.cut_table-gone.result t
+    (omega arith) c.loop-number.invariant.0 c.cut_table-gone.ensures.steps c.cut_table-gone.ensures.gone left c.cut_table-gone.ensures.left.1 in (
       subst (λ k. ClearsTables Table Q k (c.loop-number.gone + c.cut_table-gone.result) v x) next more,
       c.cut_table-gone.ensures.holds.0.1,
       c.cut_table-gone.ensures.holds.0.0,

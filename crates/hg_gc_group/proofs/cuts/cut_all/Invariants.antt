@@ -4,7 +4,7 @@ use Rattle.hg_rule.specs.Views.{pass as own_pass}
 use Rattle.hg_rule.specs.Seats.{board_id, sizes_of, pass_view, IsPassOf}
 use Rattle.hg_core.specs.Counters.{removed_all}
 use Rattle.hg_gc_group.specs.Cutting.{CutsAll}
-use Rattle.hg_gc_group.proofs.cutting.cut_all.Given as goal
+use Rattle.hg_gc_group.proofs.cuts.cut_all.Given as goal
 
 abbrev pub invariant-loop-done : goal.invariant-loop-done
 invariant-loop-done g l = record {

@@ -1,4 +1,4 @@
-//! A bucket is taken, its tables are cut, and it is given back.
+//! Visits of buckets: each is taken, its tables are cut, and it is given back.
 
 ghost use Rattle.std.specs.Prelude.{◌≡◌, ◌<◌, ◌≤◌, ◌^◌};
 ghost use Rattle.hg_base.specs.declared.report.Kind.TheVariants.{Table};

@@ -9,14 +9,15 @@ use Rattle.hg_visit.specs.Visits.{Visits, VisitsAll}
 use Rattle.hg_visit.proofs.Going.{same_pass}
 use Rattle.hg_visit.proofs.Visiting.{visits_none, visits_more, visits_few}
 use Rattle.hg_gc_table.specs.Cutting.{IsCutBy}
-use Rattle.hg_gc_table.proofs.visiting.visit_all.Given as given
-use Rattle.hg_gc_table.proofs.visiting.visit_all.Goals as goal
+use Rattle.hg_gc_table.proofs.visits.visit_all.Given as given
+use Rattle.hg_gc_table.proofs.visits.visit_all.Goals as goal
 
 pub loop-b-init : goal.loop-b-init
 loop-b-init g c = let v = pass_view c.args.pass.now in (visits_none Table (IsCutBy (record_of (pass v))) v c.requires.own.1, c.requires.own, c.requires.shown)
 
 -- a bucket more
-more : (g : given.Over) (c : goal.After-visit_bucket-gone g) → VisitsAll Table (IsCutBy (record_of (pass (pass_view c.args.pass.now)))) (c.loop-b.b + 1) (c.loop-b.gone + c.visit_bucket-gone.result) (pass_view c.args.pass.now) (pass_view c.visit_bucket-gone.new.pass)
+more : (g : given.Over) (c : goal.After-visit_bucket-gone g) → VisitsAll Table (IsCutBy (record_of (pass (pass_view c.args.pass.now)))) (c.loop-b.b + 1)
+    (c.loop-b.gone + c.visit_bucket-gone.result) (pass_view c.args.pass.now) (pass_view c.visit_bucket-gone.new.pass)
 more g c =
     let v = pass_view c.args.pass.now in
     let w = pass_view c.loop-b.pass in
@@ -32,7 +33,8 @@ more g c =
 pub overflow_add-gone : goal.overflow_add-gone
 overflow_add-gone g c =
     let v = pass_view c.args.pass.now in
-    let few = visits_few Table (IsCutBy (record_of (pass v))) (c.loop-b.b + 1) (c.loop-b.gone + c.visit_bucket-gone.result) v (pass_view c.visit_bucket-gone.new.pass) (more g c) c.visit_bucket-gone.ensures.few in
+    let few = visits_few Table (IsCutBy (record_of (pass v))) (c.loop-b.b + 1) (c.loop-b.gone + c.visit_bucket-gone.result) v (pass_view c.visit_bucket-gone.new.pass)
+    (more g c) c.visit_bucket-gone.ensures.few in
     omega (arith, few)
 
 pub loop-b-preserved : goal.loop-b-preserved

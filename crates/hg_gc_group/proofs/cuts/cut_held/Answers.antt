@@ -5,7 +5,7 @@ use Rattle.hg_group.proofs.Stamped.{take_all}
 use Rattle.hg_rule.specs.Seats.{pass_view}
 use Rattle.hg_gc_group.specs.Cutting.{CutsHeld}
 use Rattle.hg_gc_group.proofs.Held.{held_none, held_more}
-use Rattle.hg_gc_group.proofs.cutting.cut_held.Goals as goal
+use Rattle.hg_gc_group.proofs.cuts.cut_held.Goals as goal
 
 abbrev first : Rid
 first = record { table = record { 0 = 0 }; key = 0 }
@@ -14,7 +14,8 @@ pub loop-rid-init : goal.loop-rid-init
 loop-rid-init c = record { cuts = held_none c.args.bound (pass_view c.args.pass.now); holds = c.requires.holds; held = (refl, refl); own = c.requires.own }
 
 -- one record more
-more : (c : goal.After-cut_record-gone) → CutsHeld c.args.bound (pass_view c.args.pass.now) (take (c.loop-rid.rid-index + 1) c.args.rids.now) (c.loop-rid.gone + c.cut_record-gone.result) (pass_view c.cut_record-gone.new.pass)
+more : (c : goal.After-cut_record-gone) → CutsHeld c.args.bound (pass_view c.args.pass.now) (take (c.loop-rid.rid-index + 1) c.args.rids.now)
+    (c.loop-rid.gone + c.cut_record-gone.result) (pass_view c.cut_record-gone.new.pass)
 more c =
     let v = pass_view c.args.pass.now in
     let x = pass_view c.cut_record-gone.new.pass in

@@ -1,4 +1,4 @@
-//! Groups are taken up to a bound, oldest first.
+//! The intake of groups: they are taken up to a bound, oldest first.
 
 ghost use Rattle.std.specs.Prelude.{◌≡◌, ◌<◌, ◌≤◌, ◌^◌};
 ghost use Rattle.hg_base.specs.declared.report.Kind.TheVariants.{Group};
@@ -6,7 +6,7 @@ ghost use Rattle.hg_core.specs.Passes.{IsWhole, group_bound};
 ghost use Rattle.hg_core.specs.Counters.{removed_all};
 
 use crate::collector::GroupCollector;
-use crate::cutting::{cut_all, cut_batch};
+use crate::cuts::{cut_all, cut_batch};
 use hg_group::GroupList;
 use hg_rule::Board;
 use hg_store::Store;

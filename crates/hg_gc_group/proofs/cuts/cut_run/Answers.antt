@@ -8,8 +8,8 @@ use Rattle.hg_store.proofs.Holding.{total_at}
 use Rattle.hg_gc_group.specs.Cutting.{AreIn}
 use Rattle.hg_gc_group.proofs.Going.{first_of}
 use Rattle.hg_gc_group.proofs.One.{cuts_run, run_few}
-use Rattle.hg_gc_group.proofs.cutting.cut_run.Given as given
-use Rattle.hg_gc_group.proofs.cutting.cut_run.Goals as goal
+use Rattle.hg_gc_group.proofs.cuts.cut_run.Given as given
+use Rattle.hg_gc_group.proofs.cuts.cut_run.Goals as goal
 
 abbrev first : Rid
 first = record { table = record { 0 = 0 }; key = 0 }
@@ -31,13 +31,15 @@ placed g c =
 
 pub returns-clause-cuts : goal.returns-clause-cuts
 returns-clause-cuts g c =
-    cuts_run (sizes_of c.args.board.now).buckets c.bucket_of.result c.args.bound c.cut_held-gone.result (pass_view c.args.pass.now) (pass_view c.take-held.new.pass) (pass_view c.cut_held-gone.new.pass) (pass_view c.give.new.pass) c.args.rids.now
+    cuts_run (sizes_of c.args.board.now).buckets c.bucket_of.result c.args.bound c.cut_held-gone.result (pass_view c.args.pass.now) (pass_view c.take-held.new.pass)
+    (pass_view c.cut_held-gone.new.pass) (pass_view c.give.new.pass) c.args.rids.now
     c.requires.own.1 c.take-held.ensures.view c.cut_held-gone.ensures.own.1 c.cut_held-gone.ensures.cuts c.give.ensures.view (placed g c)
 
 pub returns-clause-few : goal.returns-clause-few
 returns-clause-few g c =
     let x = pass_view c.take-held.new.pass in
     let t = c.take-held.ensures.backed in
-    run_few (sizes_of c.args.board.now).buckets c.bucket_of.result c.args.bound c.cut_held-gone.result (pass_view c.args.pass.now) x (pass_view c.cut_held-gone.new.pass) (pass_view c.give.new.pass) c.args.rids.now
+    run_few (sizes_of c.args.board.now).buckets c.bucket_of.result c.args.bound c.cut_held-gone.result (pass_view c.args.pass.now) x (pass_view c.cut_held-gone.new.pass)
+    (pass_view c.give.new.pass) c.args.rids.now
     c.requires.own.1 c.take-held.ensures.view c.cut_held-gone.ensures.own.1 c.cut_held-gone.ensures.cuts c.give.ensures.view (placed g c)
     (sizes_of c.args.board.now) t.0 t.1 c.args.board.now.room (subst (λ n. HoldsBucket n x) c.take-held.ensures.held.1 c.take-held.ensures.holds.has)

@@ -2,7 +2,7 @@ use Rattle.std.specs.Prelude.{◌≡◌, take}
 use Rattle.hg_rule.specs.Seats.{board_id, pass_view, IsPassOf}
 use Rattle.hg_store.specs.Stores.{held_board_id, held_number, Holds}
 use Rattle.hg_gc_group.specs.Cutting.{CutsHeld}
-use Rattle.hg_gc_group.proofs.cutting.cut_held.Given as goal
+use Rattle.hg_gc_group.proofs.cuts.cut_held.Given as goal
 
 abbrev pub invariant-loop-rid : goal.invariant-loop-rid
 invariant-loop-rid l = record {
