@@ -13,7 +13,8 @@ use Rattle.hg_collectors.proofs.Driving.{lone_rounds}
 use Rattle.hg_collectors.proofs.Teams.{worker_pass}
 
 -- collectors that made rounds have their passes alone
-pub collectors_made : (t : BoardId) (z : Sizes) (long rounds : ℕ) (old new : Collectors) (told : RoundLists) → AreCollectorsOf t z old → groups.IsCollectorOf t z new.group → tables.IsCollectorOf t z new.table → intervals.IsCollectorOf t z new.interval → HaveMadeAll z long rounds old told new → AreCollectorsOf t z new
+pub collectors_made : (t : BoardId) (z : Sizes) (long rounds : ℕ) (old new : Collectors) (told : RoundLists) → AreCollectorsOf t z old → groups.IsCollectorOf t z new.group →
+    tables.IsCollectorOf t z new.table → intervals.IsCollectorOf t z new.interval → HaveMadeAll z long rounds old told new → AreCollectorsOf t z new
 collectors_made t z long rounds old new told own group table interval made = record {
   group_is = group;
   table_is = table;
@@ -21,6 +22,7 @@ collectors_made t z long rounds old new told own group table interval made = rec
   alone = record {
     group = lone_rounds t 0 Group z long (made Group).sweeps (groups.pass_of old.group) (groups.pass_of new.group) own.alone.group group.0 (made Group).made;
     table = lone_rounds t 1 Table z long (made Table).sweeps (tables.pass_of old.table) (tables.pass_of new.table) own.alone.table table.0 (made Table).made;
-    interval = lone_rounds t 2 Interval z long (made Interval).sweeps (intervals.pass_of old.interval) (intervals.pass_of new.interval) own.alone.interval (worker_pass t z new.interval interval) (made Interval).made;
+    interval = lone_rounds t 2 Interval z long (made Interval).sweeps (intervals.pass_of old.interval) (intervals.pass_of new.interval) own.alone.interval
+        (worker_pass t z new.interval interval) (made Interval).made;
   };
 }

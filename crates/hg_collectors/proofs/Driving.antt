@@ -55,7 +55,8 @@ module _ (P : View → Sweep → View → Type 0) where
   one_round v w sweep p = (v, (met_none v, (w, (p, met_none w))))
 
 -- a pass with its own part alone keeps it over rounds, with its share
-pub lone_rounds : (t : BoardId) (p : ℕ) (kind : Kind) (z : Sizes) (long : ℕ) (sweeps : List Sweep) (c d : CollectorPass) → IsLone t p c → IsPassOf t d → AreRounds (IsRoundBy kind z long) (pass_view c) sweeps (pass_view d) → IsLone t p d
+pub lone_rounds : (t : BoardId) (p : ℕ) (kind : Kind) (z : Sizes) (long : ℕ) (sweeps : List Sweep) (c d : CollectorPass) → IsLone t p c → IsPassOf t d →
+    AreRounds (IsRoundBy kind z long) (pass_view c) sweeps (pass_view d) → IsLone t p d
 lone_rounds t p kind z long sweeps c d h own rounds = let k = go (pass_view c) (pass_view d) sweeps rounds h.only in record { own = own; only = k.0; share = k.1 ∙ h.share }
   where
     after_met : (v w : View) → HasMetSessions v w → v.parts ≡ OfPass p (pass v) ∷ [] → (w.parts ≡ OfPass p (pass w) ∷ []) × ((pass w).share ≡ (pass v).share)
@@ -76,7 +77,8 @@ lone_rounds t p kind z long sweeps c d h own rounds = let k = go (pass_view c) (
         (last.0, last.1 ∙ (then.1 ∙ first.1))
 
 -- what rounds removed is what they tell
-pub removed_rounds : (k kind : Kind) (z : Sizes) (long : ℕ) (v w : View) (sweeps : List Sweep) → AreRounds (IsRoundBy kind z long) v sweeps w → removed_all k (pass w).visits ≡ removed_all k (pass v).visits + sum_by (swept_by k) sweeps
+pub removed_rounds : (k kind : Kind) (z : Sizes) (long : ℕ) (v w : View) (sweeps : List Sweep) → AreRounds (IsRoundBy kind z long) v sweeps w →
+    removed_all k (pass w).visits ≡ removed_all k (pass v).visits + sum_by (swept_by k) sweeps
 removed_rounds k kind z long v w [] m =
     let none : sum_by (swept_by k) [] ≡ 0 = refl in
     let same : removed_all k (pass w).visits ≡ removed_all k (pass v).visits = ap (λ (ps : List Part). removed_all k (pass_there (first_in ps)).visits) m.parts in
@@ -102,7 +104,8 @@ kinds_apart Interval Table = inr ((λ e. let z : Table ≡ Interval = e in cc), 
 kinds_apart Interval Interval = inl (refl, refl)
 
 -- one of them made a round between meetings of its pass
-pub made_one : (z : Sizes) (long : ℕ) (kind : Kind) (a b c d : Collectors) (sweep : Sweep) → sweep.kind ≡ kind → ((k : Kind) → HasMetSessions (view_in k a) (view_in k b)) → IsRoundBy kind z long (view_in kind b) sweep (view_in kind c) → ((k : Kind) → k ≢ kind → view_in k c ≡ view_in k b)
+pub made_one : (z : Sizes) (long : ℕ) (kind : Kind) (a b c d : Collectors) (sweep : Sweep) → sweep.kind ≡ kind → ((k : Kind) → HasMetSessions (view_in k a) (view_in k b)) →
+    IsRoundBy kind z long (view_in kind b) sweep (view_in kind c) → ((k : Kind) → k ≢ kind → view_in k c ≡ view_in k b)
     → ((k : Kind) → HasMetSessions (view_in k c) (view_in k d)) → HaveMade z long a (λ k. sweeps_in k (reply_of sweep)) d
 made_one z long kind a b c d sweep is first round others last k = go (kinds_apart kind k)
   where
@@ -120,7 +123,8 @@ made_one z long kind a b c d sweep is first round others last k = go (kinds_apar
 
 -- none did
 pub made_none : (z : Sizes) (long : ℕ) (c : Collectors) (reply : Reply) → report_of reply ≡ None → HaveMade z long c (λ k. sweeps_in k reply) c
-made_none z long c reply none k = subst (λ o. AreRounds (IsRoundBy k z long) (view_in k c) (filter (λ sweep. same_kind sweep.kind k) (cons_option o [])) (view_in k c)) (sym none) (met_none (view_in k c))
+made_none z long c reply none k = subst (λ o. AreRounds (IsRoundBy k z long) (view_in k c) (filter (λ sweep. same_kind sweep.kind k) (cons_option o [])) (view_in k c)) (sym none)
+    (met_none (view_in k c))
 
 pub made_first : (z : Sizes) (long : ℕ) (c : Collectors) → HaveMade z long c (λ k. sweeps_of k []) c
 made_first z long c k = met_none (view_in k c)
@@ -136,9 +140,11 @@ told_append k xs ys = ap (filter test) (filter_map-append report xs ys) ∙ filt
     report l = report_of l.reply
 
 -- one line more
-pub made_more : (z : Sizes) (long : ℕ) (a b c : Collectors) (lines : List Line) (line : Line) → HaveMade z long a (λ k. sweeps_of k lines) b → HaveMade z long b (λ k. sweeps_in k line.reply) c → HaveMade z long a (λ k. sweeps_of k (lines ++ line ∷ [])) c
+pub made_more : (z : Sizes) (long : ℕ) (a b c : Collectors) (lines : List Line) (line : Line) → HaveMade z long a (λ k. sweeps_of k lines) b →
+    HaveMade z long b (λ k. sweeps_in k line.reply) c → HaveMade z long a (λ k. sweeps_of k (lines ++ line ∷ [])) c
 made_more z long a b c lines line before now k =
-    subst (λ sweeps. AreRounds (IsRoundBy k z long) (view_in k a) sweeps (view_in k c)) (sym (told_append k lines (line ∷ []))) (rounds_append (IsRoundBy k z long) (view_in k a) (view_in k b) (view_in k c) (sweeps_of k lines) (sweeps_in k line.reply) (before k) (now k))
+    subst (λ sweeps. AreRounds (IsRoundBy k z long) (view_in k a) sweeps (view_in k c)) (sym (told_append k lines (line ∷ [])))
+    (rounds_append (IsRoundBy k z long) (view_in k a) (view_in k b) (view_in k c) (sweeps_of k lines) (sweeps_in k line.reply) (before k) (now k))
 
 -- the lines of a collector's rounds tell these
 lines_told : (n : ℕ) (sweeps : List Sweep) → filter_map (λ (line : Line). report_of line.reply) (sweep_lines n sweeps) ≡ sweeps
@@ -146,7 +152,8 @@ lines_told n [] = refl
 lines_told n (sweep ∷ sweeps) = ap (λ l. sweep ∷ l) (lines_told (suc n) sweeps)
 
 -- rounds of one kind are told as rounds of that kind alone
-kinds_told : (kind k : Kind) (z : Sizes) (long : ℕ) (v w : View) (sweeps : List Sweep) → AreRounds (IsRoundBy kind z long) v sweeps w → filter (λ (sweep : Sweep). same_kind sweep.kind k) sweeps ≡ cond (same_kind kind k) sweeps []
+kinds_told : (kind k : Kind) (z : Sizes) (long : ℕ) (v w : View) (sweeps : List Sweep) → AreRounds (IsRoundBy kind z long) v sweeps w →
+    filter (λ (sweep : Sweep). same_kind sweep.kind k) sweeps ≡ cond (same_kind kind k) sweeps []
 kinds_told kind k z long v w [] m = go (same_kind kind k)
   where
     go : (t : Bool) → ◌≡◌ {A = List Sweep} [] (cond t [] [])
@@ -159,20 +166,25 @@ kinds_told kind k z long v w (sweep ∷ sweeps) (a, (m, (b, (round, rest)))) =
     is : sweep.kind ≡ kind
     is = ap (λ (s : Sweep). s.kind) (swept_of kind z long a b sweep round).told
 
-    go : (t : Bool) → filter (λ (s : Sweep). same_kind s.kind k) sweeps ≡ cond t sweeps [] → cond t (sweep ∷ filter (λ (s : Sweep). same_kind s.kind k) sweeps) (filter (λ (s : Sweep). same_kind s.kind k) sweeps) ≡ cond t (sweep ∷ sweeps) []
+    go : (t : Bool) → filter (λ (s : Sweep). same_kind s.kind k) sweeps ≡ cond t sweeps [] →
+        cond t (sweep ∷ filter (λ (s : Sweep). same_kind s.kind k) sweeps) (filter (λ (s : Sweep). same_kind s.kind k) sweeps) ≡ cond t (sweep ∷ sweeps) []
     go true later = ap (λ l. sweep ∷ l) later
     go false later = later
 
-pub told_lines : (kind k : Kind) (z : Sizes) (long : ℕ) (v w : View) (sweeps : List Sweep) → AreRounds (IsRoundBy kind z long) v sweeps w → sweeps_of k (sweep_lines 1 sweeps) ≡ cond (same_kind kind k) sweeps []
+pub told_lines : (kind k : Kind) (z : Sizes) (long : ℕ) (v w : View) (sweeps : List Sweep) → AreRounds (IsRoundBy kind z long) v sweeps w →
+    sweeps_of k (sweep_lines 1 sweeps) ≡ cond (same_kind kind k) sweeps []
 told_lines kind k z long v w sweeps rounds = ap (filter (λ (s : Sweep). same_kind s.kind k)) (lines_told 1 sweeps) ∙ kinds_told kind k z long v w sweeps rounds
 
 -- ---- what a round of one leaves of all
 
-pub removed_group : (z : Sizes) (long : ℕ) (c : Collectors) (new : GroupCollector) (sweep : Sweep) → IsRoundBy Group z long (view_in Group c) sweep (group.view_of new) → (k : Kind) → removed_of k (record c { group = new }) ≡ removed_of k c + swept_by k sweep
+pub removed_group : (z : Sizes) (long : ℕ) (c : Collectors) (new : GroupCollector) (sweep : Sweep) → IsRoundBy Group z long (view_in Group c) sweep (group.view_of new) →
+    (k : Kind) → removed_of k (record c { group = new }) ≡ removed_of k c + swept_by k sweep
 removed_group z long c new sweep round k = let s = (swept_of Group z long (view_in Group c) (group.view_of new) sweep round).removed k in omega (arith, s)
 
-pub removed_table : (z : Sizes) (long : ℕ) (c : Collectors) (new : TableCollector) (sweep : Sweep) → IsRoundBy Table z long (view_in Table c) sweep (table.view_of new) → (k : Kind) → removed_of k (record c { table = new }) ≡ removed_of k c + swept_by k sweep
+pub removed_table : (z : Sizes) (long : ℕ) (c : Collectors) (new : TableCollector) (sweep : Sweep) → IsRoundBy Table z long (view_in Table c) sweep (table.view_of new) →
+    (k : Kind) → removed_of k (record c { table = new }) ≡ removed_of k c + swept_by k sweep
 removed_table z long c new sweep round k = let s = (swept_of Table z long (view_in Table c) (table.view_of new) sweep round).removed k in omega (arith, s)
 
-pub removed_interval : (z : Sizes) (long : ℕ) (c : Collectors) (new : IntervalWorker) (sweep : Sweep) → IsRoundBy Interval z long (view_in Interval c) sweep (interval.view_of new) → (k : Kind) → removed_of k (record c { interval = new }) ≡ removed_of k c + swept_by k sweep
+pub removed_interval : (z : Sizes) (long : ℕ) (c : Collectors) (new : IntervalWorker) (sweep : Sweep) → IsRoundBy Interval z long (view_in Interval c) sweep (interval.view_of new)
+    → (k : Kind) → removed_of k (record c { interval = new }) ≡ removed_of k c + swept_by k sweep
 removed_interval z long c new sweep round k = let s = (swept_of Interval z long (view_in Interval c) (interval.view_of new) sweep round).removed k in omega (arith, s)

@@ -22,14 +22,16 @@ pub met_more : (u v w : View) → HasMetSessions u v → HasMetSessions v w → 
 met_more u v w a b = record { parts = b.parts ∙ a.parts; events = b.events ∙ a.events; kept = starts_more u.sights v.sights w.sights a.kept b.kept }
 
 -- of each kind
-pub met_kinds : (old new : Kind → View) → HasMetSessions (old Group) (new Group) → HasMetSessions (old Table) (new Table) → HasMetSessions (old Interval) (new Interval) → (k : Kind) → HasMetSessions (old k) (new k)
+pub met_kinds : (old new : Kind → View) → HasMetSessions (old Group) (new Group) → HasMetSessions (old Table) (new Table) → HasMetSessions (old Interval) (new Interval) →
+    (k : Kind) → HasMetSessions (old k) (new k)
 met_kinds old new group table interval Group = group
 met_kinds old new group table interval Table = table
 met_kinds old new group table interval Interval = interval
 
 -- ---- the pass stays alone
 
-pub lone_swept : (t : BoardId) (p : ℕ) (kind : Kind) (sessions : ℕ) (sweep : Sweep) (c d : CollectorPass) → IsLone t p c → IsPassOf t d → HasSwept kind sessions (pass_view c) sweep (pass_view d) → IsLone t p d
+pub lone_swept : (t : BoardId) (p : ℕ) (kind : Kind) (sessions : ℕ) (sweep : Sweep) (c d : CollectorPass) → IsLone t p c → IsPassOf t d →
+    HasSwept kind sessions (pass_view c) sweep (pass_view d) → IsLone t p d
 lone_swept t p kind sessions sweep c d h own s = record {
   own = own;
   only = s.parts ∙ (λ i. OfPass (number_first i) (pass (pass_view d)) ∷ others_none i);

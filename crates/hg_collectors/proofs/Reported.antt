@@ -57,7 +57,8 @@ began_in n scope [] h = absurd h
 began_in n scope (Began at other ∷ log) (inl e) =
     let same : at ≡ n = cc in
     let scopes : other ≡ scope = cc in
-    or_here (at == n) (if is_declared scope then is_declared other else true) (began_at (is_declared scope) n log) (grind (arith, nat_tests, same)) (subst (λ s. (if is_declared scope then is_declared s else true) ≡ true) (sym scopes) (itself (is_declared scope)))
+    or_here (at == n) (if is_declared scope then is_declared other else true) (began_at (is_declared scope) n log) (grind (arith, nat_tests, same))
+    (subst (λ s. (if is_declared scope then is_declared s else true) ≡ true) (sym scopes) (itself (is_declared scope)))
   where
     itself : (b : Bool) → (if b then b else true) ≡ true
     itself true = refl
@@ -144,7 +145,8 @@ ascends_more (a ∷ b ∷ more) x s h = (s.0, ascends_more (b ∷ more) x s.1 h.
 in_order : (n : ℕ) (loaded : List (ℕ × Loaded)) → map (λ e. e.0) loaded ≡ down_from n → Ascends (sessions_in loaded) × Each (λ j. j ≤ n) (sessions_in loaded)
 in_order n [] keys = (tt, tt)
 in_order zero (e ∷ loaded) keys = absurd (let m : suc (length (map (λ (e : ℕ × Loaded). e.0) loaded)) ≡ 0 = ap length keys in omega (arith, m))
-in_order (suc n) (e ∷ loaded) keys = subst Right (sym (map-append (λ (x : Entry). x.session) (entries_of loaded) (live_entry e.0 e.1.register e.1.mask))) (go e.1.register e.1.mask (in_order n loaded key.1))
+in_order (suc n) (e ∷ loaded) keys = subst Right (sym (map-append (λ (x : Entry). x.session) (entries_of loaded) (live_entry e.0 e.1.register e.1.mask)))
+    (go e.1.register e.1.mask (in_order n loaded key.1))
   where
     Right : List ℕ → Type 0
     Right js = Ascends js × Each (λ j. j ≤ suc n) js
@@ -188,7 +190,8 @@ module _ (kind : Kind) (n : ℕ) (h : History) (logs : ℕ → List LogEntry) (a
 -- ---- all rounds
 
 -- what holds of each round by P holds by Q where that follows
-pub rounds_map : (P Q : View → Sweep → View → Type 0) → ((a : View) (sweep : Sweep) (b : View) → P a sweep b → Q a sweep b) → (v w : View) (sweeps : List Sweep) → AreRounds P v sweeps w → AreRounds Q v sweeps w
+pub rounds_map : (P Q : View → Sweep → View → Type 0) → ((a : View) (sweep : Sweep) (b : View) → P a sweep b → Q a sweep b) → (v w : View) (sweeps : List Sweep) →
+    AreRounds P v sweeps w → AreRounds Q v sweeps w
 rounds_map P Q f v w [] t = t
 rounds_map P Q f v w (sweep ∷ sweeps) t = (t.0, (t.1.0, (t.1.1.0, (f t.0 sweep t.1.1.0 t.1.1.1.0, rounds_map P Q f t.1.1.0 w sweeps t.1.1.1.1))))
 
@@ -228,7 +231,8 @@ record AreToldBy (h : History) (logs : ℕ → List LogEntry) (kind : Kind) (swe
   pub told : map sweep_of reports ≡ sweeps
   pub each : Each (IsPassReport h logs kind) reports
 
-all_told : (kind : Kind) (n : ℕ) (h : History) (logs : ℕ → List LogEntry) (v w : View) (sweeps : List Sweep) → AreRounds (HasSwept kind n) v sweeps w → ((m : ℕ) → SawGroups m w.sights → m ≤ length h) → Each (BeganIn logs) w.events → (reports : List Report) × AreToldBy h logs kind sweeps reports
+all_told : (kind : Kind) (n : ℕ) (h : History) (logs : ℕ → List LogEntry) (v w : View) (sweeps : List Sweep) → AreRounds (HasSwept kind n) v sweeps w →
+    ((m : ℕ) → SawGroups m w.sights → m ≤ length h) → Each (BeganIn logs) w.events → (reports : List Report) × AreToldBy h logs kind sweeps reports
 all_told kind n h logs v w [] t most began = ([], record { told = refl; each = tt })
 all_told kind n h logs v w (sweep ∷ sweeps) t most began =
     let b = t.1.1.0 in
@@ -236,7 +240,8 @@ all_told kind n h logs v w (sweep ∷ sweeps) t most began =
     let kept = rounds_kept kind n b w sweeps t.1.1.1.1 in
     let one = report kind n h logs t.0 b sweep r in
     let later = all_told kind n h logs b w sweeps t.1.1.1.1 most began in
-    let here : IsPassReport h logs kind one = report_is kind n h logs t.0 b sweep r (most sweep.mark (saw_more sweep.mark b.sights w.sights kept.0 r.saw)) (each_left (BeganIn logs) b.events kept.1.0 (subst (Each (BeganIn logs)) kept.1.1 began)) in
+    let here : IsPassReport h logs kind one = report_is kind n h logs t.0 b sweep r (most sweep.mark (saw_more sweep.mark b.sights w.sights kept.0 r.saw))
+    (each_left (BeganIn logs) b.events kept.1.0 (subst (Each (BeganIn logs)) kept.1.1 began)) in
     (one ∷ later.0, record { told = (λ i. sym r.told i ∷ later.1.told i); each = (here, later.1.each) })
 
 counted : (reports : List Report) → length reports ≡ length (map sweep_of reports)
@@ -253,7 +258,8 @@ lines_told n (r ∷ reports) = ap (λ l. record { session = 0; place = n; reply 
 
 -- The rounds that a collector's pass made are told by reports. All groups that it saw are in the history, and each live register
 -- that it loaded has its begin in the logs.
-pub reported : (kind : Kind) (n : ℕ) (h : History) (logs : ℕ → List LogEntry) (v w : View) (sweeps : List Sweep) → AreRounds (HasSwept kind n) v sweeps w → ((m : ℕ) → SawGroups m w.sights → m ≤ length h) → Each (BeganIn logs) w.events →
+pub reported : (kind : Kind) (n : ℕ) (h : History) (logs : ℕ → List LogEntry) (v w : View) (sweeps : List Sweep) → AreRounds (HasSwept kind n) v sweeps w →
+    ((m : ℕ) → SawGroups m w.sights → m ≤ length h) → Each (BeganIn logs) w.events →
     (reports : List Report) × (AreReports h logs kind (length sweeps) reports × (report_lines 1 reports ≡ sweep_lines 1 sweeps))
 reported kind n h logs v w sweeps t most began =
     let all = all_told kind n h logs v w sweeps t most began in

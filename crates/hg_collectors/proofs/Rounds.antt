@@ -44,7 +44,8 @@ starts_more xs ys zs a b = (a.0 ++ b.0, b.1 ∙ (ap (λ l. l ++ b.0) a.1 ∙ app
 -- ---- a round, whichever collector's
 
 -- The pass gathered, maybe moved, and then visited.
-module _ (kind : Kind) (v y w : View) (report : Report) (mark sessions : ℕ) (loaded : List (ℕ × Loaded)) (there : y.parts ≡ OfPass (number v) (gathering mark loaded v) ∷ others v) (on : GoesOn kind y w) where
+module _ (kind : Kind) (v y w : View) (report : Report) (mark sessions : ℕ) (loaded : List (ℕ × Loaded)) (there : y.parts ≡ OfPass (number v) (gathering mark loaded v) ∷ others v)
+    (on : GoesOn kind y w) where
   abbrev part : PassPart
   part = record (gathering mark loaded v) { visits = on.visits ++ (pass v).visits }
 
@@ -57,7 +58,8 @@ module _ (kind : Kind) (v y w : View) (report : Report) (mark sessions : ℕ) (l
   own : pass w ≡ part
   own = ap (λ ps. pass_there (first_in ps)) parts
 
-  pub swept : (steps : List Event) → w.events ≡ v.events ++ steps → IsRoundOf (number v) (pass w) steps → IsReportOf kind steps report → Each (AtMost report.mark) v.sights → report.removed ≡ gone_in on.steps → IsLoaded sessions loaded → SawGroups mark y.sights → StartsWith y.sights v.sights → HasSwept kind sessions v (sweep_of report) w
+  pub swept : (steps : List Event) → w.events ≡ v.events ++ steps → IsRoundOf (number v) (pass w) steps → IsReportOf kind steps report → Each (AtMost report.mark) v.sights →
+      report.removed ≡ gone_in on.steps → IsLoaded sessions loaded → SawGroups mark y.sights → StartsWith y.sights v.sights → HasSwept kind sessions v (sweep_of report) w
   swept steps events round report_is most gone is saw kept =
       let same : mark ≡ report.mark = sym (ap (λ (p : PassPart). p.mark) own) ∙ (round.mark_is ∙ sym report_is.mark_is) in
       let held : (pass w).loaded ≡ loaded = ap (λ (p : PassPart). p.loaded) own in
@@ -75,15 +77,18 @@ module _ (kind : Kind) (v y w : View) (report : Report) (mark sessions : ℕ) (l
         saw = saw_more report.mark y.sights w.sights on.kept (subst (λ n. SawGroups n y.sights) same saw);
         kept = starts_more v.sights y.sights w.sights kept on.kept;
         removed = λ k.
-            let all : removed_all k (pass w).visits ≡ removed_all k on.visits + removed_all k (pass v).visits = ap (λ (p : PassPart). removed_all k p.visits) own ∙ removed_append k on.visits (pass v).visits in
-            let new : removed_all k on.visits ≡ swept_by k (sweep_of report) = removed_for kind k on.visits on.only ∙ (ap (λ n. if same_kind kind k then n else 0) (sym on.sum ∙ sym gone) ∙ ap (λ c. if same_kind c k then report.removed else 0) (sym report_is.kind_is)) in
+            let all : removed_all k (pass w).visits ≡ removed_all k on.visits + removed_all k (pass v).visits = ap (λ (p : PassPart). removed_all k p.visits) own ∙
+            removed_append k on.visits (pass v).visits in
+            let new : removed_all k on.visits ≡ swept_by k (sweep_of report) = removed_for kind k on.visits on.only ∙
+            (ap (λ n. if same_kind kind k then n else 0) (sym on.sum ∙ sym gone) ∙ ap (λ c. if same_kind c k then report.removed else 0) (sym report_is.kind_is)) in
             omega (arith, all, new);
       }
 
 -- ---- each collector's
 
 pub group_swept : (z : Sizes) (v w : View) (report : Report) → Collects z v report w → HasSwept Group z.sessions v (sweep_of report) w
-group_swept z v w report c = swept Group v c.gathered w report (pass c.gathered).mark z.sessions (pass c.gathered).loaded c.gathers.parts c.takes.some.on c.steps c.events c.round c.report_is c.most c.takes.some.gone_is (c.gathers.keys, c.gathers.registers) c.gathers.saw c.gathers.kept
+group_swept z v w report c = swept Group v c.gathered w report (pass c.gathered).mark z.sessions (pass c.gathered).loaded c.gathers.parts c.takes.some.on c.steps c.events c.round
+    c.report_is c.most c.takes.some.gone_is (c.gathers.keys, c.gathers.registers) c.gathers.saw c.gathers.kept
 
 pub table_swept : (z : Sizes) (long : ℕ) (v w : View) (report : Report) → Cuts z long v report w → HasSwept Table z.sessions v (sweep_of report) w
 table_swept z long v w report c =
@@ -96,14 +101,17 @@ table_swept z long v w report c =
     (subst (SawGroups (pass c.gathered).mark) (sym c.moves.sights) c.gathers.saw) (subst (λ xs. StartsWith xs v.sights) (sym c.moves.sights) c.gathers.kept)
   where
     F : List Part → List Part
-    F ps = let u = seeing ps [] [] in OfPass (number u) (record (pass u) { loaded = moved_by (filter (is_long (pass c.gathered).mark long) (entries_of (pass c.gathered).loaded)) c.moves.outcomes (pass u).loaded }) ∷ others u
+    F ps = let u = seeing ps [] [] in OfPass (number u) (record
+        (pass u) { loaded = moved_by (filter (is_long (pass c.gathered).mark long) (entries_of (pass c.gathered).loaded)) c.moves.outcomes (pass u).loaded }) ∷ others u
 
 pub interval_swept : (z : Sizes) (v w : View) (report : Report) → Sweeps z v report w → HasSwept Interval z.sessions v (sweep_of report) w
 interval_swept z v w report c =
     let r = c.reports in
-    swept Interval v c.gathered w report (pass c.gathered).mark z.sessions (pass c.gathered).loaded c.gathers.parts c.visits.on r.steps r.events r.round r.report_is r.most c.visits.gone_is (c.gathers.keys, c.gathers.registers) c.gathers.saw c.gathers.kept
+    swept Interval v c.gathered w report (pass c.gathered).mark z.sessions (pass c.gathered).loaded c.gathers.parts c.visits.on r.steps r.events r.round r.report_is r.most
+    c.visits.gone_is (c.gathers.keys, c.gathers.registers) c.gathers.saw c.gathers.kept
 
 pub team_swept : (z : Sizes) (v w : View) (report : Report) → SweepsBeside z v report w → HasSwept Interval z.sessions v (sweep_of report) w
 team_swept z v w report c =
     let r = c.reports in
-    swept Interval v c.gathered w report (pass c.gathered).mark z.sessions (pass c.gathered).loaded c.gathers.parts c.on r.steps r.events r.round r.report_is r.most c.gone_is (c.gathers.keys, c.gathers.registers) c.gathers.saw c.gathers.kept
+    swept Interval v c.gathered w report (pass c.gathered).mark z.sessions (pass c.gathered).loaded c.gathers.parts c.on r.steps r.events r.round r.report_is r.most c.gone_is
+    (c.gathers.keys, c.gathers.registers) c.gathers.saw c.gathers.kept

@@ -26,13 +26,26 @@ may_fewer zero (suc n) share l h = absurd (omega arith)
 may_fewer (suc m) (suc n) share l h = (h.0, may_fewer m n _ (omega arith) h.1)
 
 sixteen : MaySplit 16 first_share
-sixteen = (omega arith, (omega arith, (omega arith, (omega arith, (omega arith, (omega arith, (omega arith, (omega arith, (omega arith, (omega arith, (omega arith, (omega arith, (omega arith, (omega arith, (omega arith, (omega arith, tt))))))))))))))))
+sixteen = (
+  omega arith,
+  (
+    omega arith,
+    (
+      omega arith,
+      (
+        omega arith,
+        (omega arith, (omega arith, (omega arith, (omega arith, (omega arith, (omega arith, (omega arith, (omega arith, (omega arith, (omega arith, (omega arith, (omega arith, tt)))))))))))),
+      ),
+    ),
+  ),
+)
 
 pub may_split : (n share : ℕ) → n ≤ 16 → share ≡ first_share → MaySplit n share
 may_split n share l e = subst (MaySplit n) (sym e) (may_fewer 16 n first_share l sixteen)
 
 -- a team whose pass met a session is one still
-pub team_met : (t : BoardId) (z : Sizes) (c : SweepTeam) (p : CollectorPass) (other : View) → IsTeamOf t z c → IsPassOf t p → pass_view p ≡ meeting (pass_view c.pass) other → IsTeamOf t z (record c { pass = p })
+pub team_met : (t : BoardId) (z : Sizes) (c : SweepTeam) (p : CollectorPass) (other : View) → IsTeamOf t z c → IsPassOf t p → pass_view p ≡ meeting (pass_view c.pass) other →
+    IsTeamOf t z (record c { pass = p })
 team_met t z c p other h own met = record {
   own = own;
   may = subst (MaySplit c.count) (sym (ap (λ (v : View). (pass v).share) met)) h.may;

@@ -10,12 +10,16 @@ use Rattle.hg_rule.specs.declared.view.Sizes.{Sizes}
 use Rattle.hg_rule.specs.Keys.{first_share}
 use Rattle.hg_rule.specs.Views.{pass}
 use Rattle.hg_rule.specs.Seats.{BoardId, pass_view, IsPassOf}
+use Rattle.hg_gc_table.specs.declared.collector.TableCollector.{TableCollector}
 use Rattle.hg_gc_group.specs.Collectors as group
 use Rattle.hg_gc_table.specs.Collectors as table
 use Rattle.hg_collectors.specs.Workers as interval
 use Rattle.hg_core.specs.Counters.{removed_all}
 use Rattle.hg_collectors.specs.Rounding.{IsRoundBy, AreRounds, HasMadeAll}
+use Rattle.hg_collectors.specs.Lent.{lent_board_id, lent_sizes}
 use Rattle.hg_collectors.specs.declared.collectors.Collectors.{Collectors}
+use Rattle.hg_collectors.specs.declared.interval.IntervalWorker.{IntervalWorker}
+use Rattle.hg_collectors.specs.declared.lent.Lent.{Lent}
 use Rattle.hg_collectors.specs.declared.round_list.RoundList.{RoundList}
 use Rattle.hg_collectors.specs.declared.round_lists.RoundLists.{RoundLists}
 
@@ -64,3 +68,13 @@ told_in Interval told = told.interval
 -- each collector made its rounds
 abbrev pub HaveMadeAll : Sizes → ℕ → ℕ → Collectors → RoundLists → Collectors → Type 0
 HaveMadeAll z long rounds before told after = (kind : Kind) → HasMadeAll kind z long rounds (view_in kind before) (told_in kind told) (view_in kind after)
+
+-- the table collector made its rounds, by a plan with these numbers, and is one of the board still
+abbrev pub HasMadeTables : Lent → ℕ → ℕ → TableCollector → RoundList → TableCollector → Type 0
+HasMadeTables lent long rounds before told after = HasMadeAll Table (lent_sizes lent) long rounds (table.view_of before) told (table.view_of after) ×
+    table.IsCollectorOf (lent_board_id lent) (lent_sizes lent) after
+
+-- and the interval collector
+abbrev pub HasMadeIntervals : Lent → ℕ → ℕ → IntervalWorker → RoundList → IntervalWorker → Type 0
+HasMadeIntervals lent long rounds before told after = HasMadeAll Interval (lent_sizes lent) long rounds (interval.view_of before) told (interval.view_of after) ×
+    interval.IsCollectorOf (lent_board_id lent) (lent_sizes lent) after

@@ -5,7 +5,7 @@ ghost use Rattle.hg_gc_group.specs.Collectors as groups;
 ghost use Rattle.hg_gc_table.specs.Collectors as tables;
 ghost use Rattle.hg_collectors.specs.Workers as intervals;
 ghost use Rattle.hg_collectors.specs.Lent.{lent_board_id, lent_sizes};
-ghost use Rattle.hg_collectors.specs.Collecting.{AreCollectorsOf, HaveMadeAll};
+ghost use Rattle.hg_collectors.specs.Collecting.{AreCollectorsOf, HasMadeIntervals, HasMadeTables, HaveMadeAll};
 ghost use Rattle.hg_collectors.specs.Rounding.{HasPlaces, HavePlaces, HasMadeAll};
 
 use crate::collectors::Collectors;
@@ -86,8 +86,10 @@ pub fn run_collectors<G: Gate + Sync, R: Threads + Wait + Sync>(
                 table.now × HasPlaces plan.now.rounds table_told.now) ×
                 (intervals.IsCollectorOf (lent_board_id lent.now) (lent_sizes lent.now)
                 interval.now × HasPlaces plan.now.rounds interval_told.now) }
-            ensures { (HasMadeAll kinds.Table (lent_sizes lent.entry.now) plan.entry.now.long plan.entry.now.rounds (tables.view_of table.entry.now) table_told.exit.now (tables.view_of table.exit.now) × tables.IsCollectorOf (lent_board_id lent.entry.now) (lent_sizes lent.entry.now) table.exit.now)
-                × (HasMadeAll kinds.Interval (lent_sizes lent.entry.now) plan.entry.now.long plan.entry.now.rounds (intervals.view_of interval.entry.now) interval_told.exit.now (intervals.view_of interval.exit.now) × intervals.IsCollectorOf (lent_board_id lent.entry.now) (lent_sizes lent.entry.now) interval.exit.now) }
+            ensures { HasMadeTables lent.entry.now plan.entry.now.long plan.entry.now.rounds
+                table.entry.now table_told.exit.now table.exit.now ×
+                HasMadeIntervals lent.entry.now plan.entry.now.long plan.entry.now.rounds
+                interval.entry.now interval_told.exit.now interval.exit.now }
         {
             thread::join_mut(
                 rt,
@@ -95,23 +97,17 @@ pub fn run_collectors<G: Gate + Sync, R: Threads + Wait + Sync>(
                     requires { tables.IsCollectorOf (lent_board_id lent.now)
                         (lent_sizes lent.now) table.now ×
                         HasPlaces plan.now.rounds table_told.now }
-                    ensures { HasMadeAll kinds.Table (lent_sizes lent.entry.now)
-                        plan.entry.now.long plan.entry.now.rounds
-                        (tables.view_of table.entry.now) table_told.exit.now
-                        (tables.view_of table.exit.now) ×
-                        tables.IsCollectorOf (lent_board_id lent.entry.now)
-                        (lent_sizes lent.entry.now) table.exit.now }
+                    ensures { HasMadeTables lent.entry.now plan.entry.now.long
+                        plan.entry.now.rounds table.entry.now table_told.exit.now
+                        table.exit.now }
                 { make_rounds(rt, lent, plan, TABLE, table, table_told) },
                 &mut ||
                     requires { intervals.IsCollectorOf (lent_board_id lent.now)
                         (lent_sizes lent.now) interval.now ×
                         HasPlaces plan.now.rounds interval_told.now }
-                    ensures { HasMadeAll kinds.Interval (lent_sizes lent.entry.now)
-                        plan.entry.now.long plan.entry.now.rounds
-                        (intervals.view_of interval.entry.now) interval_told.exit.now
-                        (intervals.view_of interval.exit.now) ×
-                        intervals.IsCollectorOf (lent_board_id lent.entry.now)
-                        (lent_sizes lent.entry.now) interval.exit.now }
+                    ensures { HasMadeIntervals lent.entry.now plan.entry.now.long
+                        plan.entry.now.rounds interval.entry.now interval_told.exit.now
+                        interval.exit.now }
                 { make_sweeps(rt, lent, plan, INTERVAL, interval, interval_told) },
             );
         },

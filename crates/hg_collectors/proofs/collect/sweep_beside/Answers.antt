@@ -13,7 +13,8 @@ pub returns-clause-round : goal.returns-clause-round
 returns-clause-round g c =
     let report = report_in c.collect.new.self in
     let told = subst (λ (r : Report). IfOk c.told.result (λ sweep. sweep ≡ sweep_of r)) c.report.ensures c.told.ensures in
-    if_ok (λ sweep. sweep ≡ sweep_of report) (λ sweep. IsRoundBy Interval (lent_sizes c.args.lent.now) 0 (view_of c.args.team.now) sweep (view_of c.collect.new.self)) c.told.result (λ sweep is. (report, (inr c.collect.ensures.sweeps, is))) told
+    if_ok (λ sweep. sweep ≡ sweep_of report) (λ sweep. IsRoundBy Interval (lent_sizes c.args.lent.now) 0 (view_of c.args.team.now) sweep (view_of c.collect.new.self)) c.told.result
+    (λ sweep is. (report, (inr c.collect.ensures.sweeps, is))) told
 
 pub returns-clause-made : goal.returns-clause-made
 returns-clause-made g c =

@@ -9,7 +9,8 @@ use Rattle.hg_collectors.proofs.round_list.make_rounds.Goals as goal
 pub loop-round-init : goal.loop-round-init
 loop-round-init g c = record {
   own = c.requires.own;
-  made = subst (λ sweeps. AreRounds (IsRoundBy g.C.Collect.kind (lent_sizes c.args.lent.now) c.args.plan.now.long) (g.C.Collect.view_of c.args.collector.now) sweeps (g.C.Collect.view_of c.args.collector.now)) (sym c.requires.places.none) (met_none (g.C.Collect.view_of c.args.collector.now));
+  made = subst (λ sweeps. AreRounds (IsRoundBy g.C.Collect.kind (lent_sizes c.args.lent.now) c.args.plan.now.long) (g.C.Collect.view_of c.args.collector.now) sweeps
+      (g.C.Collect.view_of c.args.collector.now)) (sym c.requires.places.none) (met_none (g.C.Collect.view_of c.args.collector.now));
   count = ap (λ sweeps. length sweeps) c.requires.places.none;
   room = c.requires.places.room;
   willing = c.requires.places.willing;
@@ -25,7 +26,8 @@ loop-round-preserved g c =
     let items = c.push_reserved.ensures.items in
     record {
       own = c.round.ensures.own;
-      made = subst (λ sweeps. AreRounds P v sweeps w) (sym items) (rounds_append P v u w c.loop-round.told.sweeps.items (c.in-Ok.sweep ∷ []) inv.made (one_round P u w c.in-Ok.sweep c.in-Ok.ensures.round));
+      made = subst (λ sweeps. AreRounds P v sweeps w) (sym items) (rounds_append P v u w c.loop-round.told.sweeps.items (c.in-Ok.sweep ∷ []) inv.made
+          (one_round P u w c.in-Ok.sweep c.in-Ok.ensures.round));
       count = ap (λ sweeps. length sweeps) items ∙ (length-append c.loop-round.told.sweeps.items (c.in-Ok.sweep ∷ []) ∙ ap (λ n. n + 1) inv.count);
       room = subst (λ n. c.args.plan.now.rounds ≤ n) (sym c.push_reserved.ensures.capacity) inv.room;
       willing = inv.willing;

@@ -8,4 +8,5 @@ returns-clause-made g c = by_kind _ c.join_mut.ensures.0.met.1.0 c.join_mut.ensu
 
 pub returns-clause-own : goal.returns-clause-own
 returns-clause-own g c =
-    collectors_made (lent_board_id c.args.lent.now) (lent_sizes c.args.lent.now) c.args.plan.now.long c.args.plan.now.rounds c.args.collectors.now _ _ c.requires.own c.join_mut.ensures.0.met.1.1 c.join_mut.ensures.1.met.1.0.1 c.join_mut.ensures.1.met.1.1.1 (returns-clause-made g c)
+    collectors_made (lent_board_id c.args.lent.now) (lent_sizes c.args.lent.now) c.args.plan.now.long c.args.plan.now.rounds c.args.collectors.now _ _ c.requires.own
+    c.join_mut.ensures.0.met.1.1 c.join_mut.ensures.1.met.1.0.1 c.join_mut.ensures.1.met.1.1.1 (returns-clause-made g c)

@@ -21,14 +21,17 @@ returns-in-Group-clause-swept g c =
     let old = c.args.self.now in
     let new = c.round.new.self in
     subst (λ kind. IfOk c.round.result (λ sweep. HasSwept kind z.sessions (view_in kind old) sweep (view_in kind (record old { group = new })))) (sym c.in-Group.is)
-    (if_ok (λ sweep. IsRoundBy kinds.Group z c.args.long (view_in kinds.Group old) sweep (group.view_of new)) (λ sweep. HasSwept kinds.Group z.sessions (view_in kinds.Group old) sweep (group.view_of new)) c.round.result (λ sweep round. swept_of kinds.Group z c.args.long (view_in kinds.Group old) (group.view_of new) sweep round) c.round.ensures.round)
+    (if_ok (λ sweep. IsRoundBy kinds.Group z c.args.long (view_in kinds.Group old) sweep (group.view_of new))
+    (λ sweep. HasSwept kinds.Group z.sessions (view_in kinds.Group old) sweep (group.view_of new)) c.round.result
+    (λ sweep round. swept_of kinds.Group z c.args.long (view_in kinds.Group old) (group.view_of new) sweep round) c.round.ensures.round)
 
 pub returns-in-Group-clause-removed : goal.returns-in-Group-clause-removed
 returns-in-Group-clause-removed g c =
     let z = lent_sizes c.args.lent.now in
     let old = c.args.self.now in
     let new = c.round.new.self in
-    if_ok (λ sweep. IsRoundBy kinds.Group z c.args.long (view_in kinds.Group old) sweep (group.view_of new)) (λ sweep. (k : Kind) → removed_of k (record old { group = new }) ≡ removed_of k old + swept_by k sweep) c.round.result (λ sweep round. removed_group z c.args.long old new sweep round) c.round.ensures.round
+    if_ok (λ sweep. IsRoundBy kinds.Group z c.args.long (view_in kinds.Group old) sweep (group.view_of new)) (λ sweep. (k : Kind) →
+    removed_of k (record old { group = new }) ≡ removed_of k old + swept_by k sweep) c.round.result (λ sweep round. removed_group z c.args.long old new sweep round) c.round.ensures.round
 
 pub returns-in-Table-clause-swept : goal.returns-in-Table-clause-swept
 returns-in-Table-clause-swept g c =
@@ -36,14 +39,18 @@ returns-in-Table-clause-swept g c =
     let old = c.args.self.now in
     let new = c.round-in-Table.new.self in
     subst (λ kind. IfOk c.round-in-Table.result (λ sweep. HasSwept kind z.sessions (view_in kind old) sweep (view_in kind (record old { table = new })))) (sym c.in-Table.is)
-    (if_ok (λ sweep. IsRoundBy kinds.Table z c.args.long (view_in kinds.Table old) sweep (table.view_of new)) (λ sweep. HasSwept kinds.Table z.sessions (view_in kinds.Table old) sweep (table.view_of new)) c.round-in-Table.result (λ sweep round. swept_of kinds.Table z c.args.long (view_in kinds.Table old) (table.view_of new) sweep round) c.round-in-Table.ensures.round)
+    (if_ok (λ sweep. IsRoundBy kinds.Table z c.args.long (view_in kinds.Table old) sweep (table.view_of new))
+    (λ sweep. HasSwept kinds.Table z.sessions (view_in kinds.Table old) sweep (table.view_of new)) c.round-in-Table.result
+    (λ sweep round. swept_of kinds.Table z c.args.long (view_in kinds.Table old) (table.view_of new) sweep round) c.round-in-Table.ensures.round)
 
 pub returns-in-Table-clause-removed : goal.returns-in-Table-clause-removed
 returns-in-Table-clause-removed g c =
     let z = lent_sizes c.args.lent.now in
     let old = c.args.self.now in
     let new = c.round-in-Table.new.self in
-    if_ok (λ sweep. IsRoundBy kinds.Table z c.args.long (view_in kinds.Table old) sweep (table.view_of new)) (λ sweep. (k : Kind) → removed_of k (record old { table = new }) ≡ removed_of k old + swept_by k sweep) c.round-in-Table.result (λ sweep round. removed_table z c.args.long old new sweep round) c.round-in-Table.ensures.round
+    if_ok (λ sweep. IsRoundBy kinds.Table z c.args.long (view_in kinds.Table old) sweep (table.view_of new)) (λ sweep. (k : Kind) →
+    removed_of k (record old { table = new }) ≡ removed_of k old + swept_by k sweep) c.round-in-Table.result
+    (λ sweep round. removed_table z c.args.long old new sweep round) c.round-in-Table.ensures.round
 
 pub returns-in-Interval-clause-swept : goal.returns-in-Interval-clause-swept
 returns-in-Interval-clause-swept g c =
@@ -51,14 +58,18 @@ returns-in-Interval-clause-swept g c =
     let old = c.args.self.now in
     let new = c.sweep_round.new.worker in
     subst (λ kind. IfOk c.sweep_round.result (λ sweep. HasSwept kind z.sessions (view_in kind old) sweep (view_in kind (record old { interval = new })))) (sym c.in-Interval.is)
-    (if_ok (λ sweep. IsRoundBy kinds.Interval z c.args.long (view_in kinds.Interval old) sweep (interval.view_of new)) (λ sweep. HasSwept kinds.Interval z.sessions (view_in kinds.Interval old) sweep (interval.view_of new)) c.sweep_round.result (λ sweep round. swept_of kinds.Interval z c.args.long (view_in kinds.Interval old) (interval.view_of new) sweep round) c.sweep_round.ensures.round)
+    (if_ok (λ sweep. IsRoundBy kinds.Interval z c.args.long (view_in kinds.Interval old) sweep (interval.view_of new))
+    (λ sweep. HasSwept kinds.Interval z.sessions (view_in kinds.Interval old) sweep (interval.view_of new)) c.sweep_round.result
+    (λ sweep round. swept_of kinds.Interval z c.args.long (view_in kinds.Interval old) (interval.view_of new) sweep round) c.sweep_round.ensures.round)
 
 pub returns-in-Interval-clause-removed : goal.returns-in-Interval-clause-removed
 returns-in-Interval-clause-removed g c =
     let z = lent_sizes c.args.lent.now in
     let old = c.args.self.now in
     let new = c.sweep_round.new.worker in
-    if_ok (λ sweep. IsRoundBy kinds.Interval z c.args.long (view_in kinds.Interval old) sweep (interval.view_of new)) (λ sweep. (k : Kind) → removed_of k (record old { interval = new }) ≡ removed_of k old + swept_by k sweep) c.sweep_round.result (λ sweep round. removed_interval z c.args.long old new sweep round) c.sweep_round.ensures.round
+    if_ok (λ sweep. IsRoundBy kinds.Interval z c.args.long (view_in kinds.Interval old) sweep (interval.view_of new)) (λ sweep. (k : Kind) →
+    removed_of k (record old { interval = new }) ≡ removed_of k old + swept_by k sweep) c.sweep_round.result
+    (λ sweep round. removed_interval z c.args.long old new sweep round) c.sweep_round.ensures.round
 
 pub returns-in-Group-clause-own : goal.returns-in-Group-clause-own
 returns-in-Group-clause-own g c =
