@@ -2,4 +2,4 @@
 pub mod Looking
 -- The text of rows, and the rows of all tables.
 pub mod Texts
-pub mod Tables
+pub mod Fetches

@@ -121,7 +121,8 @@ by_answer count n v table low high (Ok rows) w k = looks_at count v table low hi
 by_answer count n v table low high (Err e) w k = looks_at count v table low high w k
 
 -- a fetch looks
-pub looks_fetched : (count n : ℕ) (v : View) (table : TableId) (rest : Option ℕ) (high : ℕ) (answer : Result Rows NoMemory) (w : View) → HasOnlySession v → FetchesRest count n v table rest high answer w → Looks v w
+pub looks_fetched : (count n : ℕ) (v : View) (table : TableId) (rest : Option ℕ) (high : ℕ) (answer : Result Rows NoMemory) (w : View) → HasOnlySession v →
+    FetchesRest count n v table rest high answer w → Looks v w
 looks_fetched count n v table None high answer w only k = subst (Looks v) (sym k.1) (looks_none v only)
 looks_fetched count n v table (Some low) high answer w only k = by_answer count n v table low high answer w k
 

@@ -19,11 +19,13 @@ kept_append : (table : TableId) (xs ys : Rows) → kept_in table (xs ++ ys) ≡ 
 kept_append table xs ys = map-append _ xs ys
 
 -- some rows, and then others
-pub text_more : (tables : List Declaration) (before mid after : List ℕ) (xs ys : List Kept) → mid ≡ before ++ puts_bytes tables xs → after ≡ mid ++ puts_bytes tables ys → after ≡ before ++ puts_bytes tables (xs ++ ys)
+pub text_more : (tables : List Declaration) (before mid after : List ℕ) (xs ys : List Kept) → mid ≡ before ++ puts_bytes tables xs → after ≡ mid ++ puts_bytes tables ys →
+    after ≡ before ++ puts_bytes tables (xs ++ ys)
 text_more tables before mid after xs ys e f =
     f ∙ ap (λ (t : List ℕ). t ++ puts_bytes tables ys) e ∙ append_assoc before (puts_bytes tables xs) (puts_bytes tables ys) ∙ ap (λ (t : List ℕ). before ++ t) (sym (puts_append tables xs ys))
 
-pub table_text_more : (tables : List Declaration) (table : TableId) (before mid after : List ℕ) (xs ys : Rows) → mid ≡ before ++ puts_bytes tables (kept_in table xs) → after ≡ mid ++ puts_bytes tables (kept_in table ys) → after ≡ before ++ puts_bytes tables (kept_in table (xs ++ ys))
+pub table_text_more : (tables : List Declaration) (table : TableId) (before mid after : List ℕ) (xs ys : Rows) → mid ≡ before ++ puts_bytes tables (kept_in table xs) →
+    after ≡ mid ++ puts_bytes tables (kept_in table ys) → after ≡ before ++ puts_bytes tables (kept_in table (xs ++ ys))
 table_text_more tables table before mid after xs ys e f =
     text_more tables before mid after (kept_in table xs) (kept_in table ys) e f ∙ ap (λ rows. before ++ puts_bytes tables rows) (sym (kept_append table xs ys))
 
@@ -32,7 +34,8 @@ pub text_none : (tables : List Declaration) (before : List ℕ) → before ≡ b
 text_none tables before = sym (append-nil before)
 
 -- the heading, and then the puts
-pub text_all : (script : Script) (before mid after : List ℕ) (rows : List Kept) → mid ≡ before ++ flat_map record_bytes (heading script) → after ≡ mid ++ puts_bytes script.tables rows → after ≡ before ++ dump_text script rows
+pub text_all : (script : Script) (before mid after : List ℕ) (rows : List Kept) → mid ≡ before ++ flat_map record_bytes (heading script) →
+    after ≡ mid ++ puts_bytes script.tables rows → after ≡ before ++ dump_text script rows
 text_all script before mid after rows e f =
     f ∙ ap (λ (t : List ℕ). t ++ puts_bytes script.tables rows) e ∙ append_assoc before (flat_map record_bytes (heading script)) (puts_bytes script.tables rows)
     ∙ ap (λ (t : List ℕ). before ++ t) (sym (flat_map-append record_bytes (heading script) (map (put_fields script.tables) rows)))

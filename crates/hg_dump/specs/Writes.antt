@@ -16,7 +16,7 @@ use Rattle.hg_cursor.specs.Logs.{GoesOn}
 use Rattle.hg_csv.specs.Bytes.{record_bytes}
 use Rattle.hg_source.specs.Records.{dump_text, put_fields}
 use Rattle.hg_source.specs.Rows.{AreRowsAt, Kept, kept_in}
-use Rattle.hg_dump.specs.declared.reading.TheConstants.{FETCHED}
+use Rattle.hg_dump.specs.declared.tables.TheConstants.{FETCHED}
 
 -- the puts of rows
 abbrev pub puts_bytes : List Declaration → List Kept → List ℕ

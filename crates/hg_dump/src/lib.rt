@@ -13,7 +13,9 @@
 //! export holds its text and one fetch, never a whole table's rows.
 #![tactic(auto)]
 
-mod exporting;
-mod reading;
+mod exports;
+mod tables;
+mod tools;
 
-pub use exporting::export;
+pub use exports::export;
+pub use tools::Tools;

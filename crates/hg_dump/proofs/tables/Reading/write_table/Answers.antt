@@ -6,21 +6,23 @@ use Rattle.hg_cursor.specs.Cursors.{table_of, rest_of}
 use Rattle.hg_cursor.specs.Logs.{ReadsAt}
 use Rattle.hg_dump.specs.Readings.{store_in, script_in, at_in}
 use Rattle.hg_dump.proofs.Looking.{looks_more, reading_on, reads_table}
-use Rattle.hg_dump.proofs.Tables.{so_far_more, table_whole}
-use Rattle.hg_dump.proofs.reading.Reading.write_table.Goals as goal
+use Rattle.hg_dump.proofs.Fetches.{so_far_more, table_whole}
+use Rattle.hg_dump.proofs.tables.Reading.write_table.Goals as goal
 
 pub write_rows-requires-clause-reads : goal.write_rows-requires-clause-reads
 write_rows-requires-clause-reads g c =
     let at = at_in c.args.self.now in
     let w = session_view c.loop.pass in
-    subst (λ a. ReadsAt a (table_of c.loop.cursor) w) (sym c.loop.invariant.so_far.at_is) (reads_table at w (table_of c.loop.cursor) (reading_on at (session_view c.args.pass.now) w c.requires.reads c.loop.invariant.looks))
+    subst (λ a. ReadsAt a (table_of c.loop.cursor) w) (sym c.loop.invariant.so_far.at_is)
+    (reads_table at w (table_of c.loop.cursor) (reading_on at (session_view c.args.pass.now) w c.requires.reads c.loop.invariant.looks))
 
 pub loop-preserved : goal.loop-preserved
 loop-preserved g c =
     let v = session_view c.loop.pass in
     let w = session_view c.write_rows.new.pass in
     record {
-      so_far = so_far_more (script_in c.args.self.now).tables (store_buckets (store_in c.args.self.now)) (at_in c.args.self.now) c.args.table c.loop.cursor c.write_rows.new.cursor v w c.args.into.now.items c.loop.into.items c.write_rows.new.into.items
+      so_far = so_far_more (script_in c.args.self.now).tables (store_buckets (store_in c.args.self.now))
+          (at_in c.args.self.now) c.args.table c.loop.cursor c.write_rows.new.cursor v w c.args.into.now.items c.loop.into.items c.write_rows.new.into.items
           c.loop.invariant.so_far c.write_rows.ensures.looks c.in_ok-write_rows.ensures.rows;
       looks = looks_more (session_view c.args.pass.now) v w c.loop.invariant.looks c.write_rows.ensures.looks;
       own = c.write_rows.ensures.own;
@@ -32,7 +34,8 @@ returns-in_err-write_rows-clause-looks g c = looks_more (session_view c.args.pas
 pub returns-clause-rows : goal.returns-clause-rows
 returns-clause-rows g c =
     let done : is_none (rest_of c.loop.cursor) ≡ true = search rules in
-    table_whole (script_in c.args.self.now).tables (store_buckets (store_in c.args.self.now)) (at_in c.args.self.now) c.args.table c.loop.cursor (session_view c.loop.pass) c.args.into.now.items c.loop.into.items c.loop.invariant.so_far done
+    table_whole (script_in c.args.self.now).tables (store_buckets (store_in c.args.self.now)) (at_in c.args.self.now) c.args.table c.loop.cursor
+    (session_view c.loop.pass) c.args.into.now.items c.loop.into.items c.loop.invariant.so_far done
 
 pub returns-clause-reads : goal.returns-clause-reads
 returns-clause-reads g c = reading_on (at_in c.args.self.now) (session_view c.args.pass.now) (session_view c.loop.pass) c.requires.reads c.loop.invariant.looks

@@ -3,14 +3,15 @@ use Rattle.hg_rule.specs.Seats.{session_view}
 use Rattle.hg_store.specs.Stores.{store_buckets}
 use Rattle.hg_dump.specs.Readings.{store_in, script_in, at_in}
 use Rattle.hg_dump.proofs.Looking.{looks_more, reading_on}
-use Rattle.hg_dump.proofs.Tables.{tables_more}
-use Rattle.hg_dump.proofs.reading.Reading.write_tables.Goals as goal
+use Rattle.hg_dump.proofs.Fetches.{tables_more}
+use Rattle.hg_dump.proofs.tables.Reading.write_tables.Goals as goal
 
 pub write_table-requires-clause-reads : goal.write_table-requires-clause-reads
 write_table-requires-clause-reads g c = reading_on (at_in c.args.self.now) (session_view c.args.pass.now) (session_view c.loop-i.pass) c.requires.reads c.loop-i.invariant.looks
 
 pub returns-in_err-write_table-clause-looks : goal.returns-in_err-write_table-clause-looks
-returns-in_err-write_table-clause-looks g c = looks_more (session_view c.args.pass.now) (session_view c.loop-i.pass) (session_view c.write_table.new.pass) c.loop-i.invariant.looks c.write_table.ensures.looks
+returns-in_err-write_table-clause-looks g c = looks_more (session_view c.args.pass.now) (session_view c.loop-i.pass)
+    (session_view c.write_table.new.pass) c.loop-i.invariant.looks c.write_table.ensures.looks
 
 pub loop-i-preserved : goal.loop-i-preserved
 loop-i-preserved g c =
@@ -19,7 +20,8 @@ loop-i-preserved g c =
     let tables = (script_in c.args.self.now).tables in
     let less : c.loop-i.i < length tables = search rules in
     record {
-      written = tables_more tables (store_buckets (store_in c.args.self.now)) (at_in c.args.self.now) c.loop-i.i v w c.args.into.now.items c.loop-i.into.items c.write_table.new.into.items less c.write_table.ensures.looks
+      written = tables_more tables (store_buckets (store_in c.args.self.now)) (at_in c.args.self.now) c.loop-i.i v w c.args.into.now.items c.loop-i.into.items
+          c.write_table.new.into.items less c.write_table.ensures.looks
           c.loop-i.invariant.written c.in_ok-write_table.ensures.rows;
       looks = looks_more (session_view c.args.pass.now) v w c.loop-i.invariant.looks c.write_table.ensures.looks;
       own = c.write_table.ensures.own;

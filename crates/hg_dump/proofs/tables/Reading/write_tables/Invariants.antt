@@ -4,12 +4,13 @@ use Rattle.hg_store.specs.Stores.{store_buckets}
 use Rattle.hg_dump.specs.Exports.{Looks}
 use Rattle.hg_dump.specs.Readings.{board_in, store_in, script_in, at_in}
 use Rattle.hg_dump.specs.Writes.{HasWrittenTables}
-use Rattle.hg_dump.proofs.reading.Reading.write_tables.Given as goal
+use Rattle.hg_dump.proofs.tables.Reading.write_tables.Given as goal
 
 -- the rows of the tables so far are there
 abbrev pub invariant-loop-i : goal.invariant-loop-i
 invariant-loop-i g l = record {
-  written : HasWrittenTables (script_in l.fn.self).tables (take l.i (script_in l.fn.self).tables) (store_buckets (store_in l.fn.self)) (at_in l.fn.self) (session_view l.pass) l.fn.into.items l.into.items;
+  written : HasWrittenTables (script_in l.fn.self).tables (take l.i (script_in l.fn.self).tables) (store_buckets (store_in l.fn.self)) (at_in l.fn.self)
+      (session_view l.pass) l.fn.into.items l.into.items;
   looks : Looks (session_view l.fn.pass) (session_view l.pass);
   own : IsSessionOf (board_id (board_in l.fn.self)) (sizes_of (board_in l.fn.self)) l.pass;
 }

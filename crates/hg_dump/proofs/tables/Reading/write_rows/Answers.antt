@@ -3,19 +3,21 @@ use Rattle.hg_rule.specs.Seats.{session_view}
 use Rattle.hg_store.specs.Stores.{store_buckets}
 use Rattle.hg_cursor.specs.Cursors.{table_of, high_of, rest_of}
 use Rattle.hg_source.specs.Rows.{kept_in}
-use Rattle.hg_dump.specs.declared.reading.TheConstants.{FETCHED}
+use Rattle.hg_dump.specs.declared.tables.TheConstants.{FETCHED}
 use Rattle.hg_dump.specs.Readings.{store_in, script_in}
 use Rattle.hg_dump.specs.Writes.{puts_bytes}
 use Rattle.hg_dump.proofs.Looking.{looks_fetched}
-use Rattle.hg_dump.proofs.reading.Reading.write_rows.Goals as goal
+use Rattle.hg_dump.proofs.tables.Reading.write_rows.Goals as goal
 
 pub returns-in_err-rows-clause-looks : goal.returns-in_err-rows-clause-looks
 returns-in_err-rows-clause-looks g c =
-    looks_fetched (store_buckets (store_in c.args.self.now)) FETCHED (session_view c.args.pass.now) (table_of c.args.cursor.now) (rest_of c.args.cursor.now) (high_of c.args.cursor.now) _ (session_view c.fetch.new.pass) c.requires.reads.only c.fetch.ensures.looks
+    looks_fetched (store_buckets (store_in c.args.self.now)) FETCHED (session_view c.args.pass.now) (table_of c.args.cursor.now) (rest_of c.args.cursor.now)
+    (high_of c.args.cursor.now) _ (session_view c.fetch.new.pass) c.requires.reads.only c.fetch.ensures.looks
 
 pub returns-in_err-puts_text-clause-looks : goal.returns-in_err-puts_text-clause-looks
 returns-in_err-puts_text-clause-looks g c =
-    looks_fetched (store_buckets (store_in c.args.self.now)) FETCHED (session_view c.args.pass.now) (table_of c.args.cursor.now) (rest_of c.args.cursor.now) (high_of c.args.cursor.now) _ (session_view c.fetch.new.pass) c.requires.reads.only c.fetch.ensures.looks
+    looks_fetched (store_buckets (store_in c.args.self.now)) FETCHED (session_view c.args.pass.now) (table_of c.args.cursor.now) (rest_of c.args.cursor.now)
+    (high_of c.args.cursor.now) _ (session_view c.fetch.new.pass) c.requires.reads.only c.fetch.ensures.looks
 
 pub returns-clause-rows : goal.returns-clause-rows
 returns-clause-rows g c = record {
@@ -27,4 +29,5 @@ returns-clause-rows g c = record {
 
 pub returns-clause-looks : goal.returns-clause-looks
 returns-clause-looks g c =
-    looks_fetched (store_buckets (store_in c.args.self.now)) FETCHED (session_view c.args.pass.now) (table_of c.args.cursor.now) (rest_of c.args.cursor.now) (high_of c.args.cursor.now) _ (session_view c.fetch.new.pass) c.requires.reads.only c.fetch.ensures.looks
+    looks_fetched (store_buckets (store_in c.args.self.now)) FETCHED (session_view c.args.pass.now) (table_of c.args.cursor.now) (rest_of c.args.cursor.now)
+    (high_of c.args.cursor.now) _ (session_view c.fetch.new.pass) c.requires.reads.only c.fetch.ensures.looks

@@ -1,5 +1,6 @@
 -- The rows of the fetches of a table, and those of all tables.
-use Rattle.std.proofs.Common.{◌≡◌, ◌<◌, ◌≤◌, ◌+◌, ◌^◌, ◌⊎◌, ◌∙◌, ℕ, List, [], ◌∷◌, ◌++◌, length, map, take, Bool, true, ◌==◌, ◌&&◌, nat_lt, Option, Some, None, inl, inr, refl, sym, ap, subst, arith, append_assoc}
+use Rattle.std.proofs.Common.{◌≡◌, ◌<◌, ◌≤◌, ◌+◌, ◌^◌, ◌⊎◌, ◌∙◌, ℕ, List, [], ◌∷◌, ◌++◌, length, map, take, Bool, true, ◌==◌, ◌&&◌, nat_lt, Option, Some, None, inl, inr, refl, sym, ap}
+use Rattle.std.proofs.Common.{subst, arith, append_assoc}
 use Rattle.std.specs.Prelude.{Contains, IsTrue, is_none}
 use Rattle.std.specs.List.{list_any}
 use Rattle.std.proofs.lemmas.Bool.{eqb-true, false≢true}
@@ -25,7 +26,7 @@ use Rattle.hg_cursor.specs.Logs.{GoesOn}
 use Rattle.hg_cursor.proofs.Joining.{given_all, given_none}
 use Rattle.hg_source.specs.Rows.{AreAscending, AreRowsAt, Kept, kept_in}
 use Rattle.hg_source.proofs.Ordered.{contains_first, contains_later}
-use Rattle.hg_dump.specs.declared.reading.TheConstants.{FETCHED}
+use Rattle.hg_dump.specs.declared.tables.TheConstants.{FETCHED}
 use Rattle.hg_dump.specs.Exports.{Looks}
 use Rattle.hg_dump.specs.Writes.{HasWritten, HasWrittenTable, HasWrittenTables, last_of_all, puts_bytes}
 use Rattle.hg_dump.proofs.Looking.{goes_back}
@@ -42,11 +43,13 @@ pub record IsSoFar (tables : List Declaration) (buckets at : ℕ) (table : Table
   pub high_is : high_of cursor ≡ last_of_all
   pub fetched : (h : History) (logs : ℕ → List LogEntry) → GoesOn buckets w h logs → Fetched (shown_at h table at) last_of_all (begins_at 0 last_of_all) fetches (rest_of cursor)
 
-pub so_far_none : (tables : List Declaration) (buckets at : ℕ) (table : TableId) (cursor : Cursor) (w : View) (before : List ℕ) → at_of cursor ≡ at → table_of cursor ≡ table → high_of cursor ≡ last_of_all
+pub so_far_none : (tables : List Declaration) (buckets at : ℕ) (table : TableId) (cursor : Cursor) (w : View) (before : List ℕ) → at_of cursor ≡ at → table_of cursor ≡ table →
+    high_of cursor ≡ last_of_all
     → rest_of cursor ≡ begins_at 0 last_of_all → IsSoFar tables buckets at table cursor w before before
 so_far_none tables buckets at table cursor w before a t h r = record { fetches = []; text = text_none tables before; at_is = a; table_is = t; high_is = h; fetched = λ hs logs g. r }
 
-fetched_more : (look : ℕ → Image) (high n : ℕ) (from : Option ℕ) (fetches : List (ℕ × Rows)) (rest : Option ℕ) (rows : Rows) → 0 < n → Fetched look high from fetches rest → AreFirstOf look n rest high rows
+fetched_more : (look : ℕ → Image) (high n : ℕ) (from : Option ℕ) (fetches : List (ℕ × Rows)) (rest : Option ℕ) (rows : Rows) → 0 < n → Fetched look high from fetches rest →
+    AreFirstOf look n rest high rows
     → Fetched look high from (fetches ++ (n, rows) ∷ []) (goes_on n high rows rest)
 fetched_more look high n from [] rest rows some f a = (some, subst (λ o. AreFirstOf look n o high rows) f a, ap (goes_on n high rows) f)
 fetched_more look high n from (x ∷ fetches) rest rows some f a = (f.0, f.1, fetched_more look high n (goes_on x.0 high x.1 from) fetches rest rows some f.2 a)
@@ -56,12 +59,14 @@ joined_more [] n rows = append-nil rows
 joined_more (x ∷ fetches) n rows = ap (λ rs. x.1 ++ rs) (joined_more fetches n rows) ∙ sym (append_assoc x.1 (joined fetches) rows)
 
 -- one fetch more
-pub so_far_more : (tables : List Declaration) (buckets at : ℕ) (table : TableId) (old new : Cursor) (v w : View) (before mid after : List ℕ) → IsSoFar tables buckets at table old v before mid → Looks v w
+pub so_far_more : (tables : List Declaration) (buckets at : ℕ) (table : TableId) (old new : Cursor) (v w : View) (before mid after : List ℕ) →
+    IsSoFar tables buckets at table old v before mid → Looks v w
     → HasWritten tables buckets old new w mid after → IsSoFar tables buckets at table new w before after
 so_far_more tables buckets at table old new v w before mid after s k m =
     let text = subst (λ t. after ≡ mid ++ puts_bytes tables (kept_in t m.rows)) s.table_is m.text in record {
       fetches = s.fetches ++ (FETCHED, m.rows) ∷ [];
-      text = subst (λ rows. after ≡ before ++ puts_bytes tables (kept_in table rows)) (sym (joined_more s.fetches FETCHED m.rows)) (table_text_more tables table before mid after (joined s.fetches) m.rows s.text text);
+      text = subst (λ rows. after ≡ before ++ puts_bytes tables (kept_in table rows)) (sym (joined_more s.fetches FETCHED m.rows))
+          (table_text_more tables table before mid after (joined s.fetches) m.rows s.text text);
       at_is = m.moved.0 ∙ s.at_is;
       table_is = m.moved.1 ∙ s.table_is;
       high_is = m.moved.2 ∙ s.high_is;
@@ -79,7 +84,8 @@ nothing_left None e = refl
 nothing_left (Some k) e = absurd (false≢true e)
 
 -- the cursor is done
-pub table_whole : (tables : List Declaration) (buckets at : ℕ) (table : TableId) (cursor : Cursor) (w : View) (before after : List ℕ) → IsSoFar tables buckets at table cursor w before after → is_none (rest_of cursor) ≡ true
+pub table_whole : (tables : List Declaration) (buckets at : ℕ) (table : TableId) (cursor : Cursor) (w : View) (before after : List ℕ) →
+    IsSoFar tables buckets at table cursor w before after → is_none (rest_of cursor) ≡ true
     → HasWrittenTable tables buckets at table w before after
 table_whole tables buckets at table cursor w before after s done = record {
   rows = joined s.fetches;
@@ -144,13 +150,15 @@ module _ (h : History) (at i : ℕ) where
       let row : p.1 ≡ kept.row = cc both in
       rw (rid, row) refl
 
-  found : (rows : Rows) (kept : Kept) → kept.rid.table.0 ≡ i → (visible h kept.rid at).row ≡ Some kept.row → Each IsRow rows → IsTrue (list_any (λ p. p.0 == kept.rid.key) rows) → Contains (kept_in (table_number i) rows) kept
+  found : (rows : Rows) (kept : Kept) → kept.rid.table.0 ≡ i → (visible h kept.rid at).row ≡ Some kept.row → Each IsRow rows → IsTrue (list_any (λ p. p.0 == kept.rid.key) rows) →
+      Contains (kept_in (table_number i) rows) kept
   found [] kept t is e m = absurd (false≢true m)
   found (p ∷ rows) kept t is e m = cases (p.0 == kept.rid.key)
       (λ same. subst (λ x. Contains (kept_in (table_number i) (p ∷ rows)) x) (same_kept kept p t (eqb-true p.0 kept.rid.key same) e.0.2 is) (contains_first _ (kept_in (table_number i) rows)))
       (λ other. contains_later _ (kept_in (table_number i) rows) kept (found rows kept t is e.1 (rw other at m)))
 
-  by_key : (rows : Rows) (kept : Kept) → kept.rid.table.0 ≡ i → (visible h kept.rid at).row ≡ Some kept.row → Each IsRow rows → IsTrue (list_any (λ p. p.0 == kept.rid.key) rows) ⊎ ((shown kept.rid.key).row ≡ None)
+  by_key : (rows : Rows) (kept : Kept) → kept.rid.table.0 ≡ i → (visible h kept.rid at).row ≡ Some kept.row → Each IsRow rows →
+      IsTrue (list_any (λ p. p.0 == kept.rid.key) rows) ⊎ ((shown kept.rid.key).row ≡ None)
       → Contains (kept_in (table_number i) rows) kept
   by_key rows kept t is e (inl m) = found rows kept t is e m
   by_key rows kept t is e (inr none) =
@@ -182,7 +190,8 @@ module _ (h : History) (at i : ℕ) where
   tables_below : (tables : List Declaration) (n : ℕ) (xs : List Kept) → length tables ≡ n → AreRowsAt tables h at xs → AreBelow n xs
   tables_below tables n xs e a = subst (λ k. AreBelow k xs) e (record { ascend = a.ascend; each = a.each; every = a.every })
 
-  rows_more : (tables : List Declaration) (xs : List Kept) (rows : Rows) → i < length tables → AreRowsAt (take i tables) h at xs → AreRows shown 0 last_of_all rows → AreRowsAt (take (i + 1) tables) h at (xs ++ kept_in (table_number i) rows)
+  rows_more : (tables : List Declaration) (xs : List Kept) (rows : Rows) → i < length tables → AreRowsAt (take i tables) h at xs → AreRows shown 0 last_of_all rows →
+      AreRowsAt (take (i + 1) tables) h at (xs ++ kept_in (table_number i) rows)
   rows_more tables xs rows less a b =
       below_tables (take (i + 1) tables) (xs ++ kept_in (table_number i) rows)
       (subst (λ n. AreBelow n (xs ++ kept_in (table_number i) rows)) (sym (length-take-le (i + 1) tables (omega (arith, less))))
@@ -196,7 +205,8 @@ pub tables_none : (tables : List Declaration) (buckets at : ℕ) (w : View) (bef
 tables_none tables buckets at w before = record { rows = []; text = text_none tables before; all = λ h logs g. none_at tables h at }
 
 -- one table more
-pub tables_more : (tables : List Declaration) (buckets at i : ℕ) (v w : View) (before mid after : List ℕ) → i < length tables → Looks v w → HasWrittenTables tables (take i tables) buckets at v before mid
+pub tables_more : (tables : List Declaration) (buckets at i : ℕ) (v w : View) (before mid after : List ℕ) → i < length tables → Looks v w →
+    HasWrittenTables tables (take i tables) buckets at v before mid
     → HasWrittenTable tables buckets at (record { 0 = i }) w mid after → HasWrittenTables tables (take (i + 1) tables) buckets at w before after
 tables_more tables buckets at i v w before mid after less k s m = record {
   rows = s.rows ++ kept_in (record { 0 = i }) m.rows;
@@ -204,5 +214,6 @@ tables_more tables buckets at i v w before mid after less k s m = record {
   all = λ h logs g. rows_more h at i tables s.rows m.rows less (s.all h logs (goes_back buckets v w h logs k g)) (m.all h logs g);
 }
 
-pub tables_all : (tables : List Declaration) (buckets at i : ℕ) (w : View) (before after : List ℕ) → length tables ≤ i → HasWrittenTables tables (take i tables) buckets at w before after → HasWrittenTables tables tables buckets at w before after
+pub tables_all : (tables : List Declaration) (buckets at i : ℕ) (w : View) (before after : List ℕ) → length tables ≤ i →
+    HasWrittenTables tables (take i tables) buckets at w before after → HasWrittenTables tables tables buckets at w before after
 tables_all tables buckets at i w before after over s = subst (λ ds. HasWrittenTables tables ds buckets at w before after) (take_all i tables over) s

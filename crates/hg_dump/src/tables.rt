@@ -10,29 +10,27 @@ ghost use Rattle.hg_dump.specs.Exports.{IsReading, Looks};
 ghost use Rattle.hg_dump.specs.Writes.{HasWritten, HasWrittenAll, HasWrittenTable, HasWrittenTables};
 
 use hg_base::{NoMemory, TableId};
-use hg_cursor::Cursor;
-use hg_rule::{Board, SessionPass};
+use hg_cursor::{Cursor, Tables};
+use hg_rule::SessionPass;
 use hg_script::Script;
 use hg_source::{heading_text, puts_text};
-use hg_store::Store;
 use std::alloc::Global;
 use std::sync::Wait;
 
 /// A fetch asks for so many rows.
 pub const FETCHED: u32 = 1_024;
 
-/// A snapshot of the buckets of a board, and the script whose tables are read.
+/// The tables that are read, the script that declares them, and the snapshot at which they are read.
 #[derive(Drop)]
 pub(crate) struct Reading<'a> {
     pub(crate) alloc: Global,
-    pub(crate) board: &'a Board,
-    pub(crate) store: &'a Store,
+    pub(crate) tables: Tables<'a>,
     pub(crate) script: &'a Script,
     pub(crate) at: u64,
 }
 
 impl<'a> Reading<'a> {
-    ghost use Rattle.hg_dump.specs.Readings.{IsOfBoard, board_in, store_in, script_in, at_in};
+    ghost use Rattle.hg_dump.specs.Readings.{board_in, store_in, script_in, at_in};
 
     // The next rows of a cursor, as puts.
     fn write_rows<R: Wait>(
@@ -43,20 +41,20 @@ impl<'a> Reading<'a> {
         pass: &mut SessionPass,
         into: &mut Vec<u8>,
     ) -> Result<(), NoMemory>
-        requires board { IsOfBoard self.now }
         requires own { IsSessionOf (board_id (board_in self.now)) (sizes_of (board_in self.now))
             pass.old }
         requires reads { ReadsAt (at_of cursor.old) (table_of cursor.old) (session_view pass.old) }
         requires table { table_of cursor.old ≡ table }
-        ensures rows { OnOk result (HasWritten (script_in self.now).tables (store_buckets (store_in self.now))
-            cursor.old cursor.new (session_view pass.new) into.old.items into.new.items) }
+        ensures rows { OnOk result (HasWritten (script_in self.now).tables
+            (store_buckets (store_in self.now)) cursor.old cursor.new (session_view pass.new)
+            into.old.items into.new.items) }
         ensures starts { StartsWith into.new.items into.old.items }
         ensures looks { Looks (session_view pass.old) (session_view pass.new) }
         ensures reads { ReadsAt (at_of cursor.old) (table_of cursor.old) (session_view pass.new) }
         ensures own { IsSessionOf (board_id (board_in self.now)) (sizes_of (board_in self.now))
             pass.new }
     {
-        let rows = cursor.fetch(rt, self.alloc, self.board, self.store, pass, FETCHED)?;
+        let rows = cursor.fetch(rt, self.alloc, &self.tables, pass, FETCHED)?;
         puts_text(self.alloc, self.script, table, rows.as_slice(), into)?;
         Ok(())
     }
@@ -69,12 +67,12 @@ impl<'a> Reading<'a> {
         pass: &mut SessionPass,
         into: &mut Vec<u8>,
     ) -> Result<(), NoMemory>
-        requires board { IsOfBoard self.now }
         requires own { IsSessionOf (board_id (board_in self.now)) (sizes_of (board_in self.now))
             pass.old }
         requires reads { IsReading (at_in self.now) (session_view pass.old) }
-        ensures rows { OnOk result (HasWrittenTable (script_in self.now).tables (store_buckets (store_in self.now))
-            (at_in self.now) table (session_view pass.new) into.old.items into.new.items) }
+        ensures rows { OnOk result (HasWrittenTable (script_in self.now).tables
+            (store_buckets (store_in self.now)) (at_in self.now) table (session_view pass.new)
+            into.old.items into.new.items) }
         ensures starts { StartsWith into.new.items into.old.items }
         ensures looks { Looks (session_view pass.old) (session_view pass.new) }
         ensures reads { IsReading (at_in self.now) (session_view pass.new) }
@@ -98,12 +96,12 @@ impl<'a> Reading<'a> {
         pass: &mut SessionPass,
         into: &mut Vec<u8>,
     ) -> Result<(), NoMemory>
-        requires board { IsOfBoard self.now }
         requires own { IsSessionOf (board_id (board_in self.now)) (sizes_of (board_in self.now))
             pass.old }
         requires reads { IsReading (at_in self.now) (session_view pass.old) }
-        ensures rows { OnOk result (HasWrittenTables (script_in self.now).tables (script_in self.now).tables
-            (store_buckets (store_in self.now)) (at_in self.now) (session_view pass.new) into.old.items into.new.items) }
+        ensures rows { OnOk result (HasWrittenTables (script_in self.now).tables
+            (script_in self.now).tables (store_buckets (store_in self.now)) (at_in self.now)
+            (session_view pass.new) into.old.items into.new.items) }
         ensures starts { StartsWith into.new.items into.old.items }
         ensures looks { Looks (session_view pass.old) (session_view pass.new) }
         ensures reads { IsReading (at_in self.now) (session_view pass.new) }
@@ -123,12 +121,12 @@ impl<'a> Reading<'a> {
         pass: &mut SessionPass,
         into: &mut Vec<u8>,
     ) -> Result<(), NoMemory>
-        requires board { IsOfBoard self.now }
         requires own { IsSessionOf (board_id (board_in self.now)) (sizes_of (board_in self.now))
             pass.old }
         requires reads { IsReading (at_in self.now) (session_view pass.old) }
-        ensures rows { OnOk result (HasWrittenAll (script_in self.now) (store_buckets (store_in self.now))
-            (at_in self.now) (session_view pass.new) into.old.items into.new.items) }
+        ensures rows { OnOk result (HasWrittenAll (script_in self.now)
+            (store_buckets (store_in self.now)) (at_in self.now) (session_view pass.new)
+            into.old.items into.new.items) }
         ensures starts { StartsWith into.new.items into.old.items }
         ensures looks { Looks (session_view pass.old) (session_view pass.new) }
         ensures reads { IsReading (at_in self.now) (session_view pass.new) }

@@ -1,0 +1,31 @@
+use Rattle.std.proofs.Common.{◌≡◌, ◌∙◌, ◌++◌, false, ap, rules}
+use Rattle.std.specs.Prelude.{is_err}
+use Rattle.hg_rule.specs.Seats.{session_view}
+use Rattle.hg_store.specs.Stores.{store_buckets}
+use Rattle.hg_source.specs.Records.{dump_text}
+use Rattle.hg_source.proofs.Shown.{is_the_list}
+use Rattle.hg_dump.proofs.Looking.{goes_before_end, has_read, none_open, of_ok}
+use Rattle.hg_dump.proofs.exports.export.Goals as goal
+
+pub end-requires-clause-none : goal.end-requires-clause-none
+end-requires-clause-none g c = λ rid. none_open c.begin-at.result.at (session_view c.write_all-written.new.pass) rid c.write_all-written.ensures.reads
+
+pub returns-clause-text : goal.returns-clause-text
+returns-clause-text g c =
+    let fine : is_err c.write_all-written.result ≡ false = search rules in
+    let m = of_ok c.write_all-written.result fine c.write_all-written.ensures.rows in
+    λ h logs on. m.text ∙ ap (λ rows. c.args.into.now.items ++ dump_text c.args.tools.now.script.now rows)
+    ((is_the_list c.args.tools.now.script.now.tables h c.begin-at.result.at m.rows).0
+    (m.all h logs (goes_before_end (session_view c.write_all-written.new.pass) (session_view c.end.new.pass) c.write_all-written.ensures.reads.only c.end.ensures.step
+    (store_buckets c.args.tools.now.store.now) h logs on)))
+
+pub returns-clause-read : goal.returns-clause-read
+returns-clause-read g c = has_read (session_view c.args.pass.now) (session_view c.begin-at.new.pass) (session_view c.write_all-written.new.pass)
+    (session_view c.end.new.pass) c.begin-at.result.at c.requires.own.rests c.begin-at.ensures.begun c.write_all-written.ensures.looks c.end.ensures.step
+
+pub returns-then-is_err-clause-read : goal.returns-then-is_err-clause-read
+returns-then-is_err-clause-read g c = (
+  c.begin-at.result.at,
+  has_read (session_view c.args.pass.now) (session_view c.begin-at.new.pass) (session_view c.write_all-written.new.pass)
+      (session_view c.end.new.pass) c.begin-at.result.at c.requires.own.rests c.begin-at.ensures.begun c.write_all-written.ensures.looks c.end.ensures.step,
+)
