@@ -1,5 +1,6 @@
 -- Sessions go to a collector's pass, one after the other.
-use Rattle.std.proofs.Common.{◌≡◌, ℕ, zero, suc, ◌+◌, ◌<◌, Bool, true, false, eqb, List, [], ◌∷◌, ◌++◌, length, map, refl, sym, ap, ◌∙◌, subst, inl, inr, arith, append_assoc, append-nil, eq-eqb, ne_eqb}
+use Rattle.std.proofs.Common.{◌≡◌, ℕ, zero, suc, ◌+◌, ◌<◌, Bool, true, false, eqb, List, [], ◌∷◌, ◌++◌, length, map, refl, sym, ap, ◌∙◌, subst, inl, inr, arith, append_assoc, append-nil}
+use Rattle.std.proofs.Common.{eq-eqb, ne_eqb}
 use Rattle.std.specs.Prelude.{get_or, max}
 use Rattle.hg_base.specs.Lists.{Each}
 use Rattle.hg_core.specs.declared.phase.Phase.TheVariants as phases
@@ -10,7 +11,7 @@ use Rattle.hg_rule.specs.declared.view.Part.TheVariants.{OfSession, OfPass}
 use Rattle.hg_rule.specs.declared.view.Sight.{Sight}
 use Rattle.hg_rule.specs.declared.view.View.{View}
 use Rattle.hg_rule.specs.Keys.{session_key, pass_key, has, one, count, shares}
-use Rattle.hg_rule.specs.Facts.{StartsWith, IsAmong, new_part}
+use Rattle.hg_rule.specs.Facts.{IsAmong, new_part, IsHeard}
 use Rattle.hg_rule.specs.New.{EachFrom}
 use Rattle.hg_rule.specs.Views.{number, session, pass, others, session_there, pass_there, HasPass}
 use Rattle.hg_rule.specs.Moves.{put_in, did, merged}
@@ -22,7 +23,7 @@ use Rattle.hg_store.proofs.Filling.{each_from_at}
 use Rattle.hg_session.specs.declared.engine.Engine.{Engine}
 use Rattle.hg_session.specs.declared.session.Session.{Session}
 use Rattle.hg_session.specs.Engines.{engine_sizes}
-use Rattle.hg_session.specs.Ties.{IsHeard, phase_at}
+use Rattle.hg_session.specs.Ties.{phase_at}
 use Rattle.hg_session.specs.Sessions.{view_of, number_of, log_of, seen_by}
 use Rattle.hg_session.specs.Ended.{logs_in, visits_in, HasAllPasses, IsEnded}
 use Rattle.hg_session.specs.Finished.{logs_of, parts_of, IsClosed, HasNoSession, HaveGone, AreAmong}
@@ -58,11 +59,13 @@ part_is : (e : Engine) (j : ℕ) (s : Session) → IsClosed e j s → (view_of s
 part_is e j s h = h.own.only ∙ (λ i. OfSession (h.number_is i) (session (view_of s)) ∷ [])
 
 -- the list behind the parts of one more
-behind : (e : Engine) (j : ℕ) (s : Session) (sessions : List Session) (rest : List Part) → IsClosed e j s → parts_of (s ∷ sessions) ++ rest ≡ parts_of sessions ++ (OfSession j (session (view_of s)) ∷ rest)
+behind : (e : Engine) (j : ℕ) (s : Session) (sessions : List Session) (rest : List Part) → IsClosed e j s →
+    parts_of (s ∷ sessions) ++ rest ≡ parts_of sessions ++ (OfSession j (session (view_of s)) ∷ rest)
 behind e j s sessions rest h = append_assoc (parts_of sessions) (view_of s).parts rest ∙ ap (λ (l : List Part). parts_of sessions ++ (l ++ rest)) (part_is e j s h)
 
 -- what passes over sessions' parts
-passed : {X : Type 0} (e : Engine) (f : List Part → X) → ((j : ℕ) (part : SessionPart) (ps : List Part) → f (OfSession j part ∷ ps) ≡ f ps) → (i : ℕ) (sessions : List Session) → EachFrom (IsClosed e) i sessions → (rest : List Part) → f (parts_of sessions ++ rest) ≡ f rest
+passed : {X : Type 0} (e : Engine) (f : List Part → X) → ((j : ℕ) (part : SessionPart) (ps : List Part) → f (OfSession j part ∷ ps) ≡ f ps) → (i : ℕ) (sessions : List Session) →
+    EachFrom (IsClosed e) i sessions → (rest : List Part) → f (parts_of sessions ++ rest) ≡ f rest
 passed e f over i [] row rest = refl
 passed e f over i (s ∷ sessions) row rest = ap f (behind e i s sessions rest row.0) ∙ (passed e f over (suc i) sessions row.1 _ ∙ over i (session (view_of s)) rest)
 
@@ -72,10 +75,12 @@ other_key i j part rest no_same = ap (λ b. chosen b (OfSession i part) (seek (s
 -- the parts of those that come later are of other sessions
 lower : (e : Engine) (j i : ℕ) (sessions : List Session) (rest : List Part) → j < i → EachFrom (IsClosed e) i sessions → seek (session_key j) (parts_of sessions ++ rest) ≡ seek (session_key j) rest
 lower e j i [] rest l row = refl
-lower e j i (s ∷ sessions) rest l row = ap (seek (session_key j)) (behind e i s sessions rest row.0) ∙ (lower e j (suc i) sessions _ (omega (arith, l)) row.1 ∙ other_key i j (session (view_of s)) rest (λ t. absurd (omega (arith, l, t))))
+lower e j i (s ∷ sessions) rest l row = ap (seek (session_key j)) (behind e i s sessions rest row.0) ∙
+    (lower e j (suc i) sessions _ (omega (arith, l)) row.1 ∙ other_key i j (session (view_of s)) rest (λ t. absurd (omega (arith, l, t))))
 
 -- session j's part, where i is the first one's number
-own_part : (e : Engine) (j i k : ℕ) (sessions : List Session) (rest : List Part) → j ≡ i + k → EachFrom (IsClosed e) i sessions → seek (session_key j) (parts_of sessions ++ rest) ≡ get_or (map part_of sessions) k (seek (session_key j) rest)
+own_part : (e : Engine) (j i k : ℕ) (sessions : List Session) (rest : List Part) → j ≡ i + k → EachFrom (IsClosed e) i sessions →
+    seek (session_key j) (parts_of sessions ++ rest) ≡ get_or (map part_of sessions) k (seek (session_key j) rest)
 own_part e j i k [] rest is row = refl
 own_part e j i zero (s ∷ sessions) rest is row =
     let same : i ≡ j = omega (arith, is) in
@@ -89,7 +94,8 @@ pub no_part : (j : ℕ) (ps : List Part) → count (session_key j) ps ≡ 0 → 
 no_part j [] none = refl
 no_part j (p ∷ ps) none = go (has (session_key j) p) none (no_part j ps)
   where
-    go : (b : Bool) → one b + count (session_key j) ps ≡ 0 → (count (session_key j) ps ≡ 0 → seek (session_key j) ps ≡ new_part (session_key j)) → chosen b p (seek (session_key j) ps) ≡ new_part (session_key j)
+    go : (b : Bool) → one b + count (session_key j) ps ≡ 0 → (count (session_key j) ps ≡ 0 → seek (session_key j) ps ≡ new_part (session_key j)) →
+        chosen b p (seek (session_key j) ps) ≡ new_part (session_key j)
     go true c ih = absurd (some_more _ c)
       where
         some_more : (n : ℕ) → 1 + n ≡ 0 → ⊥
@@ -112,7 +118,8 @@ phase_there e j i k [] row = refl
 phase_there e j i zero (s ∷ sessions) row = rests e i s row.0
 phase_there e j i (suc k) (s ∷ sessions) row = phase_there e j (suc i) k sessions row.1
 
-there : (e : Engine) (j i k : ℕ) (sessions : List Session) (rest : List Part) → j ≡ i + k → k < length sessions → EachFrom (IsClosed e) i sessions → 0 < count (session_key j) (parts_of sessions ++ rest)
+there : (e : Engine) (j i k : ℕ) (sessions : List Session) (rest : List Part) → j ≡ i + k → k < length sessions → EachFrom (IsClosed e) i sessions →
+    0 < count (session_key j) (parts_of sessions ++ rest)
 there e j i k [] rest is l row = absurd (omega (arith, l))
 there e j i zero (s ∷ sessions) rest is l row = subst (λ ps. 0 < count (session_key j) ps) (sym (behind e i s sessions rest row.0)) (
     let b : ℕ = count (session_key j) (parts_of sessions) in
@@ -122,9 +129,11 @@ there e j i zero (s ∷ sessions) rest is l row = subst (λ ps. 0 < count (sessi
     let a : ℕ = count (session_key j) (parts_of sessions ++ (OfSession i (session (view_of s)) ∷ rest)) in
     let sum : a ≡ b + (x + c) = count_append (session_key j) (parts_of sessions) (OfSession i (session (view_of s)) ∷ rest) in
     omega (arith, x_is, sum))
-there e j i (suc k) (s ∷ sessions) rest is l row = subst (λ ps. 0 < count (session_key j) ps) (sym (behind e i s sessions rest row.0)) (there e j (suc i) k sessions _ (omega (arith, is)) (omega (arith, l)) row.1)
+there e j i (suc k) (s ∷ sessions) rest is l row = subst (λ ps. 0 < count (session_key j) ps) (sym (behind e i s sessions rest row.0))
+    (there e j (suc i) k sessions _ (omega (arith, is)) (omega (arith, l)) row.1)
 
-heard_at : (e : Engine) (j i k : ℕ) (sights : List Sight) (sessions : List Session) → j ≡ i + k → EachFrom (IsClosed e) i sessions → Each (λ s. AreAmong (seen_by s) sights) sessions → IsHeard j (get_or (map log_of sessions) k []) sights
+heard_at : (e : Engine) (j i k : ℕ) (sights : List Sight) (sessions : List Session) → j ≡ i + k → EachFrom (IsClosed e) i sessions →
+    Each (λ s. AreAmong (seen_by s) sights) sessions → IsHeard j (get_or (map log_of sessions) k []) sights
 heard_at e j i k sights [] is row seen = inl refl
 heard_at e j i zero sights (s ∷ sessions) is row seen = subst (λ n. IsHeard n (log_of s) sights) (row.0.number_is ∙ same) (go row.0.own.heard)
   where
@@ -150,7 +159,8 @@ module _ (e : Engine) (v w : View) (sessions : List Session) (own : HasPass v) (
   at_zero = ap (seek (session_key 0)) h.parts ∙ (lower e 0 1 sessions (others v) (omega arith) row ∙ no_part 0 (others v) (others_none 0))
 
   at_next : (k : ℕ) → seek (session_key (suc k)) w.parts ≡ get_or (map part_of sessions) k (new_part (session_key (suc k)))
-  at_next k = ap (seek (session_key (suc k))) h.parts ∙ (own_part e (suc k) 1 k sessions (others v) (from_one k) row ∙ ap (get_or (map part_of sessions) k) (no_part (suc k) (others v) (others_none (suc k))))
+  at_next k = ap (seek (session_key (suc k))) h.parts ∙ (own_part e (suc k) 1 k sessions (others v) (from_one k) row ∙
+      ap (get_or (map part_of sessions) k) (no_part (suc k) (others v) (others_none (suc k))))
 
   log_is : (j : ℕ) → logs_in w j ≡ logs_of sessions j
   log_is zero = ap (λ p. (session_there p).log) at_zero
@@ -185,7 +195,8 @@ module _ (e : Engine) (v w : View) (sessions : List Session) (own : HasPass v) (
 
   pub visits_finished : visits_in w ≡ visits_in v
   visits_finished = λ i p. (ap (λ ps. (pass_there (seek (pass_key p) ps)).visits) h.parts
-      ∙ (ap (λ part. (pass_there (chosen (has (pass_key p) (OfPass (number v) (pass v))) (OfPass (number v) (pass v)) part)).visits) (passed e (seek (pass_key p)) (λ j part ps. refl) 1 sessions row (others v))
+      ∙ (ap (λ part. (pass_there (chosen (has (pass_key p) (OfPass (number v) (pass v))) (OfPass (number v) (pass v)) part)).visits)
+      (passed e (seek (pass_key p)) (λ j part ps. refl) 1 sessions row (others v))
       ∙ sym (ap (λ ps. (pass_there (seek (pass_key p) ps)).visits) own))) i
 
   pub passes_finished : passes_in w.parts ≡ passes_in v.parts

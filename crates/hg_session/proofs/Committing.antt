@@ -54,13 +54,17 @@ module _ (v w u : View) (part : CommitPart) (own : HasPass v) (only : w.parts �
     contents = h.contents;
     each = h.each;
     parts = ap (λ (t : View). t.parts) left ∙ (λ i. first_in (h.parts i) ∷ after_first (after_first (h.parts i)))
-        ∙ (λ i. OfPass (part_number (now i)) (record (pass_there (first_in (now i))) { visits = empty_visits (pass_there (first_in (now i))).mark h.contents ++ (pass_there (first_in (now i))).visits }) ∷ after_first (after_first (now i)));
+        ∙ (λ i. OfPass (part_number (now i)) (record (pass_there (first_in (now i))) {
+          visits = empty_visits (pass_there (first_in (now i))).mark h.contents ++
+              (pass_there (first_in (now i))).visits;
+        }) ∷ after_first (after_first (now i)));
     kept = starts_on _ x.sights v.sights (starts_on x.sights u.sights v.sights (w.sights, ap (λ (t : View). t.sights) is) h.kept) (_, ap (λ (t : View). t.sights) left);
     events = ap (λ (t : View). t.events) left ∙ h.events ∙ ap (λ (t : View). t.events) is;
   }
 
   -- what is told with the part is told of what was there before
-  totals_before : (z : Sizes) (totals : Totals) → TotalsTell z.sessions z.buckets (passes_in u.parts) (logs_in u) (visits_in u) (commit u).history.list totals → TotalsTell z.sessions z.buckets (passes_in v.parts) (logs_in v) (visits_in v) part.history.list totals
+  totals_before : (z : Sizes) (totals : Totals) → TotalsTell z.sessions z.buckets (passes_in u.parts) (logs_in u) (visits_in u) (commit u).history.list totals →
+      TotalsTell z.sessions z.buckets (passes_in v.parts) (logs_in v) (visits_in v) part.history.list totals
   totals_before z totals t =
       subst (λ n. TotalsTell z.sessions z.buckets n (logs_in v) (visits_in v) part.history.list totals) passes_come
       (subst (λ f. TotalsTell z.sessions z.buckets (passes_in u.parts) f (visits_in v) part.history.list totals) logs_come

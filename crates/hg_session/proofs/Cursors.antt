@@ -36,7 +36,8 @@ use Rattle.hg_session.specs.Refused.{IsLookAt}
 use Rattle.hg_session.specs.Replies.{AnswersFrom, inside}
 use Rattle.hg_session.specs.Scans.{Rows}
 use Rattle.hg_session.specs.Sessions.{IsIn, IsOf, pass_of, view_of, number_of, log_of, seen_by, open_of, cursor_of, left_of, opened_of, written_of}
-use Rattle.hg_session.specs.Ties.{Ties, FitsCursor, IsHeard, phase_at, snapshot_of}
+use Rattle.hg_session.specs.Ties.{Ties, FitsCursor, phase_at, snapshot_of}
+use Rattle.hg_rule.specs.Facts.{IsHeard}
 use Rattle.hg_session.proofs.Replying.{no_writes}
 use Rattle.hg_session.proofs.Trips.{first_number, first_session}
 use Rattle.hg_session.proofs.Tying.{IsQuiet, ties_quiet}
@@ -109,18 +110,24 @@ same_gain v w e = record { number_is = ap number e; log = ap (λ x. (session x).
 
 -- ---- what a session keeps after them
 
-ties_looked : (quota left : ℕ) (opened : Option Snapshot) (written : List Rid) (part : SessionPart) (es : List LogEntry) → Each IsQuiet es → Ties quota opened written left 0 0 part → Ties quota opened written left 0 0 (with_log (es ++ part.log) part)
+ties_looked : (quota left : ℕ) (opened : Option Snapshot) (written : List Rid) (part : SessionPart) (es : List LogEntry) → Each IsQuiet es →
+    Ties quota opened written left 0 0 part → Ties quota opened written left 0 0 (with_log (es ++ part.log) part)
 ties_looked quota left opened written part [] q t = t
 ties_looked quota left opened written part (e ∷ es) q t = ties_quiet quota left 0 0 opened written (with_log (es ++ part.log) part) e q.0 (ties_looked quota left opened written part es q.1 t)
 
-ties_fetched : (quota left count most : ℕ) (opened : Option Snapshot) (written : List Rid) (v w : View) (table : TableId) (rest : Option ℕ) (high : ℕ) (answer : Result Rows NoMemory) → FetchesRest count most v table rest high answer w → Ties quota opened written left 0 0 (session v) → Ties quota opened written left 0 0 (session w)
+ties_fetched : (quota left count most : ℕ) (opened : Option Snapshot) (written : List Rid) (v w : View) (table : TableId) (rest : Option ℕ) (high : ℕ)
+    (answer : Result Rows NoMemory) → FetchesRest count most v table rest high answer w → Ties quota opened written left 0 0 (session v) → Ties quota opened written left 0 0 (session w)
 ties_fetched quota left count most opened written v w table None high answer f t = subst (λ x. Ties quota opened written left 0 0 (session x)) (sym f.1) t
-ties_fetched quota left count most opened written v w table (Some low) high (Ok rows) f t = subst (Ties quota opened written left 0 0) (sym (first_session w (number v) _ [] f.looked.adds.parts)) (ties_looked quota left opened written (session v) _ (looks_quiet count table low high f.looked.part f.looked.number) t)
-ties_fetched quota left count most opened written v w table (Some low) high (Err e) f t = subst (Ties quota opened written left 0 0) (sym (first_session w (number v) _ [] f.adds.parts)) (ties_looked quota left opened written (session v) _ (looks_quiet count table low high f.part f.number) t)
+ties_fetched quota left count most opened written v w table (Some low) high (Ok rows) f t = subst (Ties quota opened written left 0 0)
+    (sym (first_session w (number v) _ [] f.looked.adds.parts)) (ties_looked quota left opened written (session v) _ (looks_quiet count table low high f.looked.part f.looked.number) t)
+ties_fetched quota left count most opened written v w table (Some low) high (Err e) f t = subst (Ties quota opened written left 0 0)
+    (sym (first_session w (number v) _ [] f.adds.parts)) (ties_looked quota left opened written (session v) _ (looks_quiet count table low high f.part f.number) t)
 
 -- the session after a fetch, whose cursor may have gone on
-pub fetched : (e : Engine) (s t : Session) (c d : Cursor) (count most : ℕ) (answer : Result Rows NoMemory) → IsOf e s → cursor_of s ≡ Some c → cursor_of t ≡ Some d → at_of d ≡ at_of c → table_of d ≡ table_of c
-    → opened_of t ≡ opened_of s → written_of t ≡ written_of s → left_of t ≡ left_of s → IsSessionOf (engine_board_id e) (engine_sizes e) (pass_of t) → FetchesRest count most (view_of s) (table_of c) (rest_of c) (high_of c) answer (view_of t) → HasOnlySession (view_of t) → IsHeard (number_of t) (log_of t) (seen_by t) → IsOf e t
+pub fetched : (e : Engine) (s t : Session) (c d : Cursor) (count most : ℕ) (answer : Result Rows NoMemory) → IsOf e s → cursor_of s ≡ Some c → cursor_of t ≡ Some d →
+    at_of d ≡ at_of c → table_of d ≡ table_of c
+    → opened_of t ≡ opened_of s → written_of t ≡ written_of s → left_of t ≡ left_of s → IsSessionOf (engine_board_id e) (engine_sizes e) (pass_of t) →
+    FetchesRest count most (view_of s) (table_of c) (rest_of c) (high_of c) answer (view_of t) → HasOnlySession (view_of t) → IsHeard (number_of t) (log_of t) (seen_by t) → IsOf e t
 fetched e s t c d count most answer own is now at table opened written left pass f alone heard =
     let fits = fits_some s c own.cursor is in
     let quota = (engine_sizes e).quota in
@@ -160,7 +167,8 @@ picks_none buckets most rest rows gone none = subst (Picks buckets most rest.tab
     over k low up = grind (arith, nat_tests, gone)
 
 module _ (z : Sizes) (v w : View) (most : ℕ) (snapshot : Snapshot) (rest : Rest) (rows : Rows) (opened : current (session v).log ≡ Some snapshot) where
-  answers_with : (part : ℕ → Rows) (looked : ℕ) → Gains v (looks z.buckets rest.table rest.low rest.high part looked) w → Picks z.buckets most rest.table rest.low rest.high looked part rows → AnswersFrom (Some rest) z v (say.Fetch most) (inside (answers.Rows rows)) w
+  answers_with : (part : ℕ → Rows) (looked : ℕ) → Gains v (looks z.buckets rest.table rest.low rest.high part looked) w →
+      Picks z.buckets most rest.table rest.low rest.high looked part rows → AnswersFrom (Some rest) z v (say.Fetch most) (inside (answers.Rows rows)) w
   answers_with part looked g picks =
       let log = (session v).log in
       let says = say.Fetch most in
@@ -185,15 +193,19 @@ module _ (z : Sizes) (v w : View) (most : ℕ) (snapshot : Snapshot) (rest : Res
         rest_is = refl;
       }
 
-  go_from : (b : Bool) → nat_le rest.low rest.high ≡ b → FetchesRest z.buckets most v rest.table (if b then Some rest.low else None) rest.high (Ok rows) w → AnswersFrom (Some rest) z v (say.Fetch most) (inside (answers.Rows rows)) w
+  go_from : (b : Bool) → nat_le rest.low rest.high ≡ b → FetchesRest z.buckets most v rest.table (if b then Some rest.low else None) rest.high (Ok rows) w →
+      AnswersFrom (Some rest) z v (say.Fetch most) (inside (answers.Rows rows)) w
   go_from true some f = answers_with f.looked.part f.looked.number (adds_gain v w _ f.looked.adds) f.picks
   go_from false gone f = answers_with (λ i. []) 0 (same_gain v w f.1) (picks_none z.buckets most rest rows gone (let e : ◌≡◌ {A = Result Rows NoMemory} (Ok rows) (Ok []) = f.0 in cc))
 
-  fetch_answers : (c : Cursor) → IsLeftBy c rest → FetchesRest z.buckets most v (table_of c) (rest_of c) (high_of c) (Ok rows) w → AnswersFrom (Some rest) z v (say.Fetch most) (inside (answers.Rows rows)) w
+  fetch_answers : (c : Cursor) → IsLeftBy c rest → FetchesRest z.buckets most v (table_of c) (rest_of c) (high_of c) (Ok rows) w →
+      AnswersFrom (Some rest) z v (say.Fetch most) (inside (answers.Rows rows)) w
   fetch_answers c left f = go_from (nat_le rest.low rest.high) refl
-      (subst (λ o. FetchesRest z.buckets most v rest.table o rest.high (Ok rows) w) left.from (subst (λ (k : TableId × ℕ). FetchesRest z.buckets most v k.0 (rest_of c) k.1 (Ok rows) w) (λ i. (sym left.table i, sym left.high i)) f))
+      (subst (λ o. FetchesRest z.buckets most v rest.table o rest.high (Ok rows) w) left.from
+      (subst (λ (k : TableId × ℕ). FetchesRest z.buckets most v k.0 (rest_of c) k.1 (Ok rows) w) (λ i. (sym left.table i, sym left.high i)) f))
 
-pub fetch_replies : (z : Sizes) (v w : View) (most : ℕ) (snapshot : Snapshot) (c : Cursor) (rows : Rows) (rest : Option Rest) → current (session v).log ≡ Some snapshot → FetchesRest z.buckets most v (table_of c) (rest_of c) (high_of c) (Ok rows) w → FitsRest (Some c) rest → AnswersFrom rest z v (say.Fetch most) (inside (answers.Rows rows)) w
+pub fetch_replies : (z : Sizes) (v w : View) (most : ℕ) (snapshot : Snapshot) (c : Cursor) (rows : Rows) (rest : Option Rest) → current (session v).log ≡ Some snapshot →
+    FetchesRest z.buckets most v (table_of c) (rest_of c) (high_of c) (Ok rows) w → FitsRest (Some c) rest → AnswersFrom rest z v (say.Fetch most) (inside (answers.Rows rows)) w
 fetch_replies z v w most snapshot c rows None opened f left = absurd left
 fetch_replies z v w most snapshot c rows (Some rest) opened f left = fetch_answers z v w most snapshot rest rows opened c left f
 
@@ -206,20 +218,24 @@ behind_is high key = grind (arith, nat_tests)
 none_behind : (high : ℕ) → begins_at (suc high) high ≡ None
 none_behind high = grind (arith, nat_tests)
 
-left_moved : (count most : ℕ) (c d : Cursor) (rest : Rest) (rows : Rows) (v w : View) → table_of d ≡ table_of c → high_of d ≡ high_of c → rest_of d ≡ goes_on most (high_of c) rows (rest_of c) → FetchesRest count most v (table_of c) (rest_of c) (high_of c) (Ok rows) w → IsLeftBy c rest → IsLeftBy d (rest_behind most rows rest)
+left_moved : (count most : ℕ) (c d : Cursor) (rest : Rest) (rows : Rows) (v w : View) → table_of d ≡ table_of c → high_of d ≡ high_of c →
+    rest_of d ≡ goes_on most (high_of c) rows (rest_of c) → FetchesRest count most v (table_of c) (rest_of c) (high_of c) (Ok rows) w → IsLeftBy c rest → IsLeftBy d (rest_behind most rows rest)
 left_moved count most c d rest rows v w table high goes f left = record {
   table = left.table ∙ sym table;
   high = left.high ∙ sym high;
   from = goes ∙ ((λ i. goes_on most (sym left.high i) rows (left.from i)) ∙ go (nat_le rest.low rest.high) (subst (λ o. FetchesRest count most v (table_of c) o (high_of c) (Ok rows) w) left.from f));
 }
   where
-    go : (b : Bool) → FetchesRest count most v (table_of c) (if b then Some rest.low else None) (high_of c) (Ok rows) w → goes_on most rest.high rows (if b then Some rest.low else None) ≡ begins_at (suc (passed most rest.high rows)) rest.high
+    go : (b : Bool) → FetchesRest count most v (table_of c) (if b then Some rest.low else None) (high_of c) (Ok rows) w →
+        goes_on most rest.high rows (if b then Some rest.low else None) ≡ begins_at (suc (passed most rest.high rows)) rest.high
     go true g = behind_is rest.high (passed most rest.high rows)
     go false g =
         let none : rows ≡ [] = (let e : ◌≡◌ {A = Result Rows NoMemory} (Ok rows) (Ok []) = g.0 in cc) in
         sym (ap (λ k. begins_at (suc k) rest.high) (ap (passed most rest.high) none ∙ passed_none most rest.high) ∙ none_behind rest.high)
 
-pub fetch_moves : (count most : ℕ) (c d : Cursor) (rows : Rows) (v w : View) (rest : Option Rest) → table_of d ≡ table_of c → high_of d ≡ high_of c → rest_of d ≡ goes_on most (high_of c) rows (rest_of c) → FetchesRest count most v (table_of c) (rest_of c) (high_of c) (Ok rows) w → FitsRest (Some c) rest → FitsRest (Some d) (rest_after (say.Fetch most) (answers.Rows rows) rest)
+pub fetch_moves : (count most : ℕ) (c d : Cursor) (rows : Rows) (v w : View) (rest : Option Rest) → table_of d ≡ table_of c → high_of d ≡ high_of c →
+    rest_of d ≡ goes_on most (high_of c) rows (rest_of c) → FetchesRest count most v (table_of c) (rest_of c) (high_of c) (Ok rows) w → FitsRest (Some c) rest →
+    FitsRest (Some d) (rest_after (say.Fetch most) (answers.Rows rows) rest)
 fetch_moves count most c d rows v w None table high goes f left = absurd left
 fetch_moves count most c d rows v w (Some rest) table high goes f left = left_moved count most c d rest rows v w table high goes f left
 

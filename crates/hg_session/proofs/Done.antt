@@ -27,7 +27,7 @@ use Rattle.hg_session.specs.Sessions.{pass_of, view_of, seen_by, opened_of, writ
 use Rattle.hg_session.proofs.Meetings.{among_first}
 use Rattle.hg_session.proofs.Settling.{gained}
 use Rattle.hg_rule.specs.declared.view.View.{View}
-use Rattle.hg_rule.specs.Facts.{IsAmong}
+use Rattle.hg_rule.specs.Facts.{IsAmong, IsHeard}
 use Rattle.hg_rule.specs.Views.{number, session}
 use Rattle.hg_rule.specs.Steps.{Within, logging, Ends}
 use Rattle.hg_rule.specs.Holding.{snapshot}
@@ -37,7 +37,7 @@ use Rattle.hg_tracker.specs.Begun.{AtMost}
 use Rattle.hg_tracker.proofs.After.{within_most}
 use Rattle.hg_group.specs.declared.receipt.Receipt.{Receipt}
 use Rattle.hg_group.specs.Submitting.{HasCommitted, IsBackAgain}
-use Rattle.hg_session.specs.Ties.{AreWritten, IsHeard, Ties}
+use Rattle.hg_session.specs.Ties.{AreWritten, Ties}
 use Rattle.hg_session.specs.Gains.{Alone, Gains, IsAfter}
 use Rattle.hg_session.proofs.Trips.{first_number, first_session, alone_only, ended}
 
@@ -91,7 +91,8 @@ pub after : (v u : View) (receipt : Receipt) (at : ℕ) → HasCommitted v recei
 after v u receipt at h e = record {
   before = receipt.number - 1;
   next = up receipt.number (length h.seen) h.over;
-  over = each_map (Within h.seen) (AtMost (receipt.number - 1)) (λ x b. most_more (length h.seen) (receipt.number - 1) (below (length h.seen) receipt.number h.over) x (within_most h.seen (length h.seen) refl x b)) v.sights h.most;
+  over = each_map (Within h.seen) (AtMost (receipt.number - 1)) (λ x b. most_more (length h.seen) (receipt.number - 1) (below (length h.seen) receipt.number h.over) x
+      (within_most h.seen (length h.seen) refl x b)) v.sights h.most;
   begun = below at receipt.number (subst (λ n. n < receipt.number) (sym e) h.begun);
 }
   where
@@ -106,7 +107,8 @@ after v u receipt at h e = record {
 pub back_gains : (v w : View) → IsBackAgain v w → Gains v [] w
 back_gains v w b = gained v w (session v) [] (record { parts = b.parts; kept = b.kept }) refl
 
-pub back_in : (e : Engine) (v : View) (s : Session) → IsSessionOf (engine_board_id e) (engine_sizes e) (pass_of s) → IsBackAgain v (view_of s) → Ties (engine_sizes e).quota (opened_of s) (written_of s) (left_of s) 0 0 (session v) → IsHeard (number v) (session v).log v.sights → cursor_of s ≡ None → IsIn e 0 0 s
+pub back_in : (e : Engine) (v : View) (s : Session) → IsSessionOf (engine_board_id e) (engine_sizes e) (pass_of s) → IsBackAgain v (view_of s) →
+    Ties (engine_sizes e).quota (opened_of s) (written_of s) (left_of s) 0 0 (session v) → IsHeard (number v) (session v).log v.sights → cursor_of s ≡ None → IsIn e 0 0 s
 back_in e v s own b ties heard closed =
     let a : Alone (number v) (session v) v.sights (view_of s) = record { parts = b.parts; kept = b.kept } in
     let n = first_number (view_of s) (number v) (session v) [] b.parts in
@@ -123,7 +125,8 @@ back_in e v s own b ties heard closed =
     later (inr m) = inr (subst (IsAmong (Heard (number v) (session v).log)) (sym b.kept.1) (among_first (Heard (number v) (session v).log) v.sights b.kept.0 m))
 
 -- what it lists is what it wrote
-pub ties_back : (quota left : ℕ) (opened : Snapshot) (old new : List Rid) (j : ℕ) (part : SessionPart) (tx : OpenTx) → new ≡ tx.records.list → IsOpenTxOf j part tx → Ties quota (Some opened) old left 0 0 part → Ties quota (Some opened) new left 0 0 part
+pub ties_back : (quota left : ℕ) (opened : Snapshot) (old new : List Rid) (j : ℕ) (part : SessionPart) (tx : OpenTx) → new ≡ tx.records.list → IsOpenTxOf j part tx →
+    Ties quota (Some opened) old left 0 0 part → Ties quota (Some opened) new left 0 0 part
 ties_back quota left opened old new j part tx same o t = record {
   phase = t.phase;
   unstamped = t.unstamped;

@@ -1,6 +1,7 @@
 -- A pass that all sessions and all other passes were joined to, with the committer's part, knows logs, visits and history of
 -- the state, in whatever order the parts stand. Of the buckets it needs none.
-use Rattle.std.proofs.Common.{◌≡◌, ◌⊎◌, inl, inr, ℕ, zero, suc, ◌+◌, ◌<◌, ◌≤◌, Bool, true, false, eqb, ltb, List, [], ◌∷◌, ◌++◌, length, None, refl, sym, ap, ◌∙◌, subst, arith, eq-eqb, ne_eqb, true≢false}
+use Rattle.std.proofs.Common.{◌≡◌, ◌⊎◌, inl, inr, ℕ, zero, suc, ◌+◌, ◌<◌, ◌≤◌, Bool, true, false, eqb, ltb, List, [], ◌∷◌, ◌++◌, length, None, refl, sym, ap, ◌∙◌, subst, arith, eq-eqb}
+use Rattle.std.proofs.Common.{ne_eqb, true≢false}
 use Rattle.std.proofs.lemmas.Bool.{lt-ltb}
 use native.Mathlib.Decide.{dec_le}
 use Rattle.std.specs.Prelude.{max}
@@ -55,7 +56,12 @@ are_buckets s ps zero = record { sessions = λ j. (refl, refl); commit = (refl, 
 are_buckets s ps (suc n) = go (count (bucket_key n) ps) (are_buckets s ps n)
   where
     go : (c : ℕ) → AreBuckets (lacking s ps n) → AreBuckets (fill c (OfBucket n (record { content = s.bucket n; counters = s.counters n })) (lacking s ps n))
-    go zero a = record { sessions = λ j. (no_more _ (a.sessions j).0, (a.sessions j).1); commit = (no_more _ a.commit.0, a.commit.1); passes = λ p. (no_more _ (a.passes p).0, (a.passes p).1); none = a.none }
+    go zero a = record {
+      sessions = λ j. (no_more _ (a.sessions j).0, (a.sessions j).1);
+      commit = (no_more _ a.commit.0, a.commit.1);
+      passes = λ p. (no_more _ (a.passes p).0, (a.passes p).1);
+      none = a.none;
+    }
     go (suc c) a = a
 
 all_shown : (s : CoreState) (ps : List Part) (n : ℕ) → Each (Shown s) (lacking s ps n)
@@ -72,7 +78,8 @@ none_over s ps zero i le = refl
 none_over s ps (suc n) i le = go (count (bucket_key n) ps) (none_over s ps n i (omega arith))
   where
     go : (c : ℕ) → count (bucket_key i) (lacking s ps n) ≡ 0 → count (bucket_key i) (fill c (OfBucket n (record { content = s.bucket n; counters = s.counters n })) (lacking s ps n)) ≡ 0
-    go zero e = let x : ℕ = one (eqb n i) in let y : ℕ = count (bucket_key i) (lacking s ps n) in let a : x ≡ 0 = ap one (ne_eqb n i (λ t. absurd (omega arith))) in let b : y ≡ 0 = e in omega (arith, a, b)
+    go zero e = let x : ℕ = one (eqb n i) in let y : ℕ = count (bucket_key i) (lacking s ps n) in let a : x ≡ 0 = ap one (ne_eqb n i (λ t. absurd (omega arith))) in
+        let b : y ≡ 0 = e in omega (arith, a, b)
     go (suc c) e = e
 
 same_or_less : (i n : ℕ) → i < suc n → (i ≡ n) ⊎ (i < n)
@@ -90,15 +97,18 @@ each_once s ps zero i le most = absurd (omega arith)
 each_once s ps (suc n) i le most = go (same_or_less i n le) (λ l. each_once s ps n i l most)
   where
     last : (c : ℕ) → c ≤ 1 → c + count (bucket_key n) (fill c (OfBucket n (record { content = s.bucket n; counters = s.counters n })) (lacking s ps n)) ≡ 1
-    last zero m = let x : ℕ = one (eqb n n) in let y : ℕ = count (bucket_key n) (lacking s ps n) in let a : x ≡ 1 = ap one (eq-eqb n n refl) in let b : y ≡ 0 = none_over s ps n n (omega arith) in omega (arith, a, b)
+    last zero m = let x : ℕ = one (eqb n n) in let y : ℕ = count (bucket_key n) (lacking s ps n) in let a : x ≡ 1 = ap one (eq-eqb n n refl) in
+        let b : y ≡ 0 = none_over s ps n n (omega arith) in omega (arith, a, b)
     last (suc c) m = let y : ℕ = count (bucket_key n) (lacking s ps n) in let b : y ≡ 0 = none_over s ps n n (omega arith) in omega (arith, b)
 
     less : (c : ℕ) → i < n → count (bucket_key i) (fill c (OfBucket n (record { content = s.bucket n; counters = s.counters n })) (lacking s ps n)) ≡ count (bucket_key i) (lacking s ps n)
     less zero l = let x : ℕ = one (eqb n i) in let y : ℕ = count (bucket_key i) (lacking s ps n) in let a : x ≡ 0 = ap one (ne_eqb n i (λ t. absurd (omega arith))) in omega (arith, a)
     less (suc c) l = refl
 
-    go : (i ≡ n) ⊎ (i < n) → (i < n → count (bucket_key i) ps + count (bucket_key i) (lacking s ps n) ≡ 1) → count (bucket_key i) ps + count (bucket_key i) (fill (count (bucket_key n) ps) (OfBucket n (record { content = s.bucket n; counters = s.counters n })) (lacking s ps n)) ≡ 1
-    go (inl e) ih = subst (λ k. count (bucket_key k) ps ≤ 1 → count (bucket_key k) ps + count (bucket_key k) (fill (count (bucket_key n) ps) (OfBucket n (record { content = s.bucket n; counters = s.counters n })) (lacking s ps n)) ≡ 1) (sym e) (last (count (bucket_key n) ps)) most
+    go : (i ≡ n) ⊎ (i < n) → (i < n → count (bucket_key i) ps + count (bucket_key i) (lacking s ps n) ≡ 1) →
+        count (bucket_key i) ps + count (bucket_key i) (fill (count (bucket_key n) ps) (OfBucket n (record { content = s.bucket n; counters = s.counters n })) (lacking s ps n)) ≡ 1
+    go (inl e) ih = subst (λ k. count (bucket_key k) ps ≤ 1 → count (bucket_key k) ps + count (bucket_key k)
+        (fill (count (bucket_key n) ps) (OfBucket n (record { content = s.bucket n; counters = s.counters n })) (lacking s ps n)) ≡ 1) (sym e) (last (count (bucket_key n) ps)) most
     go (inr l) ih = ap (λ x. count (bucket_key i) ps + x) (less (count (bucket_key n) ps) l) ∙ ih l
 
 -- ---- what they leave as it is
@@ -147,12 +157,14 @@ module _ (z : Sizes) (n : ℕ) (v : View) (k : IsBacked z n v) (ended : IsEnded 
 
   counted : (h : Key) → HasPart h → count h (v.parts ++ more) ≡ expected z k.used h
   counted (home_key j) part = absurd part
-  counted (session_key j) part = count_append (session_key j) v.parts more ∙ sum_none _ _ (buckets.sessions j).0 ∙ full (count (session_key j) v.parts) (both (ltb 0 j) (ltb j (suc z.sessions))) (k.most (session_key j)) (λ e. ended.sessions j (is_session z j e))
+  counted (session_key j) part = count_append (session_key j) v.parts more ∙ sum_none _ _ (buckets.sessions j).0 ∙
+      full (count (session_key j) v.parts) (both (ltb 0 j) (ltb j (suc z.sessions))) (k.most (session_key j)) (λ e. ended.sessions j (is_session z j e))
   counted (bucket_key i) part = count_append (bucket_key i) v.parts more ∙ go (ltb i z.buckets) refl (k.most (bucket_key i))
     where
       go : (b : Bool) → ltb i z.buckets ≡ b → count (bucket_key i) v.parts ≤ one b → count (bucket_key i) v.parts + count (bucket_key i) more ≡ one b
       go true e most = each_once s v.parts z.buckets i (is_below i z.buckets e) most
-      go false e most = let x : ℕ = count (bucket_key i) v.parts in let y : ℕ = count (bucket_key i) more in let a : x ≤ 0 = most in let b : y ≡ 0 = none_over s v.parts z.buckets i (over e) in omega (arith, a, b)
+      go false e most = let x : ℕ = count (bucket_key i) v.parts in let y : ℕ = count (bucket_key i) more in let a : x ≤ 0 = most in
+          let b : y ≡ 0 = none_over s v.parts z.buckets i (over e) in omega (arith, a, b)
         where
           over : ltb i z.buckets ≡ false → z.buckets ≤ i
           over e = pick (dec_le z.buckets i)
@@ -160,12 +172,14 @@ module _ (z : Sizes) (n : ℕ) (v : View) (k : IsBacked z n v) (ended : IsEnded 
               pick : Dec (z.buckets ≤ i) → z.buckets ≤ i
               pick (yes l) = l
               pick (no l) = absurd (true≢false (sym (lt-ltb i z.buckets (omega arith)) ∙ e))
-  counted commit_key part = count_append commit_key v.parts more ∙ sum_none _ _ buckets.commit.0 ∙ (let a : ℕ = count commit_key v.parts in let d : a ≤ 1 = k.most commit_key in let c : 0 < a = committed in omega (arith, c, d))
+  counted commit_key part = count_append commit_key v.parts more ∙ sum_none _ _ buckets.commit.0 ∙ (let a : ℕ = count commit_key v.parts in let d : a ≤ 1 = k.most commit_key in
+      let c : 0 < a = committed in omega (arith, c, d))
   counted (pass_key p) part = count_append (pass_key p) v.parts more ∙ sum_none _ _ (buckets.passes p).0 ∙ k.alone ended.passes p
 
   -- the state is the one that the view's parts are, with the buckets that it lacks
   state_read : s ≡ state_of z n s.register s.mask (v.parts ++ more)
-  state_read = state_is z s k.used n s.register s.mask (v.parts ++ more) k.sized k.passes (each_append (Shown s) v.parts more k.true_of.parts (all_shown s v.parts z.buckets)) counted k.outside k.mark_is (λ j. refl) (λ j. refl)
+  state_read = state_is z s k.used n s.register s.mask (v.parts ++ more) k.sized k.passes (each_append (Shown s) v.parts more k.true_of.parts (all_shown s v.parts z.buckets))
+      counted k.outside k.mark_is (λ j. refl) (λ j. refl)
 
   pub logs_are : s.log ≡ logs_in v
   logs_are = ap (λ (c : CoreState). c.log) state_read ∙ (λ i j. (session_there (seek_same (session_key j) v.parts more (buckets.sessions j).1 i)).log)
@@ -176,7 +190,8 @@ module _ (z : Sizes) (n : ℕ) (v : View) (k : IsBacked z n v) (ended : IsEnded 
   pub history_is : s.history ≡ history_in v
   history_is = ap (λ (c : CoreState). c.history) state_read ∙ (λ i. (commit_there (seek_same commit_key v.parts more buckets.commit.1 i)).history.list)
 
-  pub bucket_is : (b : ℕ) → 0 < count (bucket_key b) v.parts → (s.bucket b ≡ (bucket_there (seek (bucket_key b) v.parts)).content) × (s.counters b ≡ (bucket_there (seek (bucket_key b) v.parts)).counters)
+  pub bucket_is : (b : ℕ) → 0 < count (bucket_key b) v.parts → (s.bucket b ≡ (bucket_there (seek (bucket_key b) v.parts)).content) ×
+      (s.counters b ≡ (bucket_there (seek (bucket_key b) v.parts)).counters)
   bucket_is b l =
       let same = seek_there (bucket_key b) v.parts more l in
       (ap (λ (c : CoreState). c.bucket b) state_read ∙ ap (λ p. (bucket_there p).content) same, ap (λ (c : CoreState). c.counters b) state_read ∙ ap (λ p. (bucket_there p).counters) same)
@@ -186,7 +201,8 @@ module _ (z : Sizes) (n : ℕ) (v : View) (k : IsBacked z n v) (ended : IsEnded 
 
   -- no transaction is open
   pub none_open : (j : ℕ) → current (s.log j) ≡ None
-  none_open j = k.steady.logs_answer.reads j ∙ ap snapshot_in (ap (λ (c : CoreState). c.phase j) state_read ∙ ap (λ p. (session_there p).phase) (seek_same (session_key j) v.parts more (buckets.sessions j).1) ∙ ended.rest j)
+  none_open j = k.steady.logs_answer.reads j ∙ ap snapshot_in (ap (λ (c : CoreState). c.phase j) state_read ∙
+      ap (λ p. (session_there p).phase) (seek_same (session_key j) v.parts more (buckets.sessions j).1) ∙ ended.rest j)
 
   -- ---- what it knows
 
@@ -197,13 +213,15 @@ module _ (z : Sizes) (n : ℕ) (v : View) (k : IsBacked z n v) (ended : IsEnded 
   newest_is = sym (ap length history_is) ∙ history_is_newest s k.steady ∙ (λ i. newest_of (k.sized.sessions i) (logs_are i))
 
   pub logged : 0 < z.buckets → Logged z.buckets (history_in v) (logs_in v)
-  logged some = subst (λ h. Logged z.buckets h (logs_in v)) history_is (subst (λ l. Logged z.buckets s.history l) logs_are (subst (λ b. Logged b s.history s.log) k.sized.buckets (state_logged s k.steady (subst (λ b. 0 < b) (sym k.sized.buckets) some))))
+  logged some = subst (λ h. Logged z.buckets h (logs_in v)) history_is
+      (subst (λ l. Logged z.buckets s.history l) logs_are (subst (λ b. Logged b s.history s.log) k.sized.buckets (state_logged s k.steady (subst (λ b. 0 < b) (sym k.sized.buckets) some))))
 
   pub few : (j : ℕ) → wrotes (logs_in v j) ≤ z.quota
   few j = subst (λ l. wrotes (l j) ≤ z.quota) logs_are (subst (λ e. wrotes (s.log j) ≤ e) k.sized.quota (k.steady.logs_answer.written j))
 
   pub within : (p : ℕ) → Each (λ (x : Visit). x.bucket < z.buckets) (visits_in v p)
-  within p = subst (λ f. Each (λ (x : Visit). x.bucket < z.buckets) (f p)) visits_are (subst (λ b. Each (λ (x : Visit). x.bucket < b) (s.visits p)) k.sized.buckets (each_keeps _ (λ (x : Visit). x.bucket < s.buckets) (λ x i. i.bucket) (s.visits p) (k.steady.visits_stay.each p)))
+  within p = subst (λ f. Each (λ (x : Visit). x.bucket < z.buckets) (f p)) visits_are
+      (subst (λ b. Each (λ (x : Visit). x.bucket < b) (s.visits p)) k.sized.buckets (each_keeps _ (λ (x : Visit). x.bucket < s.buckets) (λ x i. i.bucket) (s.visits p) (k.steady.visits_stay.each p)))
 
   pub bucket_told : (b : ℕ) (counts : Totals) → AreCounts (s.counters b) counts → BucketTells z.sessions z.buckets (passes_in v.parts) (logs_in v) (visits_in v) (history_in v) b counts
   bucket_told b counts are =

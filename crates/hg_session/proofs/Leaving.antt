@@ -23,7 +23,7 @@ use Rattle.hg_rule.specs.declared.view.Sight.TheVariants.{Heard}
 use Rattle.hg_rule.specs.declared.view.View.{View}
 use Rattle.hg_rule.specs.declared.view.Sizes.{Sizes}
 use Rattle.hg_rule.specs.Keys.{session_key, pass_key, has, count, shares}
-use Rattle.hg_rule.specs.Facts.{StartsWith, IsAmong, heard, record_of}
+use Rattle.hg_rule.specs.Facts.{StartsWith, IsAmong, heard, record_of, IsHeard}
 use Rattle.hg_rule.specs.Reading.{chosen, seek, passes_in}
 use Rattle.hg_rule.specs.Views.{number, pass, others, part_number, session_there, pass_there, first_in, after_first, HasPass}
 use Rattle.hg_rule.proofs.Counts.{key_self}
@@ -39,7 +39,6 @@ use Rattle.hg_gc_table.specs.Cutting.{IsCutBy}
 use Rattle.hg_gc_table.specs.Collectors.{Cuts}
 use Rattle.hg_headline.specs.Totalled.{LeavesCut, HasCut, WasLeftCut}
 use Rattle.hg_session.specs.Ended.{logs_in, visits_in, IsEnded}
-use Rattle.hg_session.specs.Ties.{IsHeard}
 use Rattle.hg_session.specs.Settled.{HasHeardAll, RemovesForTables}
 use Rattle.hg_session.proofs.Quiet.{heard_whole, up_to_whole, found_idle, mark_newest}
 
@@ -63,7 +62,8 @@ module _ (v w : View) (r : PassPart) (own : HasPass v) (now : w.parts ≡ OfPass
   pub visits_own : (P : List Visit → List Visit → Type 0) → P (pass v).visits r.visits → ((vs : List Visit) → P vs vs) → (p : ℕ) → P (visits_in v p) (visits_in w p)
   visits_own P changed other p =
       subst (λ ps. P (pass_there (seek (pass_key p) ps)).visits (visits_in w p)) (sym own)
-      (subst (λ ps. P (pass_there (seek (pass_key p) (OfPass (number v) (pass v) ∷ others v))).visits (pass_there (seek (pass_key p) ps)).visits) (sym now) (go (has (pass_key p) (OfPass (number v) r))))
+      (subst (λ ps. P (pass_there (seek (pass_key p) (OfPass (number v) (pass v) ∷ others v))).visits (pass_there (seek (pass_key p) ps)).visits) (sym now)
+      (go (has (pass_key p) (OfPass (number v) r))))
     where
       go : (t : Bool) → P (pass_there (chosen t (OfPass (number v) (pass v)) (seek (pass_key p) (others v)))).visits (pass_there (chosen t (OfPass (number v) r) (seek (pass_key p) (others v)))).visits
       go true = changed
@@ -74,7 +74,8 @@ module _ (v w : View) (r : PassPart) (own : HasPass v) (now : w.parts ≡ OfPass
     number v,
     (
       subst (λ ps. number v < passes_in ps) (sym now) (below (passes_in (others v))),
-      subst (λ ps. HasCut buckets mark b (pass_there (seek (pass_key (number v)) ps)).visits) (sym now) (subst (λ t. HasCut buckets mark b (pass_there (chosen t (OfPass (number v) r) (seek (pass_key (number v)) (others v)))).visits) (sym (key_self (pass_key (number v)))) cut),
+      subst (λ ps. HasCut buckets mark b (pass_there (seek (pass_key (number v)) ps)).visits) (sym now)
+          (subst (λ t. HasCut buckets mark b (pass_there (chosen t (OfPass (number v) r) (seek (pass_key (number v)) (others v)))).visits) (sym (key_self (pass_key (number v)))) cut),
     ),
   )
     where
@@ -93,7 +94,8 @@ last_or_before (suc b) (suc n) l = more (last_or_before b n (omega arith))
     more (inl e) = inl (ap suc e)
     more (inr l) = inr (omega arith)
 
-one_has : (buckets mark : ℕ) (P : ℕ → Visit → Type 0) → ((b : ℕ) (visit : Visit) → P b visit → LeavesCut buckets mark b visit) → (n : ℕ) (vs more : List Visit) → OneEach P n vs → (b : ℕ) → b < n → HasCut buckets mark b (vs ++ more)
+one_has : (buckets mark : ℕ) (P : ℕ → Visit → Type 0) → ((b : ℕ) (visit : Visit) → P b visit → LeavesCut buckets mark b visit) → (n : ℕ) (vs more : List Visit) → OneEach P n vs →
+    (b : ℕ) → b < n → HasCut buckets mark b (vs ++ more)
 one_has buckets mark P leaves zero vs more once b l = absurd (omega arith)
 one_has buckets mark P leaves (suc n) [] more once b l = absurd once
 one_has buckets mark P leaves (suc n) (visit ∷ vs) more once b l = by_number (last_or_before b n l) (one_has buckets mark P leaves n vs more once.1 b)
@@ -142,10 +144,12 @@ module _ (z : Sizes) (v w : View) (long : ℕ) (report : Report) (own : HasPass 
   after = record moved { visits = c.visits.on.visits ++ (pass v).visits }
 
   parts_moved : c.moved.parts ≡ OfPass (number v) moved ∷ others v
-  parts_moved = c.moves.parts ∙ (λ i. OfPass (part_number (c.gathers.parts i)) (record (pass_there (first_in (c.gathers.parts i))) { loaded = moved_by tried outcomes (pass_there (first_in (c.gathers.parts i))).loaded }) ∷ after_first (c.gathers.parts i))
+  parts_moved = c.moves.parts ∙ (λ i. OfPass (part_number (c.gathers.parts i))
+      (record (pass_there (first_in (c.gathers.parts i))) { loaded = moved_by tried outcomes (pass_there (first_in (c.gathers.parts i))).loaded }) ∷ after_first (c.gathers.parts i))
 
   parts_after : w.parts ≡ OfPass (number v) after ∷ others v
-  parts_after = c.visits.on.parts ∙ (λ i. OfPass (part_number (parts_moved i)) (record (pass_there (first_in (parts_moved i))) { visits = c.visits.on.visits ++ (pass_there (first_in (parts_moved i))).visits }) ∷ after_first (parts_moved i))
+  parts_after = c.visits.on.parts ∙ (λ i. OfPass (part_number (parts_moved i))
+      (record (pass_there (first_in (parts_moved i))) { visits = c.visits.on.visits ++ (pass_there (first_in (parts_moved i))).visits }) ∷ after_first (parts_moved i))
 
   pub logs_after : logs_in w ≡ logs_in v
   logs_after = logs_own v w after own parts_after
@@ -168,7 +172,8 @@ module _ (z : Sizes) (v w : View) (long : ℕ) (report : Report) (own : HasPass 
       later (inr a) = inr (subst (λ xs. IsAmong (Heard j (logs_in v j)) xs) (sym kept.1) (among_before (Heard j (logs_in v j)) v.sights kept.0 a))
 
   pub removed_after : (p : ℕ) → RemovesForTables (visits_in v p) (visits_in w p)
-  removed_after p = visits_own v w after own parts_after RemovesForTables (removes (IsCutBy (record_of (pass c.moved))) (pass c.moved).mark z.buckets c.visits.on.visits (pass v).visits c.visits.once) (λ vs. nothing_removed vs) p
+  removed_after p = visits_own v w after own parts_after RemovesForTables (removes (IsCutBy (record_of (pass c.moved))) (pass c.moved).mark z.buckets c.visits.on.visits
+      (pass v).visits c.visits.once) (λ vs. nothing_removed vs) p
 
   module _ (mark : ℕ) (backed : IsBacked z mark w) (ended : IsEnded z v) (whole : HasHeardAll z v) where
     abbrev newest : ℕ
@@ -200,4 +205,5 @@ module _ (z : Sizes) (v w : View) (long : ℕ) (report : Report) (own : HasPass 
     }
 
     pub left_after : (b : ℕ) → b < z.buckets → WasLeftCut z.buckets newest (passes_in w.parts) (visits_in w) b
-    left_after b l = left_own v w after own parts_after z.buckets newest b (one_has z.buckets newest (IsVisitOf Table (IsCutBy (record_of (pass c.moved))) (pass c.moved).mark) leaves z.buckets c.visits.on.visits (pass v).visits c.visits.once b l)
+    left_after b l = left_own v w after own parts_after z.buckets newest b
+        (one_has z.buckets newest (IsVisitOf Table (IsCutBy (record_of (pass c.moved))) (pass c.moved).mark) leaves z.buckets c.visits.on.visits (pass v).visits c.visits.once b l)

@@ -8,6 +8,7 @@ pub mod Refusing
 pub mod Trips
 pub mod Seeing
 pub mod Storing
+pub mod Firsts
 -- What a call replies, and that it is right.
 pub mod Replying
 pub mod Putting

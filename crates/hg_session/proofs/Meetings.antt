@@ -3,14 +3,14 @@ use Rattle.std.proofs.Common.{◌≡◌, ℕ, ◌++◌, [], ◌∷◌, List, sym
 use Rattle.hg_core.specs.declared.log.LogEntry.{LogEntry}
 use Rattle.hg_rule.specs.declared.view.Sight.{Sight}
 use Rattle.hg_rule.specs.declared.view.View.{View}
-use Rattle.hg_rule.specs.Facts.{IsAmong}
+use Rattle.hg_rule.specs.Facts.{IsAmong, IsHeard}
 use Rattle.hg_rule.specs.Views.{number, session, HasOnlySession}
 use Rattle.hg_rule.specs.Moves.{meeting}
 use Rattle.hg_rule.specs.Seats.{IsSessionOf}
 use Rattle.hg_session.specs.declared.engine.Engine.{Engine}
 use Rattle.hg_session.specs.declared.session.Session.{Session}
 use Rattle.hg_session.specs.Engines.{engine_board_id, engine_sizes}
-use Rattle.hg_session.specs.Ties.{Ties, FitsCursor, IsHeard}
+use Rattle.hg_session.specs.Ties.{Ties, FitsCursor}
 use Rattle.hg_session.specs.Sessions.{IsOf, pass_of, view_of, cursor_of, left_of, opened_of, written_of}
 
 pub among_first : {A : Type 0} (a : A) (xs more : List A) → IsAmong a xs → IsAmong a (xs ++ more)

@@ -16,7 +16,7 @@ use Rattle.hg_rule.specs.Reading.{chosen, seek, passes_in}
 use Rattle.hg_rule.specs.Seats.{pass_view}
 use Rattle.hg_rule.proofs.Growing.{among_later}
 use Rattle.hg_session.specs.declared.engine.Engine.{Engine}
-use Rattle.hg_session.specs.declared.opening.Passes.{Passes}
+use Rattle.hg_session.specs.declared.new_engine.Passes.{Passes}
 use Rattle.hg_session.specs.Ended.{visits_in, HasAllPasses}
 use Rattle.hg_session.specs.Finished.{HasNoSession}
 use Rattle.hg_session.specs.Passing.{AreAlone, visits_of}
@@ -34,7 +34,8 @@ done_among x (y ∷ events) (inr i) = inr (done_among x events i)
 abbrev pub three : PassPart → PassPart → PassPart → List Part
 three group table interval = OfPass 1 table ∷ OfPass 2 interval ∷ OfPass 0 group ∷ []
 
-module _ (e : Engine) (passes : Passes) (u w : View) (h : AreAlone e passes) (first : u ≡ merged (pass_view passes.table) (pass_view passes.group)) (second : w ≡ merged u (pass_view passes.interval)) where
+module _ (e : Engine) (passes : Passes) (u w : View) (h : AreAlone e passes) (first : u ≡ merged (pass_view passes.table) (pass_view passes.group))
+    (second : w ≡ merged u (pass_view passes.interval)) where
   abbrev group : PassPart
   group = pass (pass_view passes.group)
 
@@ -51,7 +52,8 @@ module _ (e : Engine) (passes : Passes) (u w : View) (h : AreAlone e passes) (fi
   parts = ap (λ (v : View). v.parts) second ∙ (λ i. put_in (two i) (h.interval.only i))
 
   pub all_passes : HasAllPasses w
-  all_passes = let sum : shares w.parts ≡ shares (three group table interval) = ap shares parts in let a = h.group.share in let b = h.table.share in let d = h.interval.share in omega (arith, sum, a, b, d)
+  all_passes = let sum : shares w.parts ≡ shares (three group table interval) = ap shares parts in let a = h.group.share in let b = h.table.share in let d = h.interval.share in
+      omega (arith, sum, a, b, d)
 
   pub three_passes : passes_in w.parts ≡ 3
   three_passes = ap passes_in parts
@@ -84,7 +86,8 @@ module _ (e : Engine) (passes : Passes) (u w : View) (h : AreAlone e passes) (fi
   pub all_seen : (s : Sight) → IsAmong s (pass_view passes.group).sights ⊎ (IsAmong s (pass_view passes.table).sights ⊎ IsAmong s (pass_view passes.interval).sights) → IsAmong s w.sights
   all_seen s h = subst (IsAmong s) (sym sights) (go h)
     where
-      go : IsAmong s (pass_view passes.group).sights ⊎ (IsAmong s (pass_view passes.table).sights ⊎ IsAmong s (pass_view passes.interval).sights) → IsAmong s ((own_sights ++ group_sights) ++ interval_sights)
+      go : IsAmong s (pass_view passes.group).sights ⊎ (IsAmong s (pass_view passes.table).sights ⊎ IsAmong s (pass_view passes.interval).sights) →
+          IsAmong s ((own_sights ++ group_sights) ++ interval_sights)
       go (inl i) = among_first s (own_sights ++ group_sights) interval_sights (among_later s own_sights group_sights (among_first s _ _ i))
       go (inr (inl i)) = among_first s (own_sights ++ group_sights) interval_sights (among_first s own_sights group_sights i)
       go (inr (inr i)) = among_later s (own_sights ++ group_sights) interval_sights (among_first s _ _ i)
@@ -93,7 +96,8 @@ module _ (e : Engine) (passes : Passes) (u w : View) (h : AreAlone e passes) (fi
   all_done x h = subst (IsAmong (Did x)) (sym sights) (go h)
     where
       go : IsAmong x (pass_view passes.group).events ⊎ IsAmong x (pass_view passes.interval).events → IsAmong (Did x) ((own_sights ++ group_sights) ++ interval_sights)
-      go (inl i) = among_first (Did x) (own_sights ++ group_sights) interval_sights (among_later (Did x) own_sights group_sights (among_later (Did x) (pass_view passes.group).sights _ (done_among x _ i)))
+      go (inl i) = among_first (Did x) (own_sights ++ group_sights) interval_sights
+          (among_later (Did x) own_sights group_sights (among_later (Did x) (pass_view passes.group).sights _ (done_among x _ i)))
       go (inr i) = among_later (Did x) (own_sights ++ group_sights) interval_sights (among_later (Did x) (pass_view passes.interval).sights _ (done_among x _ i))
 
   pub events_stay : w.events ≡ (pass_view passes.table).events

@@ -60,7 +60,8 @@ stands_at : (h g : History) (p : Receipt) (c : Commit) → StartsWith h g → St
 stands_at h g p c starts s = record {
   before = flat s.before ++ s.earlier;
   after = s.others ++ (flat s.after ++ flat starts.0);
-  is = ap flat starts.1 ∙ (flat_append g starts.0 ∙ (ap (λ l. flat l ++ flat starts.0) s.is ∙ (ap (λ l. l ++ flat starts.0) (flat_append s.before ((s.earlier ++ c ∷ s.others) ∷ s.after)) ∙ regroup (flat s.before) s.earlier s.others (flat s.after) (flat starts.0))));
+  is = ap flat starts.1 ∙ (flat_append g starts.0 ∙ (ap (λ l. flat l ++ flat starts.0) s.is ∙
+      (ap (λ l. l ++ flat starts.0) (flat_append s.before ((s.earlier ++ c ∷ s.others) ∷ s.after)) ∙ regroup (flat s.before) s.earlier s.others (flat s.after) (flat starts.0))));
   many = length-append (flat s.before) s.earlier ∙ (ap (λ n. n + length s.earlier) (length_flat s.before) ∙ sym s.place_is);
 }
   where
@@ -80,7 +81,8 @@ known_sight P x [] each among = absurd among
 known_sight P x (y ∷ xs) each (inl e) = subst P e each.0
 known_sight P x (y ∷ xs) each (inr among) = known_sight P x xs each.1 among
 
-pub sessions_apart : (z : Sizes) (mark : ℕ) (v a b c d : View) (p q : Receipt) → IsBacked z mark v → AreAmong b.sights v.sights → AreAmong d.sights v.sights → HasPlace a b p → HasPlace c d q → p.place ≡ q.place → (number a ≡ number c) × (begans (session a).log ≡ begans (session c).log)
+pub sessions_apart : (z : Sizes) (mark : ℕ) (v a b c d : View) (p q : Receipt) → IsBacked z mark v → AreAmong b.sights v.sights → AreAmong d.sights v.sights → HasPlace a b p →
+    HasPlace c d q → p.place ≡ q.place → (number a ≡ number c) × (begans (session a).log ≡ begans (session c).log)
 sessions_apart z mark v a b c d p q backed first second s t same =
     let g : StartsWith backed.state.history s.history = known_sight (Known backed.state) (Saw (groups s.history)) v.sights backed.true_of.sights (first _ s.saw) in
     let k : StartsWith backed.state.history t.history = known_sight (Known backed.state) (Saw (groups t.history)) v.sights backed.true_of.sights (second _ t.saw) in

@@ -1,5 +1,6 @@
 -- What a gather finds where all sessions rest, and were heard to the end of their logs.
-use Rattle.std.proofs.Common.{◌≡◌, ◌⊎◌, inl, inr, ℕ, zero, suc, ◌+◌, ◌<◌, ◌≤◌, Bool, true, false, List, [], ◌∷◌, ◌++◌, length, map, Option, Some, None, refl, sym, ap, ◌∙◌, subst, arith, eqb, ltb, length-append, true≢false}
+use Rattle.std.proofs.Common.{◌≡◌, ◌⊎◌, inl, inr, ℕ, zero, suc, ◌+◌, ◌<◌, ◌≤◌, Bool, true, false, List, [], ◌∷◌, ◌++◌, length, map, Option, Some, None, refl, sym, ap, ◌∙◌, subst, arith, eqb}
+use Rattle.std.proofs.Common.{ltb, length-append, true≢false}
 use Rattle.std.specs.Prelude.{◌==◌, if◌then◌else◌, max, IfSome, IsTrue}
 use Rattle.std.proofs.lemmas.Bool.Decides.{nat_tests}
 use Rattle.hg_base.specs.History.{History}
@@ -22,7 +23,7 @@ use Rattle.hg_rule.specs.declared.view.Sight.{Sight}
 use Rattle.hg_rule.specs.declared.view.Sight.TheVariants.{Saw, Heard, Took, Did}
 use Rattle.hg_rule.specs.declared.view.View.{View}
 use Rattle.hg_rule.specs.declared.view.Sizes.{Sizes}
-use Rattle.hg_rule.specs.Facts.{IsAmong, StartsWith, groups, heard, record_of, Shown, Known}
+use Rattle.hg_rule.specs.Facts.{IsAmong, StartsWith, groups, heard, record_of, Shown, Known, IsHeard}
 use Rattle.hg_rule.specs.Keys.{session_key, both, one, count}
 use Rattle.hg_rule.specs.Rules.{IsBacked}
 use Rattle.hg_rule.specs.Reading.{chosen, seek}
@@ -33,7 +34,6 @@ use Rattle.hg_tracker.specs.Begun.{AtMost}
 use Rattle.hg_tracker.specs.Entries.{down_from}
 use Rattle.hg_tracker.proofs.After.{first_key}
 use Rattle.hg_session.specs.Ended.{logs_in, IsEnded}
-use Rattle.hg_session.specs.Ties.{IsHeard}
 use Rattle.hg_session.proofs.Bringing.{no_part}
 
 -- ---- what was heard
@@ -99,7 +99,12 @@ up_to_whole n j log xs h (inr a) = each_among n (Heard j log) xs h a
 
 all_most : (n m : ℕ) (logs : ℕ → List LogEntry) → ((j : ℕ) → IsSession n j → UpTo m (logs j)) → newest_of n logs ≤ m
 all_most zero m logs u = omega arith
-all_most (suc n) m logs u = omega (arith, all_most n m logs (λ j is. u j (record { first = is.first; last = let l = is.last in omega arith })), newest_most m (logs (suc n)) (u (suc n) (record { first = omega arith; last = omega arith })))
+all_most (suc n) m logs u = omega (
+  arith,
+  all_most n m logs (λ j is. u j (record { first = is.first; last = let l = is.last in omega arith })),
+  newest_most m (logs (suc n))
+      (u (suc n) (record { first = omega arith; last = omega arith })),
+)
 
 same_newest : (n : ℕ) (logs others : ℕ → List LogEntry) → ((j : ℕ) → IsSession n j → logs j ≡ others j) → newest_of n logs ≡ newest_of n others
 same_newest zero logs others e = refl
@@ -128,14 +133,16 @@ idle_said (registers.Entering f) later early none rests says = begun says.1
     begun (inl h) = absurd (true≢false (sym h ∙ ap has_begun none))
     begun (inr h) = absurd h
 
-idle_register : (known : ℕ) (register : Register) (log later early : List LogEntry) → length log ≤ known → current log ≡ None → Reaches known register log phases.Idle later early → register ≡ registers.Idle
+idle_register : (known : ℕ) (register : Register) (log later early : List LogEntry) → length log ≤ known → current log ≡ None → Reaches known register log phases.Idle later early →
+    register ≡ registers.Idle
 idle_register known register log later early whole rests reach =
     let e : length log ≡ length (later ++ early) = ap length reach.log_is in
     let none : later ≡ [] = none_of later (omega (arith, e, append_length later early, whole, reach.longer)) in
     let all : log ≡ early = reach.log_is ∙ ap (λ xs. xs ++ early) none in
     idle_said register later early none (sym (ap current all) ∙ rests) reach.says
 
-all_idle : (n : ℕ) (loaded : List (ℕ × Loaded)) → map (λ e. e.0) loaded ≡ down_from n → ((j : ℕ) → IsSession n j → IfSome (found j loaded) (λ it. it.register ≡ registers.Idle)) → Each (λ e. e.1.register ≡ registers.Idle) loaded
+all_idle : (n : ℕ) (loaded : List (ℕ × Loaded)) → map (λ e. e.0) loaded ≡ down_from n → ((j : ℕ) → IsSession n j → IfSome (found j loaded) (λ it. it.register ≡ registers.Idle)) →
+    Each (λ e. e.1.register ≡ registers.Idle) loaded
 all_idle n [] keys h = tt
 all_idle zero (e ∷ loaded) keys h = absurd (let l : suc (length (map (λ e. e.0) loaded)) ≡ 0 = ap length keys in omega arith)
 all_idle (suc n) (e ∷ loaded) keys h = (own, all_idle n loaded (first_key e loaded n keys).1 (λ j is. later j is.last (h j (record { first = is.first; last = let l = is.last in omega arith }))))
@@ -160,11 +167,13 @@ all_idle (suc n) (e ∷ loaded) keys h = (own, all_idle n loaded (first_key e lo
 -- ---- a state that backs the view
 
 -- a session whose part is there
-session_is : (s : CoreState) (j : ℕ) (ps : List Part) → Each (Shown s) ps → 0 < count (session_key j) ps → (s.phase j ≡ (session_there (seek (session_key j) ps)).phase) × (s.log j ≡ (session_there (seek (session_key j) ps)).log)
+session_is : (s : CoreState) (j : ℕ) (ps : List Part) → Each (Shown s) ps → 0 < count (session_key j) ps → (s.phase j ≡ (session_there (seek (session_key j) ps)).phase) ×
+    (s.log j ≡ (session_there (seek (session_key j) ps)).log)
 session_is s j [] h l = absurd (omega arith)
 session_is s j (OfSession i part ∷ ps) h l = go (eqb i j) refl l (session_is s j ps h.1)
   where
-    go : (t : Bool) → eqb i j ≡ t → 0 < one t + count (session_key j) ps → (0 < count (session_key j) ps → (s.phase j ≡ (session_there (seek (session_key j) ps)).phase) × (s.log j ≡ (session_there (seek (session_key j) ps)).log))
+    go : (t : Bool) → eqb i j ≡ t → 0 < one t + count (session_key j) ps → (0 < count (session_key j) ps → (s.phase j ≡ (session_there (seek (session_key j) ps)).phase) ×
+        (s.log j ≡ (session_there (seek (session_key j) ps)).log))
         → (s.phase j ≡ (session_there (chosen t (OfSession i part) (seek (session_key j) ps))).phase) × (s.log j ≡ (session_there (chosen t (OfSession i part) (seek (session_key j) ps))).log)
     go true e l ih = let same = sym (same_number i j e) in (ap s.phase same ∙ h.0.0, ap s.log same ∙ h.0.1.0)
     go false e l ih = ih (less _ l)
@@ -173,7 +182,8 @@ session_is s j (OfSession i part ∷ ps) h l = go (eqb i j) refl l (session_is s
         less n l = omega arith
 session_is s j (Lent i part ∷ ps) h l = go (eqb i j) refl l (session_is s j ps h.1)
   where
-    go : (t : Bool) → eqb i j ≡ t → 0 < one t + count (session_key j) ps → (0 < count (session_key j) ps → (s.phase j ≡ (session_there (seek (session_key j) ps)).phase) × (s.log j ≡ (session_there (seek (session_key j) ps)).log))
+    go : (t : Bool) → eqb i j ≡ t → 0 < one t + count (session_key j) ps → (0 < count (session_key j) ps → (s.phase j ≡ (session_there (seek (session_key j) ps)).phase) ×
+        (s.log j ≡ (session_there (seek (session_key j) ps)).log))
         → (s.phase j ≡ (session_there (chosen t (Lent i part) (seek (session_key j) ps))).phase) × (s.log j ≡ (session_there (chosen t (Lent i part) (seek (session_key j) ps))).log)
     go true e l ih = let same = sym (same_number i j e) in (ap s.phase same ∙ h.0.0, ap s.log same ∙ h.0.1.0)
     go false e l ih = ih (less _ l)
@@ -216,14 +226,16 @@ module _ (z : Sizes) (n : ℕ) (x : View) (k : IsBacked z n x) (ended : IsEnded 
   record_is = (subst (Each (Shown s)) parts k.true_of.parts).0.0
 
   idle_at : (j : ℕ) → IsSession z.sessions j → length (logs_in x j) ≤ heard j r.seen → IfSome (found j r.loaded) (λ it. it.register ≡ registers.Idle)
-  idle_at j is whole = go (found j r.loaded) (subst (λ (t : PassRecord). IfSome (found j t.loaded) (λ it. StandsIn (t.known j) it.register (s.log j) (s.phase j))) record_is (k.steady.records_reach_logs.stands p j))
+  idle_at j is whole = go (found j r.loaded) (subst (λ (t : PassRecord). IfSome (found j t.loaded) (λ it. StandsIn (t.known j) it.register (s.log j) (s.phase j))) record_is
+      (k.steady.records_reach_logs.stands p j))
     where
       none : current (s.log j) ≡ None
       none = k.steady.logs_answer.reads j ∙ ap snapshot_in (rests j is)
 
       go : (o : Option Loaded) → IfSome o (λ it. StandsIn (heard j r.seen) it.register (s.log j) (s.phase j)) → IfSome o (λ it. it.register ≡ registers.Idle)
       go None h = tt
-      go (Some it) h = let k = subst (StandsIn (heard j r.seen) it.register (s.log j)) (rests j is) h in idle_register (heard j r.seen) it.register (s.log j) k.0 k.1 (subst (λ l. length l ≤ heard j r.seen) (sym (session j is).1) whole) none k.2
+      go (Some it) h = let k = subst (StandsIn (heard j r.seen) it.register (s.log j)) (rests j is) h in
+          idle_register (heard j r.seen) it.register (s.log j) k.0 k.1 (subst (λ l. length l ≤ heard j r.seen) (sym (session j is).1) whole) none k.2
 
   -- each register of the pass's record is idle
   pub found_idle : map (λ e. e.0) r.loaded ≡ down_from z.sessions → ((j : ℕ) → IsSession z.sessions j → length (logs_in x j) ≤ heard j r.seen) → Each (λ e. e.1.register ≡ registers.Idle) r.loaded
@@ -232,14 +244,16 @@ module _ (z : Sizes) (n : ℕ) (x : View) (k : IsBacked z n x) (ended : IsEnded 
   -- and its mark is the greatest number of the logs
   pub mark_newest : ((j : ℕ) → IsSession z.sessions j → UpTo r.mark (logs_in x j)) → r.mark ≡ newest_of z.sessions (logs_in x)
   mark_newest most =
-      let told : s.mark ≡ newest_of z.sessions (logs_in x) = mark_told s k.steady ∙ ap (λ m. newest_of m s.log) k.sized.sessions ∙ same_newest z.sessions s.log (logs_in x) (λ j is. (session j is).1) in
+      let told : s.mark ≡ newest_of z.sessions (logs_in x) = mark_told s k.steady ∙ ap (λ m. newest_of m s.log) k.sized.sessions ∙
+      same_newest z.sessions s.log (logs_in x) (λ j is. (session j is).1) in
       let less : r.mark ≤ s.mark = subst (λ (t : PassRecord). t.mark ≤ s.mark) record_is (k.steady.mark_is_length.passes p) in
       omega (arith, told, less, all_most z.sessions r.mark (logs_in x) most)
 
   -- no group was seen beyond it
   pub seen_newest : (h : History) → IsAmong (Saw (groups h)) x.sights → length h ≤ newest_of z.sessions (logs_in x)
   seen_newest h i =
-      let told : s.mark ≡ newest_of z.sessions (logs_in x) = mark_told s k.steady ∙ ap (λ m. newest_of m s.log) k.sized.sessions ∙ same_newest z.sessions s.log (logs_in x) (λ j is. (session j is).1) in
+      let told : s.mark ≡ newest_of z.sessions (logs_in x) = mark_told s k.steady ∙ ap (λ m. newest_of m s.log) k.sized.sessions ∙
+      same_newest z.sessions s.log (logs_in x) (λ j is. (session j is).1) in
       let known : StartsWith s.history h = known_among s (Saw (groups h)) x.sights k.true_of.sights i in
       let sum = length-append h known.0 in
       let all : length s.history ≡ length (h ++ known.0) = ap length known.1 in

@@ -32,13 +32,18 @@ use Rattle.hg_session.proofs.Settling.{gains_on}
 abbrev pub with_part : (ℕ → Rows) → Unprinted
 with_part part = record { found = []; part = part; undone = []; rest = None; looked = 0 }
 
-pub scan_inside : (z : Sizes) (v w : View) (c : Snapshot) (table : TableId) (low high : ℕ) (rows : Rows) → current (session v).log ≡ Some c → IsTrue (has c.scope table) → ScansAll z.buckets v table low high rows w → Answers z v (say.Scan table low high) (inside (answers.Rows rows)) w
-scan_inside z v w c table low high rows e declared k = answers_inside z v w (say.Scan table low high) (answers.Rows rows) (with_part k.part) (ap (λ o. reading.is_alone o (say.Scan table low high)) e) k.gains k.joins (λ d q. of_some (Some d) (λ snapshot. IsTrue (has snapshot.scope table)) d refl (subst (λ o. IfSome o (λ snapshot. IsTrue (has snapshot.scope table))) (sym e ∙ q) declared)) tt tt tt tt tt
+pub scan_inside : (z : Sizes) (v w : View) (c : Snapshot) (table : TableId) (low high : ℕ) (rows : Rows) → current (session v).log ≡ Some c → IsTrue (has c.scope table) →
+    ScansAll z.buckets v table low high rows w → Answers z v (say.Scan table low high) (inside (answers.Rows rows)) w
+scan_inside z v w c table low high rows e declared k = answers_inside z v w (say.Scan table low high) (answers.Rows rows) (with_part k.part)
+    (ap (λ o. reading.is_alone o (say.Scan table low high)) e) k.gains k.joins
+    (λ d q. of_some (Some d) (λ snapshot. IsTrue (has snapshot.scope table)) d refl (subst (λ o. IfSome o (λ snapshot. IsTrue (has snapshot.scope table))) (sym e ∙ q) declared)) tt tt tt tt tt
 
-pub scan_alone : (z : Sizes) (v m n w : View) (at : ℕ) (table : TableId) (low high : ℕ) (rows : Rows) → current (session v).log ≡ None → Each (AtMost at) v.sights → Gains v (Began at (only (Some table)) ∷ []) m → ScansAll z.buckets m table low high rows n → Gains n (Over ∷ []) w
+pub scan_alone : (z : Sizes) (v m n w : View) (at : ℕ) (table : TableId) (low high : ℕ) (rows : Rows) → current (session v).log ≡ None → Each (AtMost at) v.sights →
+    Gains v (Began at (only (Some table)) ∷ []) m → ScansAll z.buckets m table low high rows n → Gains n (Over ∷ []) w
     → Answers z v (say.Scan table low high) (record { at = Some at; answer = answers.Rows rows; number = None }) w
 scan_alone z v m n w at table low high rows e most b k o =
-    let two = gains_on v m n (Began at (only (Some table)) ∷ []) (saws z.buckets table low high k.part z.buckets) b k.gains (λ l. sym (append_assoc (saws z.buckets table low high k.part z.buckets) (Began at (only (Some table)) ∷ []) l)) in
+    let two = gains_on v m n (Began at (only (Some table)) ∷ []) (saws z.buckets table low high k.part z.buckets) b k.gains
+    (λ l. sym (append_assoc (saws z.buckets table low high k.part z.buckets) (Began at (only (Some table)) ∷ []) l)) in
     let all = gains_on v n w (saws z.buckets table low high k.part z.buckets ++ Began at (only (Some table)) ∷ []) (Over ∷ []) two o (λ l. refl) in
     answers_alone z v w (say.Scan table low high) (answers.Rows rows) at None (with_part k.part) e refl all refl k.joins refl refl most tt tt tt
 
@@ -83,10 +88,12 @@ pub no_row : (row : Option (List Value)) → false ≡ is_some row → row ≡ N
 no_row None e = refl
 no_row (Some found) e = absurd (let k = e in cc)
 
-pub nothing_inside : (z : Sizes) (v w : View) (c : Snapshot) (rid : Rid) → current (session v).log ≡ Some c → Gains v (saw z.buckets rid [] ∷ []) w → Answers z v (say.Del rid) (inside answers.Nothing) w
+pub nothing_inside : (z : Sizes) (v w : View) (c : Snapshot) (rid : Rid) → current (session v).log ≡ Some c → Gains v (saw z.buckets rid [] ∷ []) w →
+    Answers z v (say.Del rid) (inside answers.Nothing) w
 nothing_inside z v w c rid e g = answers_inside z v w (say.Del rid) answers.Nothing nothing_more (ap (λ o. reading.is_alone o (say.Del rid)) e) g tt (λ c e. tt) tt tt tt tt tt
 
-pub nothing_alone : (z : Sizes) (v w : View) (at : ℕ) (rid : Rid) → current (session v).log ≡ None → Each (AtMost at) v.sights → Gains v (close None ++ (saw z.buckets rid [] ∷ Began at (only (Some rid.table)) ∷ [])) w → Answers z v (say.Del rid) (record { at = Some at; answer = answers.Nothing; number = None }) w
+pub nothing_alone : (z : Sizes) (v w : View) (at : ℕ) (rid : Rid) → current (session v).log ≡ None → Each (AtMost at) v.sights →
+    Gains v (close None ++ (saw z.buckets rid [] ∷ Began at (only (Some rid.table)) ∷ [])) w → Answers z v (say.Del rid) (record { at = Some at; answer = answers.Nothing; number = None }) w
 nothing_alone z v w at rid e most g = answers_alone z v w (say.Del rid) answers.Nothing at None nothing_more e refl g refl tt refl refl most tt tt tt
 
 -- after a look that logged nothing

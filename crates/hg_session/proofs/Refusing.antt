@@ -39,14 +39,16 @@ saws_there buckets table low high part (suc n) = go (has_own buckets table low h
     go false rest = rest
 
 -- a refused write leaves the looks before it
-pub looked_before : (v w : View) (rid : Rid) (image : Image) (at : ℕ) (looks : List LogEntry) → Each (IsLookAt rid.table rid.key rid.key) looks → (e : WriteRefusal) → Gains v (entries_of {T = ⊤} rid image (Err e) ++ looks) w → refused_at at e ≡ put.NoMemory → HasLooked rid.table rid.key rid.key v w
+pub looked_before : (v w : View) (rid : Rid) (image : Image) (at : ℕ) (looks : List LogEntry) → Each (IsLookAt rid.table rid.key rid.key) looks → (e : WriteRefusal) →
+    Gains v (entries_of {T = ⊤} rid image (Err e) ++ looks) w → refused_at at e ≡ put.NoMemory → HasLooked rid.table rid.key rid.key v w
 looked_before v w rid image at looks there (Open j x) g same = absurd (let q = same in cc)
 looked_before v w rid image at looks there (Newer n) g same = absurd (let q = same in cc)
 looked_before v w rid image at looks there NoMemory g same = record { looks = looks; there = there; gains = g }
 
 -- ---- a transaction of its own
 
-pub given_up : (v m w : View) (table : TableId) (low high at : ℕ) (besides looks : List LogEntry) → Each (IsLookAt table low high) looks → Gains v (looks ++ Began at (only (Some table)) ∷ []) m → Gains m (Over ∷ besides) w → HasGivenUp table low high besides v w
+pub given_up : (v m w : View) (table : TableId) (low high at : ℕ) (besides looks : List LogEntry) → Each (IsLookAt table low high) looks →
+    Gains v (looks ++ Began at (only (Some table)) ∷ []) m → Gains m (Over ∷ besides) w → HasGivenUp table low high besides v w
 given_up v m w table low high at besides looks there begun over = record {
   at = at;
   looks = looks;
@@ -54,7 +56,8 @@ given_up v m w table low high at besides looks there begun over = record {
   gains = gains_on v m w (looks ++ Began at (only (Some table)) ∷ []) (Over ∷ besides) begun over (λ l. sym (append_assoc (Over ∷ besides) (looks ++ Began at (only (Some table)) ∷ []) l));
 }
 
-pub no_write : (z : Sizes) (v m w : View) (rid : Rid) (image : Image) (at : ℕ) (looks : List LogEntry) → Each (IsLookAt rid.table rid.key rid.key) looks → Gains v (looks ++ Began at (only (Some rid.table)) ∷ []) m → (e : PutRefusal) → IsRefusedAlone z m rid image at w e → e ≡ put.NoMemory → LeavesNoWrite None rid image v w
+pub no_write : (z : Sizes) (v m w : View) (rid : Rid) (image : Image) (at : ℕ) (looks : List LogEntry) → Each (IsLookAt rid.table rid.key rid.key) looks →
+    Gains v (looks ++ Began at (only (Some rid.table)) ∷ []) m → (e : PutRefusal) → IsRefusedAlone z m rid image at w e → e ≡ put.NoMemory → LeavesNoWrite None rid image v w
 no_write z v m w rid image at looks there begun (put.Undeclared table) g same = absurd g
 no_write z v m w rid image at looks there begun (put.Open s j x) g same = absurd (let q = same in cc)
 no_write z v m w rid image at looks there begun (put.Newer s n) g same = absurd (let q = same in cc)

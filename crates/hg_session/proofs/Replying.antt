@@ -41,11 +41,19 @@ if_known None P f = tt
 if_known (Some x) P f = f x refl
 
 -- in a transaction, or a statement that begins or ends one
-pub answers_inside : (z : Sizes) (v w : View) (s : Statement) (a : Answer) (u : Unprinted) → reading.is_alone (current (session v).log) s ≡ false → Gains v (own_entries z.buckets u s a) w → FitsAnswer z.buckets u (own_writes (session v).log) s a → ((c : Snapshot) → current (session v).log ≡ Some c → FitsScope c.scope s a)
-    → FitsIn (current (session v).log) s → IfSome (snapshot_in (inside a)) (λ at. Each (AtMost at) v.sights) → IfSome (commit_in s (inside a)) (IsNext v.sights (snapshot_in (inside a))) → IfSome (newer_in (inside a)) (λ c. 0 < c) → GoesOn z v a → Answers z v s (inside a) w
+pub answers_inside : (z : Sizes) (v w : View) (s : Statement) (a : Answer) (u : Unprinted) → reading.is_alone (current (session v).log) s ≡ false →
+    Gains v (own_entries z.buckets u s a) w → FitsAnswer z.buckets u (own_writes (session v).log) s a → ((c : Snapshot) → current (session v).log ≡ Some c → FitsScope c.scope s a)
+    → FitsIn (current (session v).log) s → IfSome (snapshot_in (inside a)) (λ at. Each (AtMost at) v.sights) →
+    IfSome (commit_in s (inside a)) (IsNext v.sights (snapshot_in (inside a))) → IfSome (newer_in (inside a)) (λ c. 0 < c) → GoesOn z v a → Answers z v s (inside a) w
 answers_inside z v w s a u alone g fits scope stands snapshot commit newer goes = record {
   u = u;
-  fits = record { at = sym alone; number = ap (λ b. b && is_some (stored_by s a)) (sym alone); answer = fits; scope = if_known (current (session v).log) (λ c. FitsScope c.scope s a) scope; inside = stands };
+  fits = record {
+    at = sym alone;
+    number = ap (λ b. b && is_some (stored_by s a)) (sym alone);
+    answer = fits;
+    scope = if_known (current (session v).log) (λ c. FitsScope c.scope s a) scope;
+    inside = stands;
+  };
   log = g.log ∙ ap (λ b. log_with b z.buckets u s (inside a) (session v).log) (sym alone);
   number_is = g.number_is;
   kept = g.kept;
@@ -73,14 +81,25 @@ access_stands o say.Rollback i = tt
 access_stands o (say.Gc kind) i = tt
 
 -- a transaction of its own
-pub answers_alone : (z : Sizes) (v w : View) (s : Statement) (a : Answer) (at : ℕ) (n : Option ℕ) (u : Unprinted) → current (session v).log ≡ None → IsTrue (is_access s) → Gains v (close n ++ (own_entries z.buckets u s a ++ Began at (only (table_of s)) ∷ [])) w
-    → is_some n ≡ is_some (stored_by s a) → FitsAnswer z.buckets u (own_writes (session v).log) s a → snapshot_in (record { at = Some at; answer = a; number = n }) ≡ Some at → commit_in s (record { at = Some at; answer = a; number = n }) ≡ n
-    → Each (AtMost at) v.sights → IfSome n (IsNext v.sights (Some at)) → IfSome (newer_in (record { at = Some at; answer = a; number = n })) (λ c. 0 < c) → GoesOn z v a → Answers z v s (record { at = Some at; answer = a; number = n }) w
+pub answers_alone : (z : Sizes) (v w : View) (s : Statement) (a : Answer) (at : ℕ) (n : Option ℕ) (u : Unprinted) → current (session v).log ≡ None → IsTrue (is_access s) →
+    Gains v (close n ++ (own_entries z.buckets u s a ++ Began at (only (table_of s)) ∷ [])) w
+    → is_some n ≡ is_some (stored_by s a) → FitsAnswer z.buckets u (own_writes (session v).log) s a → snapshot_in (record { at = Some at; answer = a; number = n }) ≡ Some at →
+    commit_in s (record { at = Some at; answer = a; number = n }) ≡ n
+    → Each (AtMost at) v.sights → IfSome n (IsNext v.sights (Some at)) → IfSome (newer_in (record { at = Some at; answer = a; number = n })) (λ c. 0 < c) → GoesOn z v a →
+    Answers z v s (record { at = Some at; answer = a; number = n }) w
 answers_alone z v w s a at n u none access g stored fits snapshot commit most next newer goes =
     let alone = is_alone_now (session v).log s none access in record {
       u = u;
-      fits = record { at = sym alone; number = stored ∙ ap (λ b. b && is_some (stored_by s a)) (sym alone); answer = fits; scope = if_none (current (session v).log) (λ c. FitsScope c.scope s a) none; inside = access_stands (current (session v).log) s access };
-      log = g.log ∙ (append_assoc (close n) (own_entries z.buckets u s a ++ Began at (only (table_of s)) ∷ []) (session v).log ∙ (ap (λ l. close n ++ l) (append_assoc (own_entries z.buckets u s a) (Began at (only (table_of s)) ∷ []) (session v).log) ∙ ap (λ b. log_with b z.buckets u s (record { at = Some at; answer = a; number = n }) (session v).log) (sym alone)));
+      fits = record {
+        at = sym alone;
+        number = stored ∙ ap (λ b. b && is_some (stored_by s a)) (sym alone);
+        answer = fits;
+        scope = if_none (current (session v).log) (λ c. FitsScope c.scope s a) none;
+        inside = access_stands (current (session v).log) s access;
+      };
+      log = g.log ∙ (append_assoc (close n) (own_entries z.buckets u s a ++ Began at (only (table_of s)) ∷ []) (session v).log ∙
+          (ap (λ l. close n ++ l) (append_assoc (own_entries z.buckets u s a) (Began at (only (table_of s)) ∷ []) (session v).log) ∙
+          ap (λ b. log_with b z.buckets u s (record { at = Some at; answer = a; number = n }) (session v).log) (sym alone)));
       number_is = g.number_is;
       kept = g.kept;
       snapshot = subst (λ o. IfSome o (λ x. Each (AtMost x) v.sights)) (sym snapshot) most;
@@ -91,11 +110,14 @@ answers_alone z v w s a at n u none access g stored fits snapshot commit most ne
 
 -- ---- a get
 
-pub get_inside : (z : Sizes) (v w : View) (c : Snapshot) (rid : Rid) (row : Option (List Value)) → current (session v).log ≡ Some c → Gains v (saw z.buckets rid (rows_at rid.key row) ∷ []) w → Answers z v (say.Get rid) (inside (row_answer row)) w
+pub get_inside : (z : Sizes) (v w : View) (c : Snapshot) (rid : Rid) (row : Option (List Value)) → current (session v).log ≡ Some c →
+    Gains v (saw z.buckets rid (rows_at rid.key row) ∷ []) w → Answers z v (say.Get rid) (inside (row_answer row)) w
 get_inside z v w c rid None e g = answers_inside z v w (say.Get rid) answers.Nothing nothing_more (ap (λ o. reading.is_alone o (say.Get rid)) e) g tt (λ c e. tt) tt tt tt tt tt
 get_inside z v w c rid (Some row) e g = answers_inside z v w (say.Get rid) (answers.Found row) nothing_more (ap (λ o. reading.is_alone o (say.Get rid)) e) g tt (λ c e. tt) tt tt tt tt tt
 
-pub get_alone : (z : Sizes) (v w : View) (at : ℕ) (rid : Rid) (row : Option (List Value)) → current (session v).log ≡ None → Each (AtMost at) v.sights → Gains v (close None ++ (saw z.buckets rid (rows_at rid.key row) ∷ Began at (only (Some rid.table)) ∷ [])) w → Answers z v (say.Get rid) (record { at = Some at; answer = row_answer row; number = None }) w
+pub get_alone : (z : Sizes) (v w : View) (at : ℕ) (rid : Rid) (row : Option (List Value)) → current (session v).log ≡ None → Each (AtMost at) v.sights →
+    Gains v (close None ++ (saw z.buckets rid (rows_at rid.key row) ∷ Began at (only (Some rid.table)) ∷ [])) w →
+    Answers z v (say.Get rid) (record { at = Some at; answer = row_answer row; number = None }) w
 get_alone z v w at rid None e most g = answers_alone z v w (say.Get rid) answers.Nothing at None nothing_more e refl g refl tt refl refl most tt tt tt
 get_alone z v w at rid (Some row) e most g = answers_alone z v w (say.Get rid) (answers.Found row) at None nothing_more e refl g refl tt refl refl most tt tt tt
 
@@ -106,9 +128,12 @@ undeclared_scope : (scope : Scope) (s : Statement) (table : TableId) → FitsSco
 undeclared_scope scope (say.Scan other low high) table = tt
 undeclared_scope scope s table = tt
 
-pub undeclared_inside : (z : Sizes) (v w : View) (c : Snapshot) (s : Statement) (table : TableId) → current (session v).log ≡ Some c → (own_entries z.buckets nothing_more s (answers.Undeclared table) ≡ Outside table ∷ []) → FitsAnswer z.buckets nothing_more (own_writes (session v).log) s (answers.Undeclared table) → FitsIn (current (session v).log) s → committed_by s (answers.Undeclared table) ≡ None
+pub undeclared_inside : (z : Sizes) (v w : View) (c : Snapshot) (s : Statement) (table : TableId) → current (session v).log ≡ Some c →
+    (own_entries z.buckets nothing_more s (answers.Undeclared table) ≡ Outside table ∷ []) →
+    FitsAnswer z.buckets nothing_more (own_writes (session v).log) s (answers.Undeclared table) → FitsIn (current (session v).log) s → committed_by s (answers.Undeclared table) ≡ None
     → Gains v (Outside table ∷ []) w → Answers z v s (inside (answers.Undeclared table)) w
-undeclared_inside z v w c s table e entries fits stands none g = answers_inside z v w s (answers.Undeclared table) nothing_more (ap (λ o. reading.is_alone o s) e) (subst (λ es. Gains v es w) (sym entries) g) fits (λ c e. undeclared_scope c.scope s table) stands tt (subst (λ o. IfSome o (IsNext v.sights None)) (sym none) tt) tt tt
+undeclared_inside z v w c s table e entries fits stands none g = answers_inside z v w s (answers.Undeclared table) nothing_more (ap (λ o. reading.is_alone o s) e)
+    (subst (λ es. Gains v es w) (sym entries) g) fits (λ c e. undeclared_scope c.scope s table) stands tt (subst (λ o. IfSome o (IsNext v.sights None)) (sym none) tt) tt tt
 
 -- ---- a transaction that lists nothing stored nothing
 pub no_writes : (rids : List Rid) (log : List LogEntry) → IsTrue (is_plain log) → AreWritten rids log → rids ≡ [] → own_writes log ≡ []

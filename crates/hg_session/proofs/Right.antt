@@ -14,14 +14,13 @@ use Rattle.hg_rule.specs.declared.view.Sight.{Sight}
 use Rattle.hg_rule.specs.declared.view.Sight.TheVariants.{Saw, Heard, Took, Did}
 use Rattle.hg_rule.specs.declared.view.Sizes.{Sizes}
 use Rattle.hg_rule.specs.declared.view.View.{View}
-use Rattle.hg_rule.specs.Facts.{EndsWith, Known}
+use Rattle.hg_rule.specs.Facts.{EndsWith, Known, IsHeard}
 use Rattle.hg_rule.specs.Rules.{IsBacked}
 use Rattle.hg_rule.specs.Views.{number, session}
 use Rattle.hg_headline.specs.Logged.{Logged}
 use Rattle.hg_headline.proofs.OverBuckets.{state_logged}
 use Rattle.hg_session.specs.Replies.{Answers}
 use Rattle.hg_session.specs.Right.{GoesOnFrom, IsRight}
-use Rattle.hg_session.specs.Ties.{IsHeard}
 use Rattle.hg_session.proofs.Placed.{known_sight}
 
 goes_on : (s : CoreState) (x : Sight) → Known s x → GoesOnFrom s.history s.log x
@@ -35,7 +34,8 @@ heard_ends : (s : CoreState) (j : ℕ) (log : List LogEntry) (sights : List Sigh
 heard_ends s j log sights known (inl none) = (s.log j, sym (append-nil (s.log j)) ∙ ap (λ l. s.log j ++ l) (sym none))
 heard_ends s j log sights known (inr among) = known_sight (Known s) (Heard j log) sights known among
 
-pub is_right : (z : Sizes) (mark : ℕ) (v old new : View) (statement : Statement) (reply : Reply) (now : Said) → 0 < z.buckets → IsBacked z mark v → (a : Answers z old statement reply new) → IsHeard (number new) (session new).log v.sights → now.statement ≡ statement → now.reply ≡ reply → StandsAt (number old) (session old).log now
+pub is_right : (z : Sizes) (mark : ℕ) (v old new : View) (statement : Statement) (reply : Reply) (now : Said) → 0 < z.buckets → IsBacked z mark v →
+    (a : Answers z old statement reply new) → IsHeard (number new) (session new).log v.sights → now.statement ≡ statement → now.reply ≡ reply → StandsAt (number old) (session old).log now
     → IsRight z.buckets v (number old) a.u (session old).log now
 is_right z mark v old new statement reply now some backed a heard said replied stands =
     let s = backed.state in

@@ -74,10 +74,12 @@ shortest n h a d home within e = cases (nat_lt d a)
     go less (inr x) (inr y) = let p = x.1 in let q = y.1 in omega (arith, e, less, p, q)
 
 -- no key of a bucket is passed over on the way from a record to it
-not_before : (n b : ℕ) (table : TableId) (from a k : ℕ) → bucket_of n (record_at table from) < n → a < n → (bucket_of n (record_at table from) + a) % n ≡ b → from ≤ k → IsOwnKey n b table k → from + a ≤ k
+not_before : (n b : ℕ) (table : TableId) (from a k : ℕ) → bucket_of n (record_at table from) < n → a < n → (bucket_of n (record_at table from) + a) % n ≡ b → from ≤ k →
+    IsOwnKey n b table k → from + a ≤ k
 not_before n b table from a k home within there le own =
     let back : from + (k - from) ≡ k = omega (arith, le) in
-    let same : (bucket_of n (record_at table from) + a) % n ≡ (bucket_of n (record_at table from) + (k - from)) % n = there ∙ sym own ∙ ap (λ x. bucket_of n (record_at table x)) (sym back) ∙ moved n table from (k - from) in
+    let same : (bucket_of n (record_at table from) + a) % n ≡ (bucket_of n (record_at table from) + (k - from)) % n = there ∙ sym own ∙
+    ap (λ x. bucket_of n (record_at table x)) (sym back) ∙ moved n table from (k - from) in
     let least = shortest n (bucket_of n (record_at table from)) a (k - from) home within same in
     omega (arith, least, le)
 

@@ -49,7 +49,8 @@ module _ (count j b n : ℕ) (part : SessionPart) (old : List Sight) (table : Ta
       subst (λ es. Trip j (with_log es part) b old w x) saw_rows (trip j b _ old w x l.0 l.1 gives)
 
   -- what was copied is what was logged
-  pub sees : {T : Type 0} (v x : View) (by : Writer) (at : ℕ) (before after : Rows) (answer : Result T NoMemory) → AreOwn count b (bucket u).content → by ≡ writer u → at ≡ snapshot u → OnOk answer (Appends (read_of by at table (bucket u).content) low high before after) → Gains v (Saw table low high b k.rows ∷ []) x
+  pub sees : {T : Type 0} (v x : View) (by : Writer) (at : ℕ) (before after : Rows) (answer : Result T NoMemory) → AreOwn count b (bucket u).content → by ≡ writer u →
+      at ≡ snapshot u → OnOk answer (Appends (read_of by at table (bucket u).content) low high before after) → Gains v (Saw table low high b k.rows ∷ []) x
       → Sees count v table low high b before answer x after
   sees v x by at before after answer own same_by same_at copied gains = record {
     part = k.rows;
@@ -57,7 +58,8 @@ module _ (count j b n : ℕ) (part : SessionPart) (old : List Sight) (table : Ta
     ascend = k.shown.ascend;
     own = each_keeps (λ p. (low ≤ p.0) × (p.0 ≤ high) × ((read_of (writer u) (snapshot u) table (bucket u).content p.0).row ≡ Some p.1)) (λ p. IsOwnKey count b table p.0)
         (λ p s. own_key count b (bucket u).content table p.0 own (shown_there (writer u) (snapshot u) table (bucket u).content p.0 p.1 s.2)) k.rows k.shown.each;
-    added = on_ok answer same (subst (λ m. OnOk answer (Appends (read_of (writer u) m table (bucket u).content) low high before after)) same_at (subst (λ y. OnOk answer (Appends (read_of y at table (bucket u).content) low high before after)) same_by copied));
+    added = on_ok answer same (subst (λ m. OnOk answer (Appends (read_of (writer u) m table (bucket u).content) low high before after)) same_at
+        (subst (λ y. OnOk answer (Appends (read_of y at table (bucket u).content) low high before after)) same_by copied));
   }
     where
       same : Appends (read_of (writer u) (snapshot u) table (bucket u).content) low high before after → after ≡ before ++ k.rows

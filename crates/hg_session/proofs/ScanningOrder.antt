@@ -67,7 +67,8 @@ nothing_twice = tt
 
 ascends_distinct : (xs : List ℕ) → Ascends xs → IsDistinct nat_eq xs
 ascends_distinct [] a = nothing_twice
-ascends_distinct (x ∷ xs) a = IsDistinct-cons nat_eq x xs (all_of (λ y. nat_eq x y ≡ false) xs (each_keeps (λ y. x < y) (λ y. nat_eq x y ≡ false) (λ y l. is_apart x y (λ e. absurd (omega (arith, l, e)))) xs (all_over x xs a))) (ascends_distinct xs (ascends_tail x xs a))
+ascends_distinct (x ∷ xs) a = IsDistinct-cons nat_eq x xs (all_of (λ y. nat_eq x y ≡ false) xs
+    (each_keeps (λ y. x < y) (λ y. nat_eq x y ≡ false) (λ y l. is_apart x y (λ e. absurd (omega (arith, l, e)))) xs (all_over x xs a))) (ascends_distinct xs (ascends_tail x xs a))
 
 -- ---- the looks
 
@@ -101,7 +102,8 @@ none_scanned count v table low high = record {
   distinct = nothing_twice;
 }
 
-module _ {T : Type 0} (count : ℕ) (v u w : View) (table : TableId) (low high n : ℕ) (rows new : Rows) (answer : Result T NoMemory) (s : IsScanned count v table low high n rows u) (has : has_own count table low high n ≡ true) (k : Sees count u table low high n rows answer w new) where
+module _ {T : Type 0} (count : ℕ) (v u w : View) (table : TableId) (low high n : ℕ) (rows new : Rows) (answer : Result T NoMemory) (s : IsScanned count v table low high n rows u)
+    (has : has_own count table low high n ≡ true) (k : Sees count u table low high n rows answer w new) where
   parts : ℕ → Rows
   parts = with_part s.part n k.part
 
@@ -137,13 +139,18 @@ module _ {T : Type 0} (count : ℕ) (v u w : View) (table : TableId) (low high n
   one_scanned e = record {
     part = parts;
     gains = more_gained;
-    each = subst (Each (IsOfSome count table low high parts (suc n))) (sym e) (each_append (IsOfSome count table low high parts (suc n)) rows k.part (each_keeps (IsOfSome count table low high s.part n) (IsOfSome count table low high parts (suc n)) earlier_row rows s.each) (all_later k.part (λ p c. c) k.own));
+    each = subst (Each (IsOfSome count table low high parts (suc n))) (sym e)
+        (each_append (IsOfSome count table low high parts (suc n)) rows k.part
+        (each_keeps (IsOfSome count table low high s.part n) (IsOfSome count table low high parts (suc n)) earlier_row rows s.each) (all_later k.part (λ p c. c) k.own));
     every = λ b is. let l = is.0 in cases (nat_lt b n)
         (λ t. let less : b < n = grind (arith, nat_tests, t) in
-        subst (Each (λ p. Contains new p)) (sym (part_else s.part n k.part b less)) (each_keeps (λ p. Contains rows p) (λ p. Contains new p) (λ p c. subst (λ r. Contains r p) (sym e) (Contains-append_left rows k.part p c)) (s.part b) (s.every b (less, is.1))))
+        subst (Each (λ p. Contains new p)) (sym (part_else s.part n k.part b less))
+        (each_keeps (λ p. Contains rows p) (λ p. Contains new p) (λ p c. subst (λ r. Contains r p) (sym e) (Contains-append_left rows k.part p c)) (s.part b) (s.every b (less, is.1))))
         (λ f. let same : n ≡ b = grind (arith, nat_tests, f, l) in
-        subst (λ m. Each (λ p. Contains new p) (parts m)) same (subst (Each (λ p. Contains new p)) (sym (part_here s.part n k.part)) (all_there k.part (λ p c. subst (λ r. Contains r p) (sym e) (Contains-append_right rows k.part p c)))));
-    distinct = subst (IsDistinct nat_eq) (sym (ap (map key_of) e ∙ map_append rows k.part)) (distinct_append (map key_of rows) (map key_of k.part) s.distinct (ascends_distinct (map key_of k.part) k.ascend) apart_keys);
+        subst (λ m. Each (λ p. Contains new p) (parts m)) same (subst (Each (λ p. Contains new p)) (sym (part_here s.part n k.part))
+        (all_there k.part (λ p c. subst (λ r. Contains r p) (sym e) (Contains-append_right rows k.part p c)))));
+    distinct = subst (IsDistinct nat_eq) (sym (ap (map key_of) e ∙ map_append rows k.part))
+        (distinct_append (map key_of rows) (map key_of k.part) s.distinct (ascends_distinct (map key_of k.part) k.ascend) apart_keys);
   }
     where
       first_there : (x : ℕ × List Value) (xs : Rows) → Contains (x ∷ xs) x
@@ -161,11 +168,13 @@ module _ {T : Type 0} (count : ℕ) (v u w : View) (table : TableId) (low high n
       all_later (x ∷ xs) f o = (later_row x (f x (first_there x xs)) o.0, all_later xs (λ p c. f p (behind_there x p xs c)) o.1)
 
 -- a bucket that can have no key of the range is passed over
-pub one_passed : (count : ℕ) (v w : View) (table : TableId) (low high n : ℕ) (rows : Rows) → has_own count table low high n ≡ false → IsScanned count v table low high n rows w → IsScanned count v table low high (suc n) rows w
+pub one_passed : (count : ℕ) (v w : View) (table : TableId) (low high n : ℕ) (rows : Rows) → has_own count table low high n ≡ false → IsScanned count v table low high n rows w →
+    IsScanned count v table low high (suc n) rows w
 one_passed count v w table low high n rows none s = record {
   part = s.part;
   gains = subst (λ es. Gains v es w) (λ i. if sym none i then Saw table low high n (s.part n) ∷ saws count table low high s.part n else saws count table low high s.part n) s.gains;
-  each = each_keeps (IsOfSome count table low high s.part n) (IsOfSome count table low high s.part (suc n)) (λ p q. ((q.0.0, (let l = q.0.1.0 in omega (arith, l), q.0.1.1), q.0.2), let l = q.1 in omega (arith, l))) rows s.each;
+  each = each_keeps (IsOfSome count table low high s.part n) (IsOfSome count table low high s.part (suc n))
+      (λ p q. ((q.0.0, (let l = q.0.1.0 in omega (arith, l), q.0.1.1), q.0.2), let l = q.1 in omega (arith, l))) rows s.each;
   every = λ b is. let l = is.0 in cases (nat_lt b n)
       (λ t. s.every b (grind (arith, nat_tests, t), is.1))
       (λ f. let same : n ≡ b = grind (arith, nat_tests, f, l) in absurd (differs (sym none ∙ ap (has_own count table low high) same ∙ is.1)));
@@ -204,13 +213,15 @@ each_permuted P xs ys q e = all_each ys (All-permutation P xs ys q (λ k d less.
     all_each [] a = tt
     all_each (z ∷ zs) a = (a 0 z (omega arith), all_each zs (λ k d less. a (suc k) d (omega (arith, less))))
 
-pub all_scanned : (count : ℕ) (v w : View) (table : TableId) (low high n : ℕ) (rows sorted : Rows) → n ≡ count → IsScanned count v table low high n rows w → IsPermutation rows sorted → IsNonDecreasingBy key_of sorted → ScansAll count v table low high sorted w
+pub all_scanned : (count : ℕ) (v w : View) (table : TableId) (low high n : ℕ) (rows sorted : Rows) → n ≡ count → IsScanned count v table low high n rows w →
+    IsPermutation rows sorted → IsNonDecreasingBy key_of sorted → ScansAll count v table low high sorted w
 all_scanned count v w table low high n rows sorted all so_far p o =
     let s = subst (λ m. IsScanned count v table low high m rows w) all so_far in record {
       part = s.part;
       joins = record {
         ascend = ascends_sorted sorted o (IsDistinct-IsPermutation nat_eq nat_eq_flips (map key_of rows) (map key_of sorted) (IsPermutation-map key_of rows sorted p) s.distinct);
-        each = each_permuted (λ q. (b : ℕ) × IsReached count table low high b × Contains (s.part b) q) rows sorted p (each_keeps (IsOfSome count table low high s.part count) (λ q. (b : ℕ) × IsReached count table low high b × Contains (s.part b) q) (λ q k. k.0) rows s.each);
+        each = each_permuted (λ q. (b : ℕ) × IsReached count table low high b × Contains (s.part b) q) rows sorted p
+            (each_keeps (IsOfSome count table low high s.part count) (λ q. (b : ℕ) × IsReached count table low high b × Contains (s.part b) q) (λ q k. k.0) rows s.each);
         every = λ b l. each_keeps (λ q. Contains rows q) (λ q. Contains sorted q) (λ q c. Contains-permutation rows sorted q p c) (s.part b) (s.every b l);
       };
       gains = s.gains;

@@ -132,7 +132,8 @@ module _ (shown : ℕ → Image) (Sought : ℕ → Type 0) (low high : ℕ) (old
   }
 
   -- one key more, and the next one after it
-  pub one_more : (rows new : Rows) (k : ℕ) (next : Option ℕ) → IsWithin low high (Some k) → IsSoFar shown low high old rows (Some k) → new ≡ rows ++ rows_at k (shown k).row → IsWithin (k + 1) high next → LeadsOn Sought (k + 1) high next → IsSoFar shown low high old new next
+  pub one_more : (rows new : Rows) (k : ℕ) (next : Option ℕ) → IsWithin low high (Some k) → IsSoFar shown low high old rows (Some k) → new ≡ rows ++ rows_at k (shown k).row →
+      IsWithin (k + 1) high next → LeadsOn Sought (k + 1) high next → IsSoFar shown low high old new next
   one_more rows new k next here s e within n = goes_on new k next (row_added rows new k here.0 here.1 s e) within n
 
 -- ---- how far the next key is from the end
@@ -171,7 +172,8 @@ rest_rows shown low high p rows a = record {
   every = λ key l h. go key l (let m = a.each.0.0 in a.every key (omega (arith, l, m)) h);
 }
   where
-    over : (xs : Rows) → Each (λ q. suc p.0 ≤ q.0) xs → Each (λ q. (low ≤ q.0) × (q.0 ≤ high) × ((shown q.0).row ≡ Some q.1)) xs → Each (λ q. (suc p.0 ≤ q.0) × (q.0 ≤ high) × ((shown q.0).row ≡ Some q.1)) xs
+    over : (xs : Rows) → Each (λ q. suc p.0 ≤ q.0) xs → Each (λ q. (low ≤ q.0) × (q.0 ≤ high) × ((shown q.0).row ≡ Some q.1)) xs →
+        Each (λ q. (suc p.0 ≤ q.0) × (q.0 ≤ high) × ((shown q.0).row ≡ Some q.1)) xs
     over [] l e = tt
     over (x ∷ xs) l e = ((l.0, e.0.1, e.0.2), over xs l.1 e.1)
 

@@ -15,7 +15,8 @@ use Rattle.hg_session.specs.declared.session.Session.{Session}
 use Rattle.hg_session.specs.Engines.{engine_board_id, engine_sizes}
 use Rattle.hg_session.specs.Opened.{seated, IsNewOf}
 
-pub seated_is : (e : Engine) (alloc : Global) (quota j : ℕ) (p : SessionPass) → quota ≤ (engine_sizes e).quota → IsSession (engine_sizes e).sessions j → IsNewSession (engine_board_id e) j p → IsNewOf e quota j (seated alloc quota p)
+pub seated_is : (e : Engine) (alloc : Global) (quota j : ℕ) (p : SessionPass) → quota ≤ (engine_sizes e).quota → IsSession (engine_sizes e).sessions j →
+    IsNewSession (engine_board_id e) j p → IsNewOf e quota j (seated alloc quota p)
 seated_is e alloc quota j p most inside new =
     let is : session_view p ≡ seeing (session_part j ∷ []) [] [] = ap (λ m. m.0) new.2.1 in
     let at : number (session_view p) ≡ j = ap number is in record {
@@ -48,7 +49,8 @@ seated_is e alloc quota j p most inside new =
       cursor = refl;
     }
 
-pub seated_row : (e : Engine) (alloc : Global) (quota i : ℕ) (ps : List SessionPass) → quota ≤ (engine_sizes e).quota → 0 < i → i + length ps ≤ suc (engine_sizes e).sessions → EachFrom (IsNewSession (engine_board_id e)) i ps → EachFrom (IsNewOf e quota) i (map (seated alloc quota) ps)
+pub seated_row : (e : Engine) (alloc : Global) (quota i : ℕ) (ps : List SessionPass) → quota ≤ (engine_sizes e).quota → 0 < i → i + length ps ≤ suc (engine_sizes e).sessions →
+    EachFrom (IsNewSession (engine_board_id e)) i ps → EachFrom (IsNewOf e quota) i (map (seated alloc quota) ps)
 seated_row e alloc quota i [] most first last row = tt
 seated_row e alloc quota i (p ∷ ps) most first last row = (
   seated_is e alloc quota i p most (record { first = first; last = omega (arith, last) }) row.0,
@@ -56,5 +58,6 @@ seated_row e alloc quota i (p ∷ ps) most first last row = (
 )
 
 -- all sessions of an engine on a board
-pub opened_row : (e : Engine) (alloc : Global) (quota : ℕ) (ps : List SessionPass) (sessions : List Session) → sessions ≡ map (seated alloc quota) ps → quota ≤ (engine_sizes e).quota → length ps ≤ (engine_sizes e).sessions → EachFrom (IsNewSession (engine_board_id e)) 1 ps → EachFrom (IsNewOf e quota) 1 sessions
+pub opened_row : (e : Engine) (alloc : Global) (quota : ℕ) (ps : List SessionPass) (sessions : List Session) → sessions ≡ map (seated alloc quota) ps →
+    quota ≤ (engine_sizes e).quota → length ps ≤ (engine_sizes e).sessions → EachFrom (IsNewSession (engine_board_id e)) 1 ps → EachFrom (IsNewOf e quota) 1 sessions
 opened_row e alloc quota ps sessions are most all row = subst (EachFrom (IsNewOf e quota) 1) (sym are) (seated_row e alloc quota 1 ps most (omega arith) (omega (arith, all)) row)

@@ -41,12 +41,14 @@ only_rows f key row (p ∷ q ∷ rows) a e = absurd (let x = a.each.0 in let y =
 
 -- who reads, and at which snapshot
 pub writer_beside : (j b : ℕ) (part : SessionPart) (old : List Sight) (u : View) (by : Writer) → Beside j part b old u → by.session ≡ j → by.transaction ≡ begans part.log → by ≡ writer u
-writer_beside j b part old u by h s t = (λ i. record { session = s i; transaction = t i }) ∙ (λ i. record { session = sym (first_number u j part _ h.parts) i; transaction = begans (sym (first_session u j part _ h.parts) i).log })
+writer_beside j b part old u by h s t = (λ i. record { session = s i; transaction = t i }) ∙
+    (λ i. record { session = sym (first_number u j part _ h.parts) i; transaction = begans (sym (first_session u j part _ h.parts) i).log })
 
 pub snapshot_beside : (j b : ℕ) (part : SessionPart) (old : List Sight) (u : View) → Beside j part b old u → snapshot u ≡ loaded_in part.phase
 snapshot_beside j b part old u h = ap (λ (p : SessionPart). loaded_in p.phase) (first_session u j part _ h.parts)
 
-pub saw_log : (buckets j b n : ℕ) (part : SessionPart) (old : List Sight) (rid : Rid) (u w : View) (row : Option (List Value)) → Beside j part b old u → b ≡ bucket_of buckets rid → (k : Looks u (Read rid.table rid.key rid.key) n w)
+pub saw_log : (buckets j b n : ℕ) (part : SessionPart) (old : List Sight) (rid : Rid) (u w : View) (row : Option (List Value)) → Beside j part b old u → b ≡ bucket_of buckets rid →
+    (k : Looks u (Read rid.table rid.key rid.key) n w)
     → (read_by (writer u) (snapshot u) (held u rid)).row ≡ row → log_asked u (Read rid.table rid.key rid.key) n k.rows ≡ saw buckets rid (rows_at rid.key row) ∷ part.log
 saw_log buckets j b n part old rid u w row h here k read =
     let m : bucket_number u ≡ bucket_of buckets rid = ap (λ (ps : List Part). part_number (after_first ps)) h.parts ∙ here in

@@ -66,14 +66,16 @@ over_snapshot n at m w (Some p) q e = go (same_writer p.0 w) e
     go false e = absurd cc
 
 -- what the look of a write that is refused logs
-refused_log : (n : ℕ) (u : View) (rid : Rid) (image : Image) (e : WriteRefusal) (rows : List (ℕ × List Value)) → IsCause n u rid e → log_asked u (Write rid) n rows ≡ entries_of {T = Bool} rid image (Err e) ++ (session u).log
+refused_log : (n : ℕ) (u : View) (rid : Rid) (image : Image) (e : WriteRefusal) (rows : List (ℕ × List Value)) → IsCause n u rid e →
+    log_asked u (Write rid) n rows ≡ entries_of {T = Bool} rid image (Err e) ++ (session u).log
 refused_log n u rid image (Open j x) rows c = ap (λ o. with_refusal rid o (session u).log) (told_open (refusal n (writer u) (snapshot u) (held u rid)) (record { session = j; transaction = x }) c)
 refused_log n u rid image (Newer m) rows c = ap (λ o. with_refusal rid o (session u).log) (told_newer (refusal n (writer u) (snapshot u) (held u rid)) m c)
 refused_log n u rid image NoMemory rows c =
     let found : Result Bool WriteRefusal = Ok true in
     ap (λ o. with_refusal rid o (session u).log) (free_at n u rid found true refl (subst (λ o. IfSome o (λ e. found ≡ Err e)) (sym c.0) tt))
 
-module _ (j b : ℕ) (part : SessionPart) (old : List Sight) (rid : Rid) (image : Image) (answer : Result Bool WriteRefusal) (u w x : View) (h : Beside j part b old u) (k : Writes u rid image answer w) (gives : x ≡ without_bucket w) where
+module _ (j b : ℕ) (part : SessionPart) (old : List Sight) (rid : Rid) (image : Image) (answer : Result Bool WriteRefusal) (u w x : View) (h : Beside j part b old u)
+    (k : Writes u rid image answer w) (gives : x ≡ without_bucket w) where
   same_part : session u ≡ part
   same_part = first_session u j part _ h.parts
 
@@ -83,7 +85,8 @@ module _ (j b : ℕ) (part : SessionPart) (old : List Sight) (rid : Rid) (image 
       let stays = subst (λ a. OnErr a (w ≡ k.looked)) is k.stays in
       let log = refused_log k.mark u rid image e k.looks.rows cause ∙ ap (λ (p : SessionPart). entries_of {T = Bool} rid image (Err e) ++ p.log) same_part in
       let l = looked j part b k.mark old (Write rid) u k.looked h k.looks in
-      let here : Beside j (with_log (entries_of {T = Bool} rid image (Err e) ++ part.log) part) b old w = subst (Beside j (with_log (entries_of {T = Bool} rid image (Err e) ++ part.log) part) b old) (sym stays) (subst (λ y. Beside j (with_log y part) b old k.looked) log l.0) in
+      let here : Beside j (with_log (entries_of {T = Bool} rid image (Err e) ++ part.log) part) b old w = subst
+      (Beside j (with_log (entries_of {T = Bool} rid image (Err e) ++ part.log) part) b old) (sym stays) (subst (λ y. Beside j (with_log y part) b old k.looked) log l.0) in
       let heard = subst (λ (v : View). IsAmong (Heard j (entries_of {T = Bool} rid image (Err e) ++ part.log)) v.sights) (sym stays) (subst (λ y. IsAmong (Heard j y) k.looked.sights) log l.1) in
       trip j b _ old w x here heard gives
 
@@ -97,7 +100,8 @@ module _ (j b : ℕ) (part : SessionPart) (old : List Sight) (rid : Rid) (image 
       let i = installed j part b old rid image k.looked w there stored in
       trip j b _ old w x i.0 i.1 gives
 
-  pub refused_told : (z : Sizes) (v : View) (at : ℕ) (e : WriteRefusal) → answer ≡ Err e → number v ≡ j → old ≡ v.sights → at ≡ snapshot u → IfErr answer (IsAnothers z (number u)) → IsRefusedBy z v at e
+  pub refused_told : (z : Sizes) (v : View) (at : ℕ) (e : WriteRefusal) → answer ≡ Err e → number v ≡ j → old ≡ v.sights → at ≡ snapshot u →
+      IfErr answer (IsAnothers z (number u)) → IsRefusedBy z v at e
   refused_told z v at (Open i y) is n s a owner =
       let o : Writer = record { session = i; transaction = y } in
       let who = subst (λ r. IfErr r (IsAnothers z (number u))) is owner in
@@ -106,5 +110,6 @@ module _ (j b : ℕ) (part : SessionPart) (old : List Sight) (rid : Rid) (image 
       (who.0, (subst (λ m. IsFalse (o.session == m)) (first_number u j part _ h.parts ∙ sym n) who.1, each_left (HasNoEnd o) v.sights h.kept.0 seen))
   refused_told z v at (Newer m) is n s a owner =
       let cause = subst (λ r. IfErr r (IsCause k.mark u rid)) is k.cause in
-      subst (λ y. y < m) (sym a) (over_snapshot k.mark (snapshot u) m (writer u) (unpublished k.mark (held u rid)) (newest_at k.mark (held u rid)) (told_newer (refusal k.mark (writer u) (snapshot u) (held u rid)) m cause))
+      subst (λ y. y < m) (sym a) (over_snapshot k.mark (snapshot u) m (writer u) (unpublished k.mark (held u rid)) (newest_at k.mark (held u rid))
+      (told_newer (refusal k.mark (writer u) (snapshot u) (held u rid)) m cause))
   refused_told z v at NoMemory is n s a owner = tt

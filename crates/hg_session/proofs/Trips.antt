@@ -50,7 +50,8 @@ alone_only v j part old a = a.parts ∙ (λ i. OfSession (sym (first_number v j 
 pub arrived : (v u : View) (b : ℕ) → HasOnlySession v → Takes v b u → Beside (number v) (session v) b v.sights u
 arrived v u b only t = record {
   holds = t.part;
-  parts = session_arrives v (seeing (OfBucket b t.part ∷ []) t.seen []) u b t.part (only_session v only) refl t.after ∙ (λ i. OfSession (number v) (session v) ∷ OfBucket b t.part ∷ only_others v only i);
+  parts = session_arrives v (seeing (OfBucket b t.part ∷ []) t.seen []) u b t.part (only_session v only) refl t.after ∙
+      (λ i. OfSession (number v) (session v) ∷ OfBucket b t.part ∷ only_others v only i);
   kept = (t.seen, ap (λ (x : View). x.sights) t.after);
 }
 
@@ -70,7 +71,8 @@ departed j part b old u w h e = record {
 more_seen : (old sights xs : List Sight) → StartsWith sights old → StartsWith (sights ++ xs) old
 more_seen old sights xs k = (k.0 ++ xs, ap (λ l. l ++ xs) k.1 ∙ append_assoc old k.0 xs)
 
-pub looked : (j : ℕ) (part : SessionPart) (b n : ℕ) (old : List Sight) (ask : Ask) (u w : View) → Beside j part b old u → (k : Looks u ask n w) → Beside j (with_log (log_asked u ask n k.rows) part) b old w × IsAmong (Heard j (log_asked u ask n k.rows)) w.sights
+pub looked : (j : ℕ) (part : SessionPart) (b n : ℕ) (old : List Sight) (ask : Ask) (u w : View) → Beside j part b old u → (k : Looks u ask n w) →
+    Beside j (with_log (log_asked u ask n k.rows) part) b old w × IsAmong (Heard j (log_asked u ask n k.rows)) w.sights
 looked j part b n old ask u w h k =
     let e = first_number u j part _ h.parts in
     let s = first_session u j part _ h.parts in
@@ -83,7 +85,8 @@ looked j part b n old ask u w h k =
       subst (IsAmong (Heard j (log_asked u ask n k.rows))) (sym (ap (λ (x : View). x.sights) k.after)) (among_later _ u.sights _ (inr (inl (ap (λ i. Heard i (log_asked u ask n k.rows)) e)))),
     )
 
-pub installed : (j : ℕ) (part : SessionPart) (b : ℕ) (old : List Sight) (r : Rid) (image : Image) (u w : View) → Beside j part b old u → Installs u r image w → Beside j (with_entry (Wrote r image) part) b old w × IsAmong (Heard j (Wrote r image ∷ part.log)) w.sights
+pub installed : (j : ℕ) (part : SessionPart) (b : ℕ) (old : List Sight) (r : Rid) (image : Image) (u w : View) → Beside j part b old u → Installs u r image w →
+    Beside j (with_entry (Wrote r image) part) b old w × IsAmong (Heard j (Wrote r image ∷ part.log)) w.sights
 installed j part b old r image u w h k =
     let e = first_number u j part _ h.parts in
     let s = first_session u j part _ h.parts in
@@ -97,7 +100,8 @@ installed j part b old r image u w h k =
       subst (IsAmong (Heard j (Wrote r image ∷ part.log))) (sym (ap (λ (x : View). x.sights) k)) (among_later _ u.sights _ (inl (λ i. Heard (e i) (Wrote r image ∷ (s i).log)))),
     )
 
-pub undone : (j : ℕ) (part : SessionPart) (b : ℕ) (old : List Sight) (r : Rid) (u w : View) → Beside j part b old u → Undoes u r w → Beside j (with_entry (Undid r) part) b old w × IsAmong (Heard j (Undid r ∷ part.log)) w.sights
+pub undone : (j : ℕ) (part : SessionPart) (b : ℕ) (old : List Sight) (r : Rid) (u w : View) → Beside j part b old u → Undoes u r w → Beside j (with_entry (Undid r) part) b old w ×
+    IsAmong (Heard j (Undid r ∷ part.log)) w.sights
 undone j part b old r u w h k =
     let e = first_number u j part _ h.parts in
     let s = first_session u j part _ h.parts in
@@ -113,7 +117,8 @@ undone j part b old r u w h k =
 
 -- ---- with nothing held
 
-pub looked_alone : (v w : View) (n : ℕ) (ask : Ask) → HasOnlySession v → (k : Looks v ask n w) → Alone (number v) (with_log (log_asked v ask n k.rows) (session v)) v.sights w × IsAmong (Heard (number v) (log_asked v ask n k.rows)) w.sights
+pub looked_alone : (v w : View) (n : ℕ) (ask : Ask) → HasOnlySession v → (k : Looks v ask n w) → Alone (number v) (with_log (log_asked v ask n k.rows) (session v)) v.sights w ×
+    IsAmong (Heard (number v) (log_asked v ask n k.rows)) w.sights
 looked_alone v w n ask only k = (
   record {
     parts = ap (λ (x : View). x.parts) k.after ∙ (λ i. OfSession (number v) (with_log (log_asked v ask n k.rows) (session v)) ∷ only_others v only i);

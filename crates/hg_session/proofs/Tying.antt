@@ -51,10 +51,38 @@ IsQuiet (Refused r answer) = ⊤
 IsQuiet (Outside table) = ⊤
 IsQuiet _ = ⊥
 
-pub ties_quiet : (quota left begins writes : ℕ) (opened : Option Snapshot) (written : List Rid) (part : SessionPart) (e : LogEntry) → IsQuiet e → Ties quota opened written left begins writes part → Ties quota opened written left begins writes (with_entry e part)
-ties_quiet quota left begins writes opened written part (Saw table low high b rows) q t = record { phase = t.phase; unstamped = t.unstamped; opens = t.opens; plain = t.plain; written_is = record { once = t.written_is.once; each = t.written_is.each }; rests = t.rests; begun = t.begun; wrote = t.wrote }
-ties_quiet quota left begins writes opened written part (Refused r answer) q t = record { phase = t.phase; unstamped = t.unstamped; opens = t.opens; plain = t.plain; written_is = record { once = t.written_is.once; each = t.written_is.each }; rests = t.rests; begun = t.begun; wrote = t.wrote }
-ties_quiet quota left begins writes opened written part (Outside table) q t = record { phase = t.phase; unstamped = t.unstamped; opens = t.opens; plain = t.plain; written_is = record { once = t.written_is.once; each = t.written_is.each }; rests = t.rests; begun = t.begun; wrote = t.wrote }
+pub ties_quiet : (quota left begins writes : ℕ) (opened : Option Snapshot) (written : List Rid) (part : SessionPart) (e : LogEntry) → IsQuiet e →
+    Ties quota opened written left begins writes part → Ties quota opened written left begins writes (with_entry e part)
+ties_quiet quota left begins writes opened written part (Saw table low high b rows) q t = record {
+  phase = t.phase;
+  unstamped = t.unstamped;
+  opens = t.opens;
+  plain = t.plain;
+  written_is = record { once = t.written_is.once; each = t.written_is.each };
+  rests = t.rests;
+  begun = t.begun;
+  wrote = t.wrote;
+}
+ties_quiet quota left begins writes opened written part (Refused r answer) q t = record {
+  phase = t.phase;
+  unstamped = t.unstamped;
+  opens = t.opens;
+  plain = t.plain;
+  written_is = record { once = t.written_is.once; each = t.written_is.each };
+  rests = t.rests;
+  begun = t.begun;
+  wrote = t.wrote;
+}
+ties_quiet quota left begins writes opened written part (Outside table) q t = record {
+  phase = t.phase;
+  unstamped = t.unstamped;
+  opens = t.opens;
+  plain = t.plain;
+  written_is = record { once = t.written_is.once; each = t.written_is.each };
+  rests = t.rests;
+  begun = t.begun;
+  wrote = t.wrote;
+}
 ties_quiet quota left begins writes opened written part (Began at scope) q t = absurd q
 ties_quiet quota left begins writes opened written part (Wrote r image) q t = absurd q
 ties_quiet quota left begins writes opened written part (Undid r) q t = absurd q
@@ -91,7 +119,8 @@ abbrev pub with_written : Bool → Rid → List Rid → List Rid
 with_written true r written = written ++ r ∷ []
 with_written false r written = written
 
-written_more : (r : Rid) (image : Image) (written : List Rid) (log : List LogEntry) (new : Bool) → new ≡ not (is_some (open_in r log)) → AreWritten written log → AreWritten (with_written new r written) (Wrote r image ∷ log)
+written_more : (r : Rid) (image : Image) (written : List Rid) (log : List LogEntry) (new : Bool) → new ≡ not (is_some (open_in r log)) → AreWritten written log →
+    AreWritten (with_written new r written) (Wrote r image ∷ log)
 written_more r image written log true e a = record {
   once = none_twice_snoc written r a.once (a.each r ∙ not_false (is_some (open_in r log)) (sym e));
   each = λ q. among_snoc q r written ∙ ((λ i. a.each q i || same_rid q r) ∙ go q (same_rid r q) refl (same_rid q r) (same_rid_turned q r));
@@ -117,7 +146,9 @@ written_more r image written log false e a = record {
     go q false f = ap (λ x. is_some (cond x (Some image) (open_in q log))) (sym f)
     go q true f = ap (λ x. is_some (open_in x log)) (sym (same_rid_equal r q f)) ∙ (not_true (is_some (open_in r log)) (sym e) ∙ ap (λ x. is_some (cond x (Some image) (open_in q log))) (sym f))
 
-pub ties_wrote : (quota left writes : ℕ) (opened : Snapshot) (written : List Rid) (part : SessionPart) (r : Rid) (image : Image) (new : Bool) → new ≡ not (is_some (open_in r part.log)) → Ties quota (Some opened) written left 0 (suc writes) part → Ties quota (Some opened) (with_written new r written) left 0 writes (with_entry (Wrote r image) part)
+pub ties_wrote : (quota left writes : ℕ) (opened : Snapshot) (written : List Rid) (part : SessionPart) (r : Rid) (image : Image) (new : Bool) →
+    new ≡ not (is_some (open_in r part.log)) → Ties quota (Some opened) written left 0 (suc writes) part →
+    Ties quota (Some opened) (with_written new r written) left 0 writes (with_entry (Wrote r image) part)
 ties_wrote quota left writes opened written part r image new e t =
     let w = t.wrote in record {
       phase = t.phase;
@@ -131,15 +162,18 @@ ties_wrote quota left writes opened written part r image new e t =
     }
 
 -- a refusal, which leaves one entry or none
-pub ties_refused : (quota left begins writes : ℕ) (opened : Option Snapshot) (written : List Rid) (part : SessionPart) (r : Rid) (image : Image) (e : WriteRefusal) → Ties quota opened written left begins writes part → Ties quota opened written left begins writes (with_log (entries_of {T = Bool} r image (Err e) ++ part.log) part)
-ties_refused quota left begins writes opened written part r image (Open j x) t = ties_quiet quota left begins writes opened written part (Refused r (answers.OpenBy (record { session = j; transaction = x }))) tt t
+pub ties_refused : (quota left begins writes : ℕ) (opened : Option Snapshot) (written : List Rid) (part : SessionPart) (r : Rid) (image : Image) (e : WriteRefusal) →
+    Ties quota opened written left begins writes part → Ties quota opened written left begins writes (with_log (entries_of {T = Bool} r image (Err e) ++ part.log) part)
+ties_refused quota left begins writes opened written part r image (Open j x) t = ties_quiet quota left begins writes opened written part
+    (Refused r (answers.OpenBy (record { session = j; transaction = x }))) tt t
 ties_refused quota left begins writes opened written part r image (Newer n) t = ties_quiet quota left begins writes opened written part (Refused r (answers.Newer n)) tt t
 ties_refused quota left begins writes opened written part r image NoMemory t = t
 
 -- ---- the end of a transaction
 
 -- one that has no open write is over
-pub ties_over : (quota left begins writes : ℕ) (opened : Option Snapshot) (written : List Rid) (part : SessionPart) → written ≡ [] → Ties quota opened written left begins writes part → Ties quota None written left begins writes (logging Over Idle part)
+pub ties_over : (quota left begins writes : ℕ) (opened : Option Snapshot) (written : List Rid) (part : SessionPart) → written ≡ [] →
+    Ties quota opened written left begins writes part → Ties quota None written left begins writes (logging Over Idle part)
 ties_over quota left begins writes opened written part none t = record {
   phase = refl;
   unstamped = t.unstamped;
@@ -152,7 +186,8 @@ ties_over quota left begins writes opened written part none t = record {
 }
 
 -- one that was published is over
-pub ties_committed : (quota left begins writes n : ℕ) (opened : Option Snapshot) (written : List Rid) (part : SessionPart) → Ties quota opened written left begins writes part → Ties quota None [] left begins writes (logging Over Idle (with_published n part))
+pub ties_committed : (quota left begins writes n : ℕ) (opened : Option Snapshot) (written : List Rid) (part : SessionPart) → Ties quota opened written left begins writes part →
+    Ties quota None [] left begins writes (logging Over Idle (with_published n part))
 ties_committed quota left begins writes n opened written part t = record {
   phase = refl;
   unstamped = refl;

@@ -42,7 +42,8 @@ wrotes_undone (r ∷ rids) log = wrotes_undone rids log
 
 pub open_undone : (r : Rid) (rids : List Rid) (log : List LogEntry) → open_in r (map Undid rids ++ log) ≡ cond (is_among r rids) None (open_in r log)
 open_undone r [] log = refl
-open_undone r (q ∷ rids) log = ap (λ b. cond b None (open_in r (map Undid rids ++ log))) (same_rid_turned q r) ∙ (ap (λ o. cond (same_rid r q) None o) (open_undone r rids log) ∙ go (same_rid r q) (is_among r rids))
+open_undone r (q ∷ rids) log = ap (λ b. cond b None (open_in r (map Undid rids ++ log))) (same_rid_turned q r) ∙
+    (ap (λ o. cond (same_rid r q) None o) (open_undone r rids log) ∙ go (same_rid r q) (is_among r rids))
   where
     go : (a b : Bool) → cond a None (cond b None (open_in r log)) ≡ cond (a || b) None (open_in r log)
     go true b = refl
@@ -121,7 +122,8 @@ rolled_back v u w rids a k =
       heard = subst (λ x. IsAmong x w.sights) (λ i. Heard (n i) (Over ∷ (s i).log)) e.1;
     }
 
-pub ties_rolled : (quota left begins writes : ℕ) (opened : Option Snapshot) (written rids : List Rid) (part : SessionPart) → Ties quota opened written left begins writes part → Ties quota None [] left begins writes (logging Over Idle (with_log (map Undid rids ++ part.log) part))
+pub ties_rolled : (quota left begins writes : ℕ) (opened : Option Snapshot) (written rids : List Rid) (part : SessionPart) → Ties quota opened written left begins writes part →
+    Ties quota None [] left begins writes (logging Over Idle (with_log (map Undid rids ++ part.log) part))
 ties_rolled quota left begins writes opened written rids part t =
     let b = t.begun in
     let w = t.wrote in

@@ -38,7 +38,8 @@ use Rattle.hg_session.proofs.Ending.{bucket_told, few, within, logged, newest_is
 
 -- ---- a bucket comes behind the pass's own part, which has other visits
 
-module _ (v x : View) (m b : ℕ) (r : PassPart) (visits : List Visit) (part : BucketPart) (os : List Part) (before : v.parts ≡ OfPass m r ∷ os) (now : x.parts ≡ OfPass m (record r { visits = visits }) ∷ OfBucket b part ∷ os) where
+module _ (v x : View) (m b : ℕ) (r : PassPart) (visits : List Visit) (part : BucketPart) (os : List Part) (before : v.parts ≡ OfPass m r ∷ os)
+    (now : x.parts ≡ OfPass m (record r { visits = visits }) ∷ OfBucket b part ∷ os) where
   pub ended_now : (z : Sizes) → IsEnded z v → IsEnded z x
   ended_now z e = record {
     sessions = λ j is. subst (λ ps. 0 < count (session_key j) ps) (sym now) (one_more _ (subst (λ ps. 0 < count (session_key j) ps) before (e.sessions j is)));
@@ -134,14 +135,17 @@ module _ (v u x : View) (n : ℕ) (own : HasPass v) (h : HasVisited v n u) (take
   removed_now kind = nothing_more kind (n == n) _ ∙ empties_removed kind n (pass v).mark contents (pass v).visits
 
   -- the counts tell what they would with the visits from before
-  pub taken_tells : (z : Sizes) (counts : Totals) (mark : ℕ) → IsEnded z v → 0 < count commit_key v.parts → IsBacked z mark x → AreCountsOf (bucket x).counters counts → BucketTells z.sessions z.buckets (passes_in v.parts) (logs_in v) (visits_in v) (history_in v) n counts
+  pub taken_tells : (z : Sizes) (counts : Totals) (mark : ℕ) → IsEnded z v → 0 < count commit_key v.parts → IsBacked z mark x → AreCountsOf (bucket x).counters counts →
+      BucketTells z.sessions z.buckets (passes_in v.parts) (logs_in v) (visits_in v) (history_in v) n counts
   taken_tells z counts mark ended committed backed are =
       tells_same z.sessions z.buckets (passes_in v.parts) (logs_in v) (visits_in x) (visits_in v) (history_in v) n counts
       (subst (λ k. BucketTells z.sessions z.buckets (passes_in v.parts) (logs_in v) (visits_in x) k n counts) (history_now v x (number v) n (pass v) visits part (others v) own parts_now)
       (subst (λ l. BucketTells z.sessions z.buckets (passes_in v.parts) l (visits_in x) (history_in x) n counts) (logs_now v x (number v) n (pass v) visits part (others v) own parts_now)
       (subst (λ k. BucketTells z.sessions z.buckets k (logs_in x) (visits_in x) (history_in x) n counts) (passes_now v x (number v) n (pass v) visits part (others v) own parts_now)
-      (bucket_told z mark x backed (ended_now v x (number v) n (pass v) visits part (others v) own parts_now z ended) (committed_now v x (number v) n (pass v) visits part (others v) own parts_now committed) n counts (counters_are backed.state counts backed.true_of.parts are)))))
-      (λ kind. below_same (passes_in v.parts) (λ p. removed_in kind n (visits_in v p)) (λ p. removed_in kind n (visits_in x p)) (λ p le. each_visit v x (number v) n (pass v) visits part (others v) own parts_now (λ before now. removed_in kind n now ≡ removed_in kind n before) (removed_now kind) (λ vs. refl) p))
+      (bucket_told z mark x backed (ended_now v x (number v) n (pass v) visits part (others v) own parts_now z ended)
+      (committed_now v x (number v) n (pass v) visits part (others v) own parts_now committed) n counts (counters_are backed.state counts backed.true_of.parts are)))))
+      (λ kind. below_same (passes_in v.parts) (λ p. removed_in kind n (visits_in v p)) (λ p. removed_in kind n (visits_in x p))
+      (λ p le. each_visit v x (number v) n (pass v) visits part (others v) own parts_now (λ before now. removed_in kind n now ≡ removed_in kind n before) (removed_now kind) (λ vs. refl) p))
       (λ cut. (
         cut.0,
         (
@@ -181,10 +185,13 @@ module _ (v w : View) (n : ℕ) (own : HasPass v) (h : HasVisited v n w) where
   pub removed_still : (kind : Kind) (p : ℕ) → removed_all kind (visits_in w p) ≡ removed_all kind (visits_in v p)
   removed_still kind p =
       subst (λ ps. removed_all kind (pass_there (seek (pass_key p) ps)).visits ≡ removed_all kind (visits_in v p)) (sym h.parts)
-      (subst (λ ps. removed_all kind (pass_there (seek (pass_key p) (OfPass (number v) (record (pass v) { visits = empty_visits (pass v).mark h.contents ++ (pass v).visits }) ∷ others v))).visits ≡ removed_all kind (pass_there (seek (pass_key p) ps)).visits) (sym own)
+      (subst (λ ps. removed_all kind (pass_there (seek (pass_key p)
+      (OfPass (number v) (record (pass v) { visits = empty_visits (pass v).mark h.contents ++ (pass v).visits }) ∷ others v))).visits ≡ removed_all kind
+      (pass_there (seek (pass_key p) ps)).visits) (sym own)
       (go (has (pass_key p) (OfPass (number v) (pass v)))))
     where
-      go : (t : Bool) → removed_all kind (pass_there (chosen t (OfPass (number v) (record (pass v) { visits = empty_visits (pass v).mark h.contents ++ (pass v).visits })) (seek (pass_key p) (others v)))).visits ≡ removed_all kind (pass_there (chosen t (OfPass (number v) (pass v)) (seek (pass_key p) (others v)))).visits
+      go : (t : Bool) → removed_all kind (pass_there (chosen t (OfPass (number v) (record (pass v) { visits = empty_visits (pass v).mark h.contents ++ (pass v).visits }))
+          (seek (pass_key p) (others v)))).visits ≡ removed_all kind (pass_there (chosen t (OfPass (number v) (pass v)) (seek (pass_key p) (others v)))).visits
       go true = none_of_all kind (pass v).mark h.contents (pass v).visits
       go false = refl
 
@@ -227,10 +234,13 @@ module _ (z : Sizes) (v : View) (own : HasPass v) (holds : HoldsCommit v) where
     visited_next = visited_more v u c.held n own h c.takes w c.after
 
     pub sums_fit : HasRoom z → n < z.buckets → IsBacked z mark v → Fits (2 ^ 40) sums counts
-    sums_fit room less backed = fits z.sessions z.buckets (passes_in v.parts) (logs_in v) (visits_in v) (history_in v) n sums counts (2 ^ 40) less (omega (arith, made_few z.sessions z.quota (logs_in v) (few z mark v backed ended committed), room.begins)) s tells
+    sums_fit room less backed = fits z.sessions z.buckets (passes_in v.parts) (logs_in v) (visits_in v) (history_in v) n sums counts (2 ^ 40) less
+        (omega (arith, made_few z.sessions z.quota (logs_in v) (few z mark v backed ended committed), room.begins)) s tells
 
-  pub sums_all : (mark : ℕ) (sums : Totals) → 0 < z.buckets → IsEnded z v → IsBacked z mark v → SumsTell z v z.buckets sums → TotalsTell z.sessions z.buckets (passes_in v.parts) (logs_in v) (visits_in v) (commit v).history.list sums
-  sums_all mark sums some ended backed s = subst (λ k. TotalsTell z.sessions z.buckets (passes_in v.parts) (logs_in v) (visits_in v) k sums) history_there (totals_tell z.sessions z.buckets (passes_in v.parts) (logs_in v) (visits_in v) (history_in v) sums some (within z mark v backed ended committed) s)
+  pub sums_all : (mark : ℕ) (sums : Totals) → 0 < z.buckets → IsEnded z v → IsBacked z mark v → SumsTell z v z.buckets sums →
+      TotalsTell z.sessions z.buckets (passes_in v.parts) (logs_in v) (visits_in v) (commit v).history.list sums
+  sums_all mark sums some ended backed s = subst (λ k. TotalsTell z.sessions z.buckets (passes_in v.parts) (logs_in v) (visits_in v) k sums) history_there
+      (totals_tell z.sessions z.buckets (passes_in v.parts) (logs_in v) (visits_in v) (history_in v) sums some (within z mark v backed ended committed) s)
 
   pub logs_told : (mark : ℕ) → 0 < z.buckets → IsEnded z v → IsBacked z mark v → Logged z.buckets (commit v).history.list (logs_in v)
   logs_told mark some ended backed = subst (λ k. Logged z.buckets k (logs_in v)) history_there (logged z mark v backed ended committed some)

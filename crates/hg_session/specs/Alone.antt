@@ -25,6 +25,7 @@ pub record WritesAlone (old : View) (rid : Rid) (image : Image) (at : ℕ) (new 
 -- or refused for a conflict at its snapshot, and over; or for want of memory, and then it was not stored, or was taken back
 abbrev pub IsRefusedAlone : Sizes → View → Rid → Image → ℕ → View → PutRefusal → Type 0
 IsRefusedAlone z old rid image at new (put.Undeclared table) = ⊥
-IsRefusedAlone z old rid image at new (put.Open s j x) = (s ≡ at) × (Gains old (Over ∷ Refused rid (answers.OpenBy (record { session = j; transaction = x })) ∷ []) new × (IsSession z.sessions j × (IsFalse (j == number old) × Each (HasNoEnd (record { session = j; transaction = x })) old.sights)))
+IsRefusedAlone z old rid image at new (put.Open s j x) = (s ≡ at) × (Gains old (Over ∷ Refused rid (answers.OpenBy (record { session = j; transaction = x })) ∷ []) new ×
+    (IsSession z.sessions j × (IsFalse (j == number old) × Each (HasNoEnd (record { session = j; transaction = x })) old.sights)))
 IsRefusedAlone z old rid image at new (put.Newer s n) = (s ≡ at) × (Gains old (Over ∷ Refused rid (answers.Newer n) ∷ []) new × (at < n))
 IsRefusedAlone z old rid image at new put.NoMemory = Gains old (Over ∷ []) new ⊎ Gains old (Over ∷ taken_back rid image) new

@@ -11,6 +11,8 @@ pub mod Replies
 pub mod Refused
 pub mod Cursors
 pub mod Alone
+-- That a write has its first cause.
+pub mod Firsts
 -- What a view tells of a reply that it has heard.
 pub mod Right
 -- What a scan reads, bucket by bucket.

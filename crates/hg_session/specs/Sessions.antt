@@ -13,7 +13,8 @@ use Rattle.hg_rule.specs.Seats.{session_view, IsSessionOf}
 use Rattle.hg_session.specs.declared.engine.Engine.{Engine}
 use Rattle.hg_session.specs.declared.session.Session.{Session}
 use Rattle.hg_session.specs.Engines.{engine_board_id, engine_sizes}
-use Rattle.hg_session.specs.Ties.{Ties, FitsCursor, IsHeard}
+use Rattle.hg_session.specs.Ties.{Ties, FitsCursor}
+use Rattle.hg_rule.specs.Facts.{IsHeard}
 
 -- its pass, what that sees, its number, its log and what it has seen
 abbrev pub pass_of : Session → SessionPass

@@ -7,7 +7,7 @@ use Rattle.hg_rule.specs.declared.view.View.{View}
 use Rattle.hg_rule.specs.declared.view.Sizes.{Sizes}
 use Rattle.hg_core.specs.Counters.{removed_all}
 use Rattle.hg_session.specs.Ended.{logs_in}
-use Rattle.hg_session.specs.Ties.{IsHeard}
+use Rattle.hg_rule.specs.Facts.{IsHeard}
 
 -- the whole log of each session was heard
 abbrev pub HasHeardAll : Sizes → View → Type 0

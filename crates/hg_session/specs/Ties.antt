@@ -1,5 +1,5 @@
 -- What a session keeps of its part of the state.
-use Rattle.std.specs.Prelude.{◌≡◌, ◌⊎◌, ℕ, ◌+◌, ◌≤◌, List, [], false, Option, Some, None, is_some, IsTrue, ⊤}
+use Rattle.std.specs.Prelude.{◌≡◌, ℕ, ◌+◌, ◌≤◌, List, [], false, Option, Some, None, is_some, IsTrue, ⊤}
 use Rattle.hg_base.specs.declared.rid.Rid.{Rid}
 use Rattle.hg_base.specs.declared.scope.Snapshot.{Snapshot}
 use Rattle.hg_base.specs.History.{is_among, NoneTwice}
@@ -11,9 +11,6 @@ use Rattle.hg_core.specs.Logs.{current, begans, wrotes, is_plain, open_in}
 use Rattle.hg_cursor.specs.declared.cursor.Cursor.{Cursor}
 use Rattle.hg_cursor.specs.Cursors.{at_of, table_of}
 use Rattle.hg_rule.specs.declared.view.SessionPart.{SessionPart}
-use Rattle.hg_rule.specs.declared.view.Sight.{Sight}
-use Rattle.hg_rule.specs.declared.view.Sight.TheVariants.{Heard}
-use Rattle.hg_rule.specs.Facts.{IsAmong}
 
 -- the phase of a session whose open transaction reads at a snapshot
 abbrev pub phase_at : Option Snapshot → Phase
@@ -45,7 +42,3 @@ snapshot_of c = record { at = at_of c; scope = only (Some (table_of c)) }
 abbrev pub FitsCursor : Option Cursor → Option Snapshot → List Rid → Type 0
 FitsCursor None opened written = ⊤
 FitsCursor (Some c) opened written = (opened ≡ Some (snapshot_of c)) × (written ≡ [])
-
--- the whole log of session j was heard
-abbrev pub IsHeard : ℕ → List LogEntry → List Sight → Type 0
-IsHeard j log sights = (log ≡ []) ⊎ IsAmong (Heard j log) sights

@@ -59,7 +59,8 @@ AreBucketsOf board store = (store_board_id store ≡ board_id board) × (store_b
 -- The counts of all buckets, once all sessions and passes are joined to the view, tell of this history. The logs have it, and its
 -- last number is the greatest that was published.
 abbrev pub TellOf : Sizes → View → History → Totals → Type 0
-TellOf z v history totals = TotalsTell z.sessions z.buckets (passes_in v.parts) (logs_in v) (visits_in v) history totals × Logged z.buckets history (logs_in v) × (length history ≡ newest_of z.sessions (logs_in v))
+TellOf z v history totals = TotalsTell z.sessions z.buckets (passes_in v.parts) (logs_in v) (visits_in v) history totals × Logged z.buckets history (logs_in v) ×
+    (length history ≡ newest_of z.sessions (logs_in v))
 
 -- The counts of all buckets, once all sessions and passes are joined to the view: there is a history of which they tell, which
 -- the logs have, and whose last number is the greatest that was published.

@@ -21,7 +21,7 @@ use crate::engine::Engine;
 use crate::get::only;
 use crate::session::Session;
 use hg_base::{NoMemory, RowList, TableId};
-use hg_cursor::Cursor;
+use hg_cursor::{Cursor, Tables};
 use std::sync::Wait;
 
 impl Session {
@@ -85,9 +85,11 @@ impl Session {
         let Some(mut cursor) = self.cursor else {
             unreachable!();
         };
-        let board = engine.board();
-        let store = &engine.store;
-        let rows = cursor.fetch(rt, self.alloc, board, store, &mut self.pass, most)?;
+        let tables = Tables {
+            board: engine.board(),
+            store: &engine.store,
+        };
+        let rows = cursor.fetch(rt, self.alloc, &tables, &mut self.pass, most)?;
         self.cursor = Some(cursor);
         Ok(rows)
     }

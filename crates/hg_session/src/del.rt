@@ -13,7 +13,8 @@ ghost use Rattle.hg_session.specs.Sessions.{IsIn, IsOf, is_alone, view_of, open_
 ghost use Rattle.hg_session.specs.Frames.{KeepsCounts, KeepsOpened, KeepsWritten, SpendsWithin};
 ghost use Rattle.hg_session.specs.Gains.{Gains, rows_at};
 ghost use Rattle.hg_session.specs.Refused.{HasLooked, LeavesNoWrite};
-ghost use Rattle.hg_session.specs.Replies.{Answers, IsRefusedIf, IsAtOwn, del_at, del_reply};
+ghost use Rattle.hg_session.specs.Replies.{IsRefusedIf, IsAtOwn, del_at, del_reply};
+ghost use Rattle.hg_session.specs.Firsts.{AnswersWrite};
 
 use crate::answers::{Deleted, PutRefusal};
 use crate::engine::Engine;
@@ -62,8 +63,9 @@ impl Session {
         requires cursor { cursor_of self.old ≡ None }
         requires left { 0 < left_of self.old }
         requires table { rid.table.0 < (engine_sizes engine.now).tables }
+        // the reply answers the statement, and it has its first cause
         ensures reply { IfSome (del_reply (is_alone self.old) result) (λ reply.
-            Answers (engine_sizes engine.now) (view_of self.old) (say.Del rid) reply
+            AnswersWrite (engine_sizes engine.now) (view_of self.old) (say.Del rid) rid reply
             (view_of self.new)) }
         // in a transaction the snapshot is the transaction's own
         ensures at { IsAtOwn (open_of self.old) (del_at result) }
@@ -95,7 +97,7 @@ impl Session {
         requires opened { opened_of self.old ≡ Some snapshot }
         requires table { rid.table.0 < (engine_sizes engine.now).tables }
         ensures reply { IfSome (del_reply false result) (λ reply.
-            Answers (engine_sizes engine.now) (view_of self.old) (say.Del rid) reply
+            AnswersWrite (engine_sizes engine.now) (view_of self.old) (say.Del rid) rid reply
             (view_of self.new)) }
         // the snapshot is the transaction's own
         ensures at { IsAtOwn (Some snapshot) (del_at result) }
@@ -140,7 +142,7 @@ impl Session {
         requires closed { opened_of self.old ≡ None }
         requires table { rid.table.0 < (engine_sizes engine.now).tables }
         ensures reply { IfSome (del_reply true result) (λ reply.
-            Answers (engine_sizes engine.now) (view_of self.old) (say.Del rid) reply
+            AnswersWrite (engine_sizes engine.now) (view_of self.old) (say.Del rid) rid reply
             (view_of self.new)) }
         ensures declared { (t : TableId) → result ≡ Err (refusal.Undeclared t) → ⊥ }
         // out of memory: no version of the record is left

@@ -7,7 +7,7 @@ ghost use Rattle.hg_rule.specs.Reading.{passes_in};
 ghost use Rattle.hg_rule.specs.Seats.{pass_view, IsPassOf};
 ghost use Rattle.hg_session.specs.Engines.{engine_board_id, engine_sizes};
 ghost use Rattle.hg_session.specs.Passing.{AreAlone, passes_with, visits_of};
-ghost use Rattle.hg_session.specs.Ties.{IsHeard};
+ghost use Rattle.hg_rule.specs.Facts.{IsHeard};
 ghost use Rattle.hg_session.specs.Sessions.{seen_by};
 ghost use Rattle.hg_session.specs.Ended.{logs_in, visits_in, HasAllPasses, IsEnded};
 ghost use Rattle.hg_session.specs.Finished.{logs_of, IsClosed, HasNoSession, HaveGone, AreAmong, AreDone, KeepsPass};

@@ -9,7 +9,7 @@ ghost use Rattle.hg_core.specs.Answered.{StandsAt};
 ghost use Rattle.hg_core.specs.Logs.{begans};
 ghost use Rattle.hg_rule.specs.declared.view.Sizes.{Sizes};
 ghost use Rattle.hg_rule.specs.declared.view.View.{View};
-ghost use Rattle.hg_rule.specs.Facts.{StartsWith};
+ghost use Rattle.hg_rule.specs.Facts.{StartsWith, IsHeard};
 ghost use Rattle.hg_rule.specs.Rules.{IsBacked};
 ghost use Rattle.hg_rule.specs.Views.{number, session};
 ghost use Rattle.hg_group.specs.declared.receipt.Receipt.{Receipt};
@@ -18,7 +18,6 @@ ghost use Rattle.hg_session.specs.Finished.{AreAmong};
 ghost use Rattle.hg_session.specs.Gains.{HasPlace};
 ghost use Rattle.hg_session.specs.Replies.{Answers};
 ghost use Rattle.hg_session.specs.Right.{IsRight};
-ghost use Rattle.hg_session.specs.Ties.{IsHeard};
 
 /// Each commit has a place of its own. Receipts with one place, for commits in beginnings of one history, are for one commit.
 /// So two commits of sessions, of which one view has seen what both have seen, are one transaction of one session.

@@ -31,7 +31,7 @@ mod get;
 mod keys;
 mod laws;
 mod meet;
-mod opening;
+mod new_engine;
 mod parts;
 mod put;
 mod range;
@@ -47,7 +47,7 @@ pub use answers::{Deleted, Ended, GetRefusal, PutRefusal, Read, Scanned, Written
 pub use engine::Engine;
 pub use finish::{finish_all, finish_some, join_all};
 pub use laws::{places_differ, replies_are_right};
-pub use opening::{Passes, TableDecl};
+pub use new_engine::{Passes, TableDecl};
 pub use session::Session;
 pub use session_list::SessionList;
 pub use settlement::settle;

@@ -6,7 +6,8 @@ ghost use Rattle.hg_session.specs.declared.answers.PutRefusal.TheVariants as ref
 ghost use Rattle.hg_base.specs.Transcript.{has};
 ghost use Rattle.hg_session.specs.Engines.{engine_sizes};
 ghost use Rattle.hg_session.specs.Sessions.{IsIn, IsOf, is_alone, view_of, open_of, cursor_of, left_of, opened_of, written_of};
-ghost use Rattle.hg_session.specs.Replies.{Answers, IsRefusedIf, IsAtOwn, put_at, put_reply, refused_at};
+ghost use Rattle.hg_session.specs.Replies.{IsRefusedIf, IsAtOwn, put_at, put_reply, refused_at};
+ghost use Rattle.hg_session.specs.Firsts.{AnswersWrite, ShowsPut, ShowsWrite};
 ghost use Rattle.hg_session.specs.Alone.{WritesAlone, IsRefusedAlone};
 ghost use Rattle.hg_session.specs.Frames.{KeepsCounts, KeepsOpened, SpendsWithin};
 ghost use Rattle.hg_session.specs.Gains.{Gains, IsRefusedBy, entries_of};
@@ -55,6 +56,8 @@ impl Session {
         ensures gains { Gains (view_of self.old) (entries_of rid image result) (view_of self.new) }
         ensures refused { IfErr result
             (IsRefusedBy (engine_sizes engine.now) (view_of self.old) snapshot.at) }
+        // by logs that were heard in the call, the answer is the first cause
+        ensures first { ShowsWrite (view_of self.old) rid snapshot.at result (view_of self.new) }
         ensures kept { KeepsOpened self.old self.new }
         // a refused write is not listed
         ensures unwritten { OnErr result (written_of self.new ≡ written_of self.old) }
@@ -92,6 +95,7 @@ impl Session {
             (WritesAlone (view_of self.old) rid image snapshot.at (view_of self.new)) }
         ensures refused { IfErr result (IsRefusedAlone (engine_sizes engine.now) (view_of self.old)
             rid image snapshot.at (view_of self.new)) }
+        ensures first { ShowsPut (view_of self.old) rid snapshot.at result (view_of self.new) }
         ensures over { opened_of self.new ≡ None }
         ensures kept { KeepsCounts self.old self.new }
         ensures own { IsIn engine.now 0 0 self.new }
@@ -122,8 +126,9 @@ impl Session {
         requires cursor { cursor_of self.old ≡ None }
         requires left { 0 < left_of self.old }
         requires table { rid.table.0 < (engine_sizes engine.now).tables }
+        // the reply answers the statement, and it has its first cause
         ensures reply { IfSome (put_reply (is_alone self.old) result) (λ reply.
-            Answers (engine_sizes engine.now) (view_of self.old) (say.Put rid row) reply
+            AnswersWrite (engine_sizes engine.now) (view_of self.old) (say.Put rid row) rid reply
             (view_of self.new)) }
         // in a transaction the snapshot is the transaction's own
         ensures at { IsAtOwn (open_of self.old) (put_at result) }
@@ -157,7 +162,7 @@ impl Session {
         requires opened { opened_of self.old ≡ Some snapshot }
         requires table { rid.table.0 < (engine_sizes engine.now).tables }
         ensures reply { IfSome (put_reply false result) (λ reply.
-            Answers (engine_sizes engine.now) (view_of self.old) (say.Put rid row) reply
+            AnswersWrite (engine_sizes engine.now) (view_of self.old) (say.Put rid row) rid reply
             (view_of self.new)) }
         // the snapshot is the transaction's own
         ensures at { IsAtOwn (Some snapshot) (put_at result) }
@@ -195,7 +200,7 @@ impl Session {
         requires closed { opened_of self.old ≡ None }
         requires table { rid.table.0 < (engine_sizes engine.now).tables }
         ensures reply { IfSome (put_reply true result) (λ reply.
-            Answers (engine_sizes engine.now) (view_of self.old) (say.Put rid row) reply
+            AnswersWrite (engine_sizes engine.now) (view_of self.old) (say.Put rid row) rid reply
             (view_of self.new)) }
         ensures declared { (t : TableId) → result ≡ Err (refusal.Undeclared t) → ⊥ }
         // out of memory: no version of the record is left

@@ -11,14 +11,16 @@ ahead-requires-clause-home c = own_within c.args.count c.args.bucket c.args.home
 pub returns-then-reaches-clause-leads : goal.returns-then-reaches-clause-leads
 returns-then-reaches-clause-leads c = λ k le within own.
     let home = own_within c.args.count c.args.bucket c.args.home c.args.range.table c.args.range.low c.requires.bucket c.requires.home in
-    let least = least_own c.args.count c.args.bucket c.args.home (record_at c.args.range.table c.args.range.low) c.ahead.result k (sym c.requires.home) home c.ahead.ensures.within c.ahead.ensures.round le own in
+    let least = least_own c.args.count c.args.bucket c.args.home (record_at c.args.range.table c.args.range.low) c.ahead.result k
+    (sym c.requires.home) home c.ahead.ensures.within c.ahead.ensures.round le own in
     let wide = c.from-ahead.ensures in
     omega (arith, least, wide)
 
 pub returns-else-reaches-clause-leads : goal.returns-else-reaches-clause-leads
 returns-else-reaches-clause-leads c = λ k le within own.
     let home = own_within c.args.count c.args.bucket c.args.home c.args.range.table c.args.range.low c.requires.bucket c.requires.home in
-    let least = least_own c.args.count c.args.bucket c.args.home (record_at c.args.range.table c.args.range.low) c.ahead.result k (sym c.requires.home) home c.ahead.ensures.within c.ahead.ensures.round le own in
+    let least = least_own c.args.count c.args.bucket c.args.home (record_at c.args.range.table c.args.range.low) c.ahead.result k
+    (sym c.requires.home) home c.ahead.ensures.within c.ahead.ensures.round le own in
     let wide = c.from-ahead.ensures in
     let far : nat_le (c.args.range.low + c.from-ahead.result) c.args.range.high ≡ false = sym c.reaches.ensures ∙ c.if-reaches.false in
     grind (arith, nat_tests, far, least, within, wide)

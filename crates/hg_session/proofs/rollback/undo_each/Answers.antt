@@ -22,5 +22,6 @@ undo_one-requires-clause-mine g c =
     let all : c.args.records.now.list ≡ (c.pop.new.self.list ++ r ∷ []) ++ i.gone = i.all ∙ ap (λ l. l ++ i.gone) last in
     let apart = last_apart c.pop.new.self.list i.gone r (subst NoneTwice all c.requires.once) in
     let mine = c.requires.mine r (ap (is_among r) all ∙ last_among c.pop.new.self.list i.gone r) in
-    let log : open_in r (session (session_view c.loop-rid.pass)).log ≡ open_in r (session v).log = ap (open_in r) (undone_log v (session_view c.loop-rid.pass) i.gone i.undone) ∙ (open_undone r i.gone (session v).log ∙ ap (λ b. cond b None (open_in r (session v).log)) apart) in
+    let log : open_in r (session (session_view c.loop-rid.pass)).log ≡ open_in r (session v).log = ap (open_in r) (undone_log v (session_view c.loop-rid.pass) i.gone i.undone) ∙
+    (open_undone r i.gone (session v).log ∙ ap (λ b. cond b None (open_in r (session v).log)) apart) in
     subst IsSome (sym log) mine

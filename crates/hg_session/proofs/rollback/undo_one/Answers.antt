@@ -30,4 +30,5 @@ undo-requires-clause-mine g c =
     mine_unstamped (sizes_of c.board-board.result.now) c.take-held.ensures.backed.0 u c.take-held.ensures.backed.1 own has c.args.rid here some bare
 
 pub returns-clause-undone : goal.returns-clause-undone
-returns-clause-undone g c = undid_once (session_view c.args.pass.now) (session_view c.take-held.new.pass) (session_view c.undo.new.pass) (session_view c.give.new.pass) c.bucket_of-bucket.result c.args.rid c.requires.only c.take-held.ensures.view c.undo.ensures.step c.give.ensures.view
+returns-clause-undone g c = undid_once (session_view c.args.pass.now) (session_view c.take-held.new.pass) (session_view c.undo.new.pass)
+    (session_view c.give.new.pass) c.bucket_of-bucket.result c.args.rid c.requires.only c.take-held.ensures.view c.undo.ensures.step c.give.ensures.view

@@ -24,19 +24,25 @@ returns-clause-settled g c =
     let v = view_of c.args.collector.now in
     let w = view_of c.collect.new.self in
     let backed = backed_at w _ _ c.trackers.ensures c.collect.ensures.backed in
-    left_after (engine_sizes c.args.engine.now) v w _ (report_in c.collect.new.self) c.requires.own.0.1 (cuts_at v w _ _ _ _ c.trackers.ensures c.collect.ensures.cuts) backed.0 backed.1 c.requires.ended c.requires.heard
+    left_after (engine_sizes c.args.engine.now) v w _ (report_in c.collect.new.self) c.requires.own.0.1
+    (cuts_at v w _ _ _ _ c.trackers.ensures c.collect.ensures.cuts) backed.0 backed.1 c.requires.ended c.requires.heard
 
 pub returns-clause-removed : goal.returns-clause-removed
-returns-clause-removed g c = removed_after (engine_sizes c.args.engine.now) (view_of c.args.collector.now) (view_of c.collect.new.self) _ (report_in c.collect.new.self) c.requires.own.0.1 (cuts_at _ _ _ _ _ _ c.trackers.ensures c.collect.ensures.cuts)
+returns-clause-removed g c = removed_after (engine_sizes c.args.engine.now) (view_of c.args.collector.now) (view_of c.collect.new.self) _
+    (report_in c.collect.new.self) c.requires.own.0.1 (cuts_at _ _ _ _ _ _ c.trackers.ensures c.collect.ensures.cuts)
 
 pub returns-clause-logs : goal.returns-clause-logs
-returns-clause-logs g c = logs_after (engine_sizes c.args.engine.now) (view_of c.args.collector.now) (view_of c.collect.new.self) _ (report_in c.collect.new.self) c.requires.own.0.1 (cuts_at _ _ _ _ _ _ c.trackers.ensures c.collect.ensures.cuts)
+returns-clause-logs g c = logs_after (engine_sizes c.args.engine.now) (view_of c.args.collector.now) (view_of c.collect.new.self) _
+    (report_in c.collect.new.self) c.requires.own.0.1 (cuts_at _ _ _ _ _ _ c.trackers.ensures c.collect.ensures.cuts)
 
 pub returns-clause-passes : goal.returns-clause-passes
-returns-clause-passes g c = passes_after (engine_sizes c.args.engine.now) (view_of c.args.collector.now) (view_of c.collect.new.self) _ (report_in c.collect.new.self) c.requires.own.0.1 (cuts_at _ _ _ _ _ _ c.trackers.ensures c.collect.ensures.cuts)
+returns-clause-passes g c = passes_after (engine_sizes c.args.engine.now) (view_of c.args.collector.now) (view_of c.collect.new.self) _
+    (report_in c.collect.new.self) c.requires.own.0.1 (cuts_at _ _ _ _ _ _ c.trackers.ensures c.collect.ensures.cuts)
 
 pub returns-clause-ended : goal.returns-clause-ended
 returns-clause-ended g c = (
-  ended_after (engine_sizes c.args.engine.now) (view_of c.args.collector.now) (view_of c.collect.new.self) _ (report_in c.collect.new.self) c.requires.own.0.1 (cuts_at _ _ _ _ _ _ c.trackers.ensures c.collect.ensures.cuts) c.requires.ended,
-  heard_after (engine_sizes c.args.engine.now) (view_of c.args.collector.now) (view_of c.collect.new.self) _ (report_in c.collect.new.self) c.requires.own.0.1 (cuts_at _ _ _ _ _ _ c.trackers.ensures c.collect.ensures.cuts) c.requires.heard,
+  ended_after (engine_sizes c.args.engine.now) (view_of c.args.collector.now) (view_of c.collect.new.self) _ (report_in c.collect.new.self) c.requires.own.0.1
+      (cuts_at _ _ _ _ _ _ c.trackers.ensures c.collect.ensures.cuts) c.requires.ended,
+  heard_after (engine_sizes c.args.engine.now) (view_of c.args.collector.now) (view_of c.collect.new.self) _ (report_in c.collect.new.self) c.requires.own.0.1
+      (cuts_at _ _ _ _ _ _ c.trackers.ensures c.collect.ensures.cuts) c.requires.heard,
 )

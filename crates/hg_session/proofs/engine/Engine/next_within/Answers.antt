@@ -17,12 +17,14 @@ returns-in_err-first-clause-leads c = λ v h own.
 pub returns-then-range-first-clause-leads : goal.returns-then-range-first-clause-leads
 returns-then-range-first-clause-leads c = λ v h own.
     let count : c.buckets-count.result ≡ (engine_sizes c.args.self.now).buckets = search rules in
-    λ k l m has. c.in_ok-first.ensures.leads k l m (own_key c.buckets-count.result c.args.bucket (bucket v).content c.args.range.table k (subst (λ n. AreOwn n c.args.bucket (bucket v).content) (sym count) own) has)
+    λ k l m has. c.in_ok-first.ensures.leads k l m (own_key c.buckets-count.result c.args.bucket (bucket v).content c.args.range.table k
+    (subst (λ n. AreOwn n c.args.bucket (bucket v).content) (sym count) own) has)
 
 pub returns-else-range-first-clause-leads : goal.returns-else-range-first-clause-leads
 returns-else-range-first-clause-leads c = λ v h own.
     let count : c.buckets-count.result ≡ (engine_sizes c.args.self.now).buckets = search rules in
-    leads_through (IsOwnKey c.buckets-count.result c.args.bucket c.args.range.table) (HasVersion (bucket v).content c.args.range.table) c.args.range.low c.in_ok-first.first c.args.range.high c.next_there.result
+    leads_through (IsOwnKey c.buckets-count.result c.args.bucket c.args.range.table) (HasVersion (bucket v).content c.args.range.table) c.args.range.low c.in_ok-first.first
+    c.args.range.high c.next_there.result
     (λ k. own_key c.buckets-count.result c.args.bucket (bucket v).content c.args.range.table k (subst (λ n. AreOwn n c.args.bucket (bucket v).content) (sym count) own))
     c.in_ok-first.ensures.leads
     (c.next_there.ensures.leads v h)

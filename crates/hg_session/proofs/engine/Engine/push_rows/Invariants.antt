@@ -9,7 +9,8 @@ use Rattle.hg_session.proofs.engine.Engine.push_rows.Given as goal
 abbrev pub invariant-loop-next : goal.invariant-loop-next
 invariant-loop-next l = record {
   within : IsWithin l.request.range.low l.request.range.high l.next;
-  so_far : (v : View) → Holds v l.fn.held → AreOwn (engine_sizes l.fn.self).buckets l.bucket (bucket v).content → IsSoFar (read_of l.by l.request.snapshot.at l.request.range.table (bucket v).content) l.request.range.low l.request.range.high l.fn.rows.items l.rows.items l.next;
+  so_far : (v : View) → Holds v l.fn.held → AreOwn (engine_sizes l.fn.self).buckets l.bucket (bucket v).content →
+      IsSoFar (read_of l.by l.request.snapshot.at l.request.range.table (bucket v).content) l.request.range.low l.request.range.high l.fn.rows.items l.rows.items l.next;
 }
 
 abbrev pub decreases-loop-next : goal.decreases-loop-next

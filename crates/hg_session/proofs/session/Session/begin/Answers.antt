@@ -15,4 +15,5 @@ returns-clause-answers c =
     let w = view_of c.open.new.self in
     let closed : open_of c.spend.new.self ≡ None = search rules in
     subst (λ x. Answers z x (say.Begin c.args.scope) (inside (Begun c.open.result.at)) w) c.spend.ensures.kept.0
-    (answers_inside z v w (say.Begin c.args.scope) (Begun c.open.result.at) nothing_more (ap (λ o. reading.is_alone o (say.Begin c.args.scope)) closed) c.open.ensures.gains tt (λ c e. tt) tt c.open.ensures.fresh tt tt tt)
+    (answers_inside z v w (say.Begin c.args.scope) (Begun c.open.result.at) nothing_more (ap (λ o. reading.is_alone o (say.Begin c.args.scope)) closed) c.open.ensures.gains tt
+    (λ c e. tt) tt c.open.ensures.fresh tt tt tt)

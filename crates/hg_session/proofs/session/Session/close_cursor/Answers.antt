@@ -30,4 +30,5 @@ returns-clause-answers c =
     let v = view_of c.args.self.now in
     let one = some_cursor (cursor_of c.args.self.now) c.requires.cursor in
     let opened = c.requires.own.ties.opens ∙ (fits_some c.args.self.now one.0 c.requires.own.cursor one.1).0 in
-    answers_inside (engine_sizes c.args.engine.now) v (view_of c.end.new.self) say.CursorClose answers.Ended nothing_more (ap (λ o. reading.is_alone o say.CursorClose) opened) c.end.ensures.gains tt (λ c e. tt) tt tt tt tt tt
+    answers_inside (engine_sizes c.args.engine.now) v (view_of c.end.new.self) say.CursorClose answers.Ended nothing_more
+    (ap (λ o. reading.is_alone o say.CursorClose) opened) c.end.ensures.gains tt (λ c e. tt) tt tt tt tt tt

@@ -38,7 +38,8 @@ returns-in-Ok-clause-own g c =
     let own : IsSessionOf (engine_board_id c.args.engine.now) (engine_sizes c.args.engine.now) c.end-in-Ok.new.pass = search rules in
     let none : c.replace-records.new.dest.list ≡ [] = search rules in
     let ties = ties_committed (engine_sizes c.args.engine.now).quota c.args.self.now.left 0 0 c.in-Ok.receipt.number _ _ (session v) c.requires.own.ties in
-    settled c.args.engine.now 0 0 v _ _ v.sights own k.alone (subst (λ l. Ties (engine_sizes c.args.engine.now).quota None l c.args.self.now.left 0 0 (logging Over Idle (with_published c.in-Ok.receipt.number (session v)))) (sym none) ties) k.heard c.requires.own.closed
+    settled c.args.engine.now 0 0 v _ _ v.sights own k.alone (subst (λ l. Ties (engine_sizes c.args.engine.now).quota None l c.args.self.now.left 0 0
+    (logging Over Idle (with_published c.in-Ok.receipt.number (session v)))) (sym none) ties) k.heard c.requires.own.closed
 
 pub returns-in-Err-clause-refused : goal.returns-in-Err-clause-refused
 returns-in-Err-clause-refused g c = (back_gains (session_view c.args.self.now.pass) (session_view c.commit.new.pass) c.in-Err.ensures.refused.1, refl)
@@ -52,7 +53,9 @@ returns-in-Err-clause-own g c =
     let own : IsSessionOf (engine_board_id c.args.engine.now) (engine_sizes c.args.engine.now) c.commit.new.pass = search rules in
     let open_ = subst (λ o. Ties quota o old left 0 0 (session v)) c.requires.opened c.requires.own.ties in
     let ties = ties_back quota left c.args.snapshot old c.in-Err.tx.records.list (number v) (session v) c.in-Err.tx refl c.in-Err.ensures.refused.0 open_ in
-    back_in c.args.engine.now v _ own c.in-Err.ensures.refused.1 (subst (λ o. Ties quota o c.in-Err.tx.records.list left 0 0 (session v)) (sym c.requires.opened) ties) c.requires.own.heard c.requires.own.closed
+    back_in c.args.engine.now v _ own c.in-Err.ensures.refused.1 (subst (λ o. Ties quota o c.in-Err.tx.records.list left 0 0 (session v)) (sym c.requires.opened) ties)
+    c.requires.own.heard c.requires.own.closed
 
 pub returns-in-Ok-clause-placed : goal.returns-in-Ok-clause-placed
-returns-in-Ok-clause-placed g c = has_place (session_view c.args.self.now.pass) (session_view c.commit.new.pass) (session_view c.end-in-Ok.new.pass) c.in-Ok.receipt c.in-Ok.ensures.committed c.end-in-Ok.ensures.step
+returns-in-Ok-clause-placed g c = has_place (session_view c.args.self.now.pass) (session_view c.commit.new.pass)
+    (session_view c.end-in-Ok.new.pass) c.in-Ok.receipt c.in-Ok.ensures.committed c.end-in-Ok.ensures.step

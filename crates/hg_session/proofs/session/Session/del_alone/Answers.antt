@@ -1,4 +1,4 @@
-use Rattle.std.proofs.Common.{◌≡◌, [], ◌∷◌, true, false, Some, None, Err, refl, sym, ◌∙◌, subst, rules}
+use Rattle.std.proofs.Common.{◌≡◌, [], ◌∷◌, true, false, Some, None, Err, refl, sym, ap, ◌∙◌, subst, rules}
 use Rattle.std.specs.Prelude.{IfSome, IfErr, IfOk, is_some}
 use Rattle.hg_base.specs.declared.statement.Statement.TheVariants as say
 use Rattle.hg_base.specs.History.{nothing}
@@ -10,10 +10,15 @@ use Rattle.hg_rule.specs.Views.{session}
 use Rattle.hg_session.specs.Engines.{engine_sizes}
 use Rattle.hg_session.specs.Sessions.{view_of}
 use Rattle.hg_session.specs.Gains.{Gains, rows_at}
-use Rattle.hg_session.specs.Replies.{Answers, del_reply}
+use Rattle.hg_session.specs.Replies.{del_reply, refused_reply}
+use Rattle.hg_session.specs.Firsts.{AnswersWrite, ShowsPut}
+use Rattle.hg_core.specs.Shown.{HasOpen, reads_at}
+use Rattle.hg_base.specs.declared.line.Answer.TheVariants as answers
+use Rattle.hg_base.specs.declared.line.Reply.{Reply}
 use Rattle.hg_session.specs.Alone.{WritesAlone, IsRefusedAlone}
 use Rattle.hg_session.proofs.Putting.{stored_alone, refused_alone}
 use Rattle.hg_session.proofs.Refusing.{no_write}
+use Rattle.hg_session.proofs.Firsts.{bare, both, gone_first, put_back, refused_first}
 use Rattle.hg_session.proofs.Ranged.{dels, with_found, saw_found, found_row, no_row, nothing_alone}
 use Rattle.hg_session.proofs.Settling.{gains_on}
 use Rattle.hg_session.proofs.session.Session.del_alone.Goals as goal
@@ -32,7 +37,7 @@ returns-then-not-see_there-clause-reply g c =
     let absent : false ≡ is_some c.see_there.ensures.gains.0 = search rules in
     let seen = subst (λ r. Gains m (saw z.buckets rid (rows_at rid.key r) ∷ []) n) (no_row c.see_there.ensures.gains.0 absent) c.see_there.ensures.gains.1.0 in
     let two = gains_on v m n _ _ begun seen (λ l. refl) in
-    nothing_alone z v w at rid none c.open-snapshot.ensures.fresh (gains_on v n w _ (Over ∷ []) two c.end.ensures.gains (λ l. refl))
+    record { answers = nothing_alone z v w at rid none c.open-snapshot.ensures.fresh (gains_on v n w _ (Over ∷ []) two c.end.ensures.gains (λ l. refl)); first = tt }
 
 pub returns-in_err-number-clause-reply : goal.returns-in_err-number-clause-reply
 returns-in_err-number-clause-reply g c =
@@ -52,8 +57,12 @@ returns-in_err-number-clause-reply g c =
     let e = c.in_err-number.field-0.0 in
     let why = subst (λ x. IfErr x (IsRefusedAlone z n rid nothing at w)) c.in_err-number.was c.write_alone.ensures.refused in
     let same : c.from_residual.result ≡ Err e = search rules in
-    subst (λ x. IfSome (del_reply true x) (λ reply. Answers z v (say.Del rid) reply w)) (sym same)
+    let first = put_back v n w rid at (saw z.buckets rid (rows_at rid.key (Some row.0)) ∷ Began at (only (Some rid.table)) ∷ []) two
+    (bare (session n).log (HasOpen (session v).log rid) rid (ap own_writes two.log)) c.write_alone.result c.write_alone.ensures.first in
+    subst (λ x. IfSome (del_reply true x) (λ reply. AnswersWrite z v (say.Del rid) rid reply w)) (sym same)
+    (both z v w (say.Del rid) rid (refused_reply true e)
     (refused_alone z (say.Del rid) (with_found row.0) v w rid nothing (saw_found z rid row.0) _ (dels z (own_writes (session v).log) rid row.0) n at none c.open-snapshot.ensures.fresh two e why)
+    (refused_first v w rid at true e (subst (λ x. ShowsPut v rid at x w) c.in_err-number.was first)))
 
 pub returns-in_err-number-clause-refused : goal.returns-in_err-number-clause-refused
 returns-in_err-number-clause-refused g c =
@@ -90,4 +99,11 @@ returns-clause-reply g c =
     let seen = subst (λ r. Gains m (saw z.buckets rid (rows_at rid.key r) ∷ []) n) row.1 c.see_there.ensures.gains.1.0 in
     let two = gains_on v m n (Began at (only (Some rid.table)) ∷ []) (saw_found z rid row.0) begun seen (λ l. refl) in
     let stored = subst (λ x. IfOk x (WritesAlone n rid nothing at w)) c.in_ok-number.was c.write_alone.ensures.stored in
-    stored_alone z (say.Del rid) (with_found row.0) v w rid nothing (saw_found z rid row.0) _ (dels z (own_writes (session v).log) rid row.0) n at none c.open-snapshot.ensures.fresh two c.in_ok-number.number stored
+    let first = put_back v n w rid at (saw z.buckets rid (rows_at rid.key (Some row.0)) ∷ Began at (only (Some rid.table)) ∷ []) two
+    (bare (session n).log (HasOpen (session v).log rid) rid (ap own_writes two.log)) c.write_alone.result c.write_alone.ensures.first in
+    let reply : Reply = record { at = Some at; answer = answers.Gone; number = c.in_ok-number.number } in
+    record {
+      answers = stored_alone z (say.Del rid) (with_found row.0) v w rid nothing (saw_found z rid row.0) _
+          (dels z (own_writes (session v).log) rid row.0) n at none c.open-snapshot.ensures.fresh two c.in_ok-number.number stored;
+      first = gone_first v w rid at reply (ap (λ o. reads_at o reply) none) (subst (λ x. ShowsPut v rid at x w) c.in_ok-number.was first);
+    }

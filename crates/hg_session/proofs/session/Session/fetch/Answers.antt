@@ -27,7 +27,8 @@ returns-in_err-rows-clause-refused g c =
     let f = subst (λ r. FetchesRest (store_buckets (engine_store c.args.engine.now)) c.args.most v (table_of cursor) (rest_of cursor) (high_of cursor) r w) c.in_err-rows.was c.fetch.ensures.looks in
     let is = sym c.spend.ensures.cursor ∙ c.in-Some.is in
     subst (λ r. OnErr r (HasLookedOn (cursor_of c.args.self.now) (view_of c.args.self.now) w × (cursor_of c.spend.new.self ≡ cursor_of c.args.self.now))) (sym same) (
-      subst (λ o. HasLookedOn o (view_of c.args.self.now) w) (sym is) (subst (λ x. HasLookedOn (Some cursor) x w) c.spend.ensures.kept.0 (looked_on (store_buckets (engine_store c.args.engine.now)) c.args.most cursor v w _ f)),
+      subst (λ o. HasLookedOn o (view_of c.args.self.now) w) (sym is)
+          (subst (λ x. HasLookedOn (Some cursor) x w) c.spend.ensures.kept.0 (looked_on (store_buckets (engine_store c.args.engine.now)) c.args.most cursor v w _ f)),
       c.spend.ensures.cursor,
     )
 
@@ -37,7 +38,8 @@ returns-in_err-rows-clause-spent g c =
     let cursor = c.in-Some.cursor in
     let own = c.spend.ensures.own e c.requires.own in
     let pass : IsSessionOf (engine_board_id e) (engine_sizes e) c.fetch.new.pass = search rules in (
-      fetched e c.spend.new.self _ cursor cursor _ c.args.most _ own c.in-Some.is c.in-Some.is refl refl refl refl refl pass c.fetch.ensures.looks c.fetch.ensures.reads.only (c.fetch.ensures.heard own.heard),
+      fetched e c.spend.new.self _ cursor cursor _ c.args.most _ own c.in-Some.is c.in-Some.is refl refl refl refl refl pass c.fetch.ensures.looks c.fetch.ensures.reads.only
+          (c.fetch.ensures.heard own.heard),
       c.spend.ensures.left,
       c.spend.ensures.retries,
     )
@@ -54,7 +56,9 @@ returns-clause-answers g c = λ rest left.
     let count : store_buckets (engine_store e) ≡ z.buckets = search rules in
     let f = subst (λ r. FetchesRest (store_buckets (engine_store e)) c.args.most v (table_of cursor) (rest_of cursor) (high_of cursor) r w) c.in_ok-rows.was c.fetch.ensures.looks in
     subst (λ x. AnswersFrom rest z x (say.Fetch c.args.most) (inside (Rows c.in_ok-rows.rows)) w) c.spend.ensures.kept.0
-    (fetch_replies z v w c.args.most (snapshot_of cursor) cursor c.in_ok-rows.rows rest opened (subst (λ n. FetchesRest n c.args.most v (table_of cursor) (rest_of cursor) (high_of cursor) (Ok c.in_ok-rows.rows) w) count f) (subst (λ o. FitsRest o rest) (sym c.spend.ensures.cursor ∙ c.in-Some.is) left))
+    (fetch_replies z v w c.args.most (snapshot_of cursor) cursor c.in_ok-rows.rows rest opened
+    (subst (λ n. FetchesRest n c.args.most v (table_of cursor) (rest_of cursor) (high_of cursor) (Ok c.in_ok-rows.rows) w) count f)
+    (subst (λ o. FitsRest o rest) (sym c.spend.ensures.cursor ∙ c.in-Some.is) left))
 
 pub returns-clause-moved : goal.returns-clause-moved
 returns-clause-moved g c = λ rest left.
@@ -63,7 +67,8 @@ returns-clause-moved g c = λ rest left.
     let cursor = c.in-Some.cursor in
     let m = c.in_ok-rows.ensures.moved in
     let f = subst (λ r. FetchesRest (store_buckets (engine_store c.args.engine.now)) c.args.most v (table_of cursor) (rest_of cursor) (high_of cursor) r w) c.in_ok-rows.was c.fetch.ensures.looks in
-    fetch_moves (store_buckets (engine_store c.args.engine.now)) c.args.most cursor c.fetch.new.self c.in_ok-rows.rows v w rest m.1 m.2 m.3 f (subst (λ o. FitsRest o rest) (sym c.spend.ensures.cursor ∙ c.in-Some.is) left)
+    fetch_moves (store_buckets (engine_store c.args.engine.now)) c.args.most cursor c.fetch.new.self c.in_ok-rows.rows v w rest m.1 m.2 m.3 f
+    (subst (λ o. FitsRest o rest) (sym c.spend.ensures.cursor ∙ c.in-Some.is) left)
 
 pub returns-clause-spent : goal.returns-clause-spent
 returns-clause-spent g c =
@@ -72,7 +77,8 @@ returns-clause-spent g c =
     let own = c.spend.ensures.own e c.requires.own in
     let m = c.in_ok-rows.ensures.moved in
     let pass : IsSessionOf (engine_board_id e) (engine_sizes e) c.fetch.new.pass = search rules in (
-      fetched e c.spend.new.self _ cursor c.fetch.new.self _ c.args.most _ own c.in-Some.is refl m.0 m.1 refl refl refl pass c.fetch.ensures.looks c.fetch.ensures.reads.only (c.fetch.ensures.heard own.heard),
+      fetched e c.spend.new.self _ cursor c.fetch.new.self _ c.args.most _ own c.in-Some.is refl m.0 m.1 refl refl refl pass c.fetch.ensures.looks c.fetch.ensures.reads.only
+          (c.fetch.ensures.heard own.heard),
       c.spend.ensures.left,
       c.spend.ensures.retries,
     )

@@ -27,7 +27,8 @@ returns-in_err-row-clause-refused g c =
     let begun = subst (λ s. Gains v (Began c.open-snapshot.result.at s ∷ []) (view_of c.open-snapshot.new.self)) c.only.ensures.is c.open-snapshot.ensures.gains in
     let two = gains_on v (view_of c.open-snapshot.new.self) n _ looks begun c.see_row-row.ensures.gains.1.0 (λ l. refl) in
     let same : c.from_residual.result ≡ Err c.in_err-row.field-0.0 = search rules in
-    subst (λ r. OnErr r (HasGivenUp rid.table rid.key rid.key [] v w)) (sym same) (given_up v n w rid.table rid.key rid.key c.open-snapshot.result.at [] looks ((refl, (refl, refl)), tt) two c.end.ensures.gains)
+    subst (λ r. OnErr r (HasGivenUp rid.table rid.key rid.key [] v w)) (sym same)
+    (given_up v n w rid.table rid.key rid.key c.open-snapshot.result.at [] looks ((refl, (refl, refl)), tt) two c.end.ensures.gains)
 
 pub returns-clause-reply : goal.returns-clause-reply
 returns-clause-reply g c =
@@ -38,6 +39,8 @@ returns-clause-reply g c =
     let row : c.in_ok-row.field-0 ≡ c.see_row-row.ensures.gains.0 = search rules in
     let scope : c.open-snapshot.result.scope ≡ only (Some c.args.rid.table) = search rules in
     let opened = subst (λ s. Gains v (Began c.open-snapshot.result.at s ∷ []) (view_of c.open-snapshot.new.self)) (c.only.ensures.is) c.open-snapshot.ensures.gains in
-    let two = gains_on v (view_of c.open-snapshot.new.self) (view_of c.see_row-row.new.self) _ _ opened (subst (λ r. Gains (view_of c.open-snapshot.new.self) (saw z.buckets c.args.rid (rows_at c.args.rid.key r) ∷ []) (view_of c.see_row-row.new.self)) (sym row) c.see_row-row.ensures.gains.1.0) (λ l. refl) in
+    let two = gains_on v (view_of c.open-snapshot.new.self) (view_of c.see_row-row.new.self) _ _ opened
+    (subst (λ r. Gains (view_of c.open-snapshot.new.self) (saw z.buckets c.args.rid (rows_at c.args.rid.key r) ∷ []) (view_of c.see_row-row.new.self))
+    (sym row) c.see_row-row.ensures.gains.1.0) (λ l. refl) in
     let all = gains_on v (view_of c.see_row-row.new.self) w _ (Over ∷ []) two c.end.ensures.gains (λ l. refl) in
     get_alone z v w c.open-snapshot.result.at c.args.rid c.in_ok-row.field-0 none c.open-snapshot.ensures.fresh all

@@ -22,13 +22,16 @@ returns-in_err-rows-clause-refused g c =
     let m = view_of c.open-snapshot.new.self in
     let n = view_of c.scan_rows-rows.new.self in
     let w = view_of c.end.new.self in
-    let k : ScansSome z.buckets m c.args.range.table c.args.range.low c.args.range.high n = subst (λ r. Scans z.buckets m c.args.range.table c.args.range.low c.args.range.high r n) c.in_err-rows.was c.scan_rows-rows.ensures.gains in
+    let k : ScansSome z.buckets m c.args.range.table c.args.range.low c.args.range.high n = subst (λ r. Scans z.buckets m c.args.range.table c.args.range.low c.args.range.high r n)
+    c.in_err-rows.was c.scan_rows-rows.ensures.gains in
     let es = saws z.buckets c.args.range.table c.args.range.low c.args.range.high k.part k.seen in
     let b = Began c.open-snapshot.result.at (only (Some c.args.range.table)) ∷ [] in
     let begun = subst (λ s. Gains v (Began c.open-snapshot.result.at s ∷ []) m) c.only.ensures.is c.open-snapshot.ensures.gains in
     let two = gains_on v m n b es begun k.gains (λ l. sym (append_assoc es b l)) in
     let same : c.from_residual.result ≡ Err c.in_err-rows.field-0.0 = search rules in
-    subst (λ r. OnErr r (HasGivenUp c.args.range.table c.args.range.low c.args.range.high [] v w)) (sym same) (given_up v n w c.args.range.table c.args.range.low c.args.range.high c.open-snapshot.result.at [] es (saws_there z.buckets c.args.range.table c.args.range.low c.args.range.high k.part k.seen) two c.end.ensures.gains)
+    subst (λ r. OnErr r (HasGivenUp c.args.range.table c.args.range.low c.args.range.high [] v w)) (sym same)
+    (given_up v n w c.args.range.table c.args.range.low c.args.range.high c.open-snapshot.result.at [] es
+    (saws_there z.buckets c.args.range.table c.args.range.low c.args.range.high k.part k.seen) two c.end.ensures.gains)
 
 pub returns-clause-reply : goal.returns-clause-reply
 returns-clause-reply g c =
@@ -39,5 +42,6 @@ returns-clause-reply g c =
     let w = view_of c.end.new.self in
     let none : current (session v).log ≡ None = search rules in
     let begun = subst (λ s. Gains v (Began c.open-snapshot.result.at s ∷ []) m) c.only.ensures.is c.open-snapshot.ensures.gains in
-    let k : ScansAll z.buckets m c.args.range.table c.args.range.low c.args.range.high c.in_ok-rows.field-0 n = subst (λ r. Scans z.buckets m c.args.range.table c.args.range.low c.args.range.high r n) c.in_ok-rows.was c.scan_rows-rows.ensures.gains in
+    let k : ScansAll z.buckets m c.args.range.table c.args.range.low c.args.range.high c.in_ok-rows.field-0 n = subst
+    (λ r. Scans z.buckets m c.args.range.table c.args.range.low c.args.range.high r n) c.in_ok-rows.was c.scan_rows-rows.ensures.gains in
     scan_alone z v m n w c.open-snapshot.result.at c.args.range.table c.args.range.low c.args.range.high c.in_ok-rows.field-0 none c.open-snapshot.ensures.fresh begun k c.end.ensures.gains

@@ -30,7 +30,8 @@ returns-clause-sees g c =
     let backed = subst (λ e. IsBacked (sizes_of e) c.take-held.ensures.backed.0 u) c.board-board.ensures c.take-held.ensures.backed.1 in
     let own = held_own z c.take-held.ensures.backed.0 b u backed (subst (λ m. HoldsBucket m u) c.take-held.ensures.held.1 c.take-held.ensures.holds.has) in
     let t = trip_saw z.buckets (number v) b c.see.ensures.step.0 (session v) v.sights c.args.request.range.table c.args.request.range.low c.args.request.range.high u w h k x c.give.ensures.view in
-    sees z.buckets (number v) b c.see.ensures.step.0 (session v) v.sights c.args.request.range.table c.args.request.range.low c.args.request.range.high u w h k v x c.writer-by.result c.args.request.snapshot.at c.args.rows.now.items c.push_rows-pushed.new.rows.items c.push_rows-pushed.result own by at
+    sees z.buckets (number v) b c.see.ensures.step.0 (session v) v.sights c.args.request.range.table c.args.request.range.low c.args.request.range.high u w h k v x
+    c.writer-by.result c.args.request.snapshot.at c.args.rows.now.items c.push_rows-pushed.new.rows.items c.push_rows-pushed.result own by at
     (c.push_rows-pushed.ensures u c.take-held.ensures.holds own)
     (gained v x _ (Saw c.args.request.range.table c.args.request.range.low c.args.request.range.high b k.rows ∷ []) t.alone refl)
 
@@ -47,4 +48,5 @@ returns-clause-own g c =
     let own : IsSessionOf (engine_board_id c.args.engine.now) (engine_sizes c.args.engine.now) c.see.new.pass = search rules in
     let seat : IsSeatOf (engine_board_id c.args.engine.now) c.give.new.pass.seat = search rules in
     let t = trip_saw z.buckets (number v) b c.see.ensures.step.0 (session v) v.sights c.args.request.range.table c.args.request.range.low c.args.request.range.high u w h k x c.give.ensures.view in
-    trip_settled c.args.engine.now 0 1 b v c.see.new.pass _ _ t own seat c.give.ensures.own.1 (ties_quiet _ _ 0 1 _ _ (session v) (Saw c.args.request.range.table c.args.request.range.low c.args.request.range.high b k.rows) tt c.requires.own.ties) c.requires.own.closed
+    trip_settled c.args.engine.now 0 1 b v c.see.new.pass _ _ t own seat c.give.ensures.own.1
+    (ties_quiet _ _ 0 1 _ _ (session v) (Saw c.args.request.range.table c.args.request.range.low c.args.request.range.high b k.rows) tt c.requires.own.ties) c.requires.own.closed

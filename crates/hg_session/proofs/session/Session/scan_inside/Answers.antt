@@ -30,7 +30,8 @@ returns-in_err-rows-clause-refused g c =
     let m = view_of c.is_outside.new.self in
     let w = view_of c.scan_rows.new.self in
     let none = subst (λ b. Gains v (outside_entries b c.args.range.table) m) c.if-is_outside.false c.is_outside.ensures.gains in
-    let k : ScansSome z.buckets m c.args.range.table c.args.range.low c.args.range.high w = subst (λ r. Scans z.buckets m c.args.range.table c.args.range.low c.args.range.high r w) c.in_err-rows.was c.scan_rows.ensures.gains in
+    let k : ScansSome z.buckets m c.args.range.table c.args.range.low c.args.range.high w = subst (λ r. Scans z.buckets m c.args.range.table c.args.range.low c.args.range.high r w)
+    c.in_err-rows.was c.scan_rows.ensures.gains in
     let es = saws z.buckets c.args.range.table c.args.range.low c.args.range.high k.part k.seen in
     let all = gains_on v m w [] es none k.gains (λ l. ap (λ x. x ++ l) (sym (append-nil es))) in
     λ same. record { looks = es; there = saws_there z.buckets c.args.range.table c.args.range.low c.args.range.high k.part k.seen; gains = subst (λ x. Gains v x w) (append-nil es) all }
@@ -44,5 +45,7 @@ returns-clause-reply g c =
     let opened : current (session v).log ≡ Some c.args.snapshot = search rules in
     let none = subst (λ b. Gains v (outside_entries b c.args.range.table) m) c.if-is_outside.false c.is_outside.ensures.gains in
     let declared : IsTrue (has c.args.snapshot.scope c.args.range.table) = search rules in
-    let k : ScansAll z.buckets m c.args.range.table c.args.range.low c.args.range.high c.in_ok-rows.rows w = subst (λ r. Scans z.buckets m c.args.range.table c.args.range.low c.args.range.high r w) c.in_ok-rows.was c.scan_rows.ensures.gains in
-    scan_inside z v w c.args.snapshot c.args.range.table c.args.range.low c.args.range.high c.in_ok-rows.rows opened declared (all_behind z v m w c.args.range.table c.args.range.low c.args.range.high c.in_ok-rows.rows none k)
+    let k : ScansAll z.buckets m c.args.range.table c.args.range.low c.args.range.high c.in_ok-rows.rows w = subst
+    (λ r. Scans z.buckets m c.args.range.table c.args.range.low c.args.range.high r w) c.in_ok-rows.was c.scan_rows.ensures.gains in
+    scan_inside z v w c.args.snapshot c.args.range.table c.args.range.low c.args.range.high c.in_ok-rows.rows opened declared
+    (all_behind z v m w c.args.range.table c.args.range.low c.args.range.high c.in_ok-rows.rows none k)

@@ -14,7 +14,8 @@ loop-bucket-init g c =
     let z = engine_sizes c.args.engine.now in
     let v = view_of c.args.self.now in
     record {
-      scanned = subst (λ rows. IsScanned z.buckets v c.args.range.table c.args.range.low c.args.range.high 0 rows v) (sym c.new-rows.ensures.items) (none_scanned z.buckets v c.args.range.table c.args.range.low c.args.range.high);
+      scanned = subst (λ rows. IsScanned z.buckets v c.args.range.table c.args.range.low c.args.range.high 0 rows v) (sym c.new-rows.ensures.items)
+          (none_scanned z.buckets v c.args.range.table c.args.range.low c.args.range.high);
       opened = refl;
       written = refl;
       left = refl;
@@ -33,7 +34,8 @@ loop-bucket-preserved g c =
     elim c.if-is_reached.branch [
       | then-is_reached+in_ok-scan_bucket w ↦ rw (w.self-is, w.rows-is) (record {
         scanned = subst (λ m. IsScanned z.buckets v c.args.range.table c.args.range.low c.args.range.high m w.scan_bucket.new.rows.items (view_of w.scan_bucket.new.self)) next
-            (one_scanned z.buckets v (view_of c.loop-bucket.self) (view_of w.scan_bucket.new.self) c.args.range.table c.args.range.low c.args.range.high n c.loop-bucket.rows.items w.scan_bucket.new.rows.items (Ok w.in_ok-scan_bucket.field-0) h.scanned (sym test ∙ w.if-is_reached.true) w.in_ok-scan_bucket.ensures.sees w.in_ok-scan_bucket.ensures.sees.added);
+            (one_scanned z.buckets v (view_of c.loop-bucket.self) (view_of w.scan_bucket.new.self) c.args.range.table c.args.range.low c.args.range.high n c.loop-bucket.rows.items
+            w.scan_bucket.new.rows.items (Ok w.in_ok-scan_bucket.field-0) h.scanned (sym test ∙ w.if-is_reached.true) w.in_ok-scan_bucket.ensures.sees w.in_ok-scan_bucket.ensures.sees.added);
         opened = w.in_ok-scan_bucket.ensures.kept.0 ∙ h.opened;
         written = w.in_ok-scan_bucket.ensures.kept.1 ∙ h.written;
         left = w.in_ok-scan_bucket.ensures.kept.2 ∙ h.left;
@@ -59,7 +61,8 @@ returns-in_err-scan_bucket-clause-gains g c =
     let refused : c.from_residual.result ≡ Err c.in_err-scan_bucket.field-0.0 = search rules in
     let count : c.buckets-count.result ≡ z.buckets = search rules in
     subst (λ r. Scans z.buckets v c.args.range.table c.args.range.low c.args.range.high r (view_of c.scan_bucket.new.self)) (sym refused)
-    (stops z.buckets v (view_of c.loop-bucket.self) (view_of c.scan_bucket.new.self) c.args.range.table c.args.range.low c.args.range.high c.loop-bucket.bucket c.loop-bucket.rows.items c.scan_bucket.new.rows.items c.scan_bucket.result c.loop-bucket.invariant.scanned reached c.scan_bucket.ensures.sees
+    (stops z.buckets v (view_of c.loop-bucket.self) (view_of c.scan_bucket.new.self) c.args.range.table c.args.range.low c.args.range.high c.loop-bucket.bucket
+    c.loop-bucket.rows.items c.scan_bucket.new.rows.items c.scan_bucket.result c.loop-bucket.invariant.scanned reached c.scan_bucket.ensures.sees
     (omega (arith, c.loop-bucket-test.true, c.loop-bucket.auto.bucket-end, count)))
 
 pub returns-clause-gains : goal.returns-clause-gains
@@ -69,6 +72,7 @@ returns-clause-gains g c =
     let count : c.buckets-count.result ≡ z.buckets = search rules in
     let all : c.loop-bucket.bucket ≡ z.buckets = omega (arith, c.loop-bucket-test.false, c.loop-bucket.auto.bucket-end, count) in
     subst (λ rows. ScansAll z.buckets v c.args.range.table c.args.range.low c.args.range.high rows (view_of c.loop-bucket.self)) (sym c.from.ensures)
-    (all_scanned z.buckets v (view_of c.loop-bucket.self) c.args.range.table c.args.range.low c.args.range.high c.loop-bucket.bucket c.loop-bucket.rows.items c.sort_unstable_by_key.new.self.items all c.loop-bucket.invariant.scanned
+    (all_scanned z.buckets v (view_of c.loop-bucket.self) c.args.range.table c.args.range.low c.args.range.high c.loop-bucket.bucket c.loop-bucket.rows.items
+    c.sort_unstable_by_key.new.self.items all c.loop-bucket.invariant.scanned
     c.sort_unstable_by_key.ensures.permutation
     (IsNonDecreasingBy-from_sort key_of c.sort_unstable_by_key.new.self.items (c.sort_unstable_by_key.ensures.sorted key_of (answers_always _ _ _ (λ f a r g h. search rules)))))

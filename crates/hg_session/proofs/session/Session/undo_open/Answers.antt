@@ -16,14 +16,21 @@ pub end-requires-clause-none : goal.end-requires-clause-none
 end-requires-clause-none g c =
     let v = session_view c.args.self.now.pass in
     let d = c.undo_each.ensures.undone in
-    λ rid. ap (open_in rid) (undone_log v (session_view c.undo_each.new.pass) c.args.self.now.written.list d) ∙ none_open c.args.self.now.written.list (session v).log rid c.requires.own.ties.written_is
+    λ rid. ap (open_in rid) (undone_log v (session_view c.undo_each.new.pass) c.args.self.now.written.list d) ∙
+    none_open c.args.self.now.written.list (session v).log rid c.requires.own.ties.written_is
 
 pub returns-clause-gains : goal.returns-clause-gains
 returns-clause-gains g c =
     let v = session_view c.args.self.now.pass in
     let d = c.undo_each.ensures.undone in
-    let r = rolled_back v (session_view c.undo_each.new.pass) (session_view c.end.new.pass) c.args.self.now.written.list d c.end.ensures.step in
-    (c.args.self.now.written.list, (all_undone c.args.self.now.written.list (session v).log c.requires.own.ties.plain c.requires.own.ties.written_is, gained v (session_view c.end.new.pass) _ (Over ∷ map Undid c.args.self.now.written.list) r.alone refl))
+    let r = rolled_back v (session_view c.undo_each.new.pass) (session_view c.end.new.pass) c.args.self.now.written.list d c.end.ensures.step in (
+      c.args.self.now.written.list,
+      (
+        all_undone c.args.self.now.written.list (session v).log c.requires.own.ties.plain c.requires.own.ties.written_is,
+        gained v
+            (session_view c.end.new.pass) _ (Over ∷ map Undid c.args.self.now.written.list) r.alone refl,
+      ),
+    )
 
 pub returns-clause-own : goal.returns-clause-own
 returns-clause-own g c =
@@ -34,4 +41,5 @@ returns-clause-own g c =
     let none : c.undo_each.new.records.list ≡ [] = c.undo_each.ensures.emptied in
     let part = logging Over Idle (with_log (map Undid c.args.self.now.written.list ++ (session v).log) (session v)) in
     let ties = ties_rolled (engine_sizes c.args.engine.now).quota c.args.self.now.left 0 0 _ _ c.args.self.now.written.list (session v) c.requires.own.ties in
-    settled c.args.engine.now 0 0 v _ part v.sights own r.alone (subst (λ l. Ties (engine_sizes c.args.engine.now).quota None l c.args.self.now.left 0 0 part) (sym none) ties) r.heard c.requires.own.closed
+    settled c.args.engine.now 0 0 v _ part v.sights own r.alone (subst (λ l. Ties (engine_sizes c.args.engine.now).quota None l c.args.self.now.left 0 0 part) (sym none) ties)
+    r.heard c.requires.own.closed

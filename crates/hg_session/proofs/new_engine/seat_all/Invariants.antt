@@ -1,6 +1,6 @@
 use Rattle.std.proofs.Common.{◌≡◌, ◌++◌, map}
 use Rattle.hg_session.specs.Opened.{seated}
-use Rattle.hg_session.proofs.opening.seat_all.Given as goal
+use Rattle.hg_session.proofs.new_engine.seat_all.Given as goal
 
 abbrev pub invariant-loop-pass : goal.invariant-loop-pass
 invariant-loop-pass l = record {
