@@ -19,7 +19,8 @@ decide_out_of_shape (r ∷ rs) [] k = decide_equal k 0
 decide_out_of_shape (r ∷ rs) (line ∷ lines) zero = decide_not (decide_line r line)
 decide_out_of_shape (r ∷ rs) (line ∷ lines) (suc k) = decide_both (decide_line r line) (decide_out_of_shape rs lines k)
 
-abbrev pub decide_without : (P : List Said → Said → Type 0) → ((earlier : List Said) (now : Said) → Decided (P earlier now)) → (earlier all : List Said) (k : ℕ) → Decided (FirstWithout P earlier all k)
+abbrev pub decide_without : (P : List Said → Said → Type 0) → ((earlier : List Said) (now : Said) → Decided (P earlier now)) → (earlier all : List Said) (k : ℕ) →
+    Decided (FirstWithout P earlier all k)
 decide_without P d earlier [] k = decide_never
 decide_without P d earlier (now ∷ later) zero = decide_not (d earlier now)
 decide_without P d earlier (now ∷ later) (suc k) = decide_both (d earlier now) (decide_without P d (now ∷ earlier) later k)
@@ -41,7 +42,9 @@ decide_fault mode script printed (in_reply k) =
     decide_all3 (decide_shape (in_order mode script.records) printed.lines) (decide_history all) (decide_without (IsRightReply mode all) (decide_answered mode all) [] all k)
 decide_fault mode script printed (in_fresh k) =
     let all = all_said mode script printed.lines in
-    decide_all4 (decide_shape (in_order mode script.records) printed.lines) (decide_history all) (decide_each_after (IsRightReply mode all) (decide_answered mode all) [] all) (decide_without (IsKnown mode all) (decide_known mode all) [] all k)
+    decide_all4 (decide_shape (in_order mode script.records) printed.lines) (decide_history all) (decide_each_after (IsRightReply mode all) (decide_answered mode all) [] all)
+    (decide_without (IsKnown mode all) (decide_known mode all) [] all k)
 decide_fault mode script printed in_totals =
     let all = all_said mode script printed.lines in
-    decide_all5 (decide_shape (in_order mode script.records) printed.lines) (decide_history all) (decide_each_after (IsRightReply mode all) (decide_answered mode all) [] all) (decide_each_after (IsKnown mode all) (decide_known mode all) [] all) (decide_not (decide_totals all (history_of all) printed.totals))
+    decide_all5 (decide_shape (in_order mode script.records) printed.lines) (decide_history all) (decide_each_after (IsRightReply mode all) (decide_answered mode all) [] all)
+    (decide_each_after (IsKnown mode all) (decide_known mode all) [] all) (decide_not (decide_totals all (history_of all) printed.totals))

@@ -21,7 +21,8 @@ use Rattle.hg_base.specs.Conflicts.{ShowsNewer, ShowsOpen, IsStillOpen, OnReplay
 use Rattle.hg_base.specs.Freshness.{IsReplayed, IsExact, IsHeld, IsReported, IsFresh, snapshot_of, newer_of, known, open_snapshots, mark_of}
 use Rattle.hg_base.specs.Counts.{AreTotals, first_writes, is_committed, removed_by, live}
 use Rattle.hg_base.specs.Sound.{IsRight, AreRight, LinesAreSound, IsSound, all_said}
-use Rattle.hg_decide.proofs.Decide.{Decided, decide_as, decide_true, decide_false, decide_equal, decide_below, decide_at_most, decide_always, decide_both, decide_all3, decide_all4, decide_all5, decide_match, decide_if_some, decide_each, decide_each_after, decide_ascends, decide_lists, decide_pairs, decide_some}
+use Rattle.hg_decide.proofs.Decide.{Decided, decide_as, decide_true, decide_false, decide_equal, decide_below, decide_at_most, decide_always, decide_both, decide_all3, decide_all4}
+use Rattle.hg_decide.proofs.Decide.{decide_all5, decide_match, decide_if_some, decide_each, decide_each_after, decide_ascends, decide_lists, decide_pairs, decide_some}
 use Rattle.hg_decide.proofs.DecidedCommits.{decide_report, decide_shape, decide_whole, decide_no_lost_update}
 use Rattle.hg_decide.proofs.DecidedReplies.{decide_reply}
 
@@ -72,7 +73,8 @@ decide_held all told = decide_as (λ p. record { printed = p.0; declared = p.1 }
 
 abbrev pub decide_reported : (h : History) (all : List Said) (earlier : List Said) (sweep : Sweep) → Decided (IsReported h all earlier sweep)
 decide_reported h all earlier sweep = decide_as (λ p. record { rising = p.0; horizon = p.1; mark = p.2; sessions = p.3; held = p.4 }) (λ p. (p.rising, p.horizon, p.mark, p.sessions, p.held))
-    (decide_all5 (decide_each (λ mark. mark ≤ sweep.mark) (λ mark. decide_at_most mark sweep.mark) (filter_map (mark_of sweep.kind) earlier)) (decide_at_most sweep.horizon sweep.mark) (decide_at_most sweep.mark (length h))
+    (decide_all5 (decide_each (λ mark. mark ≤ sweep.mark) (λ mark. decide_at_most mark sweep.mark) (filter_map (mark_of sweep.kind) earlier))
+    (decide_at_most sweep.horizon sweep.mark) (decide_at_most sweep.mark (length h))
     (decide_ascends (map (λ told. told.session) sweep.held)) (decide_each (IsHeld all) (decide_held all) sweep.held))
 
 abbrev pub decide_fresh : (mode : Mode) (h : History) (all : List Said) (earlier : List Said) (now : Said) → Decided (IsFresh mode h all earlier now)
@@ -83,8 +85,10 @@ decide_fresh mode h all earlier now = decide_as (λ p. record { rising = p.0; ex
 -- ---- the totals
 
 abbrev pub decide_totals : (all : List Said) (h : History) (totals : Totals) → Decided (AreTotals all h totals)
-decide_totals all h t = decide_as (λ p. record { made = p.0.0; undone = p.0.1; group = p.0.2; table = p.0.3; interval = p.1.0; left = p.1.1; balance = p.1.2 }) (λ p. ((p.made, p.undone, p.group, p.table), (p.interval, p.left, p.balance)))
-    (decide_both (decide_all4 (decide_equal t.made (length (first_writes all))) (decide_equal t.undone (length (filter (λ said. not (is_committed all said)) (first_writes all)))) (decide_equal t.group (sum_by (removed_by kinds.Group) all)) (decide_at_most (sum_by (removed_by kinds.Table) all) t.table))
+decide_totals all h t = decide_as (λ p. record { made = p.0.0; undone = p.0.1; group = p.0.2; table = p.0.3; interval = p.1.0; left = p.1.1; balance = p.1.2 })
+    (λ p. ((p.made, p.undone, p.group, p.table), (p.interval, p.left, p.balance)))
+    (decide_both (decide_all4 (decide_equal t.made (length (first_writes all))) (decide_equal t.undone (length (filter (λ said. not (is_committed all said)) (first_writes all))))
+    (decide_equal t.group (sum_by (removed_by kinds.Group) all)) (decide_at_most (sum_by (removed_by kinds.Table) all) t.table))
     (decide_all3 (decide_equal t.interval (sum_by (removed_by kinds.Interval) all)) (decide_equal t.left (length (live h))) (decide_equal t.made (t.undone + t.group + t.table + t.interval + t.left))))
 
 -- ---- all of it
@@ -100,7 +104,8 @@ decide_all_right mode all =
     (decide_all3 (decide_whole all) (decide_no_lost_update h) (decide_each_after (IsRight mode h all) (decide_right mode h all) [] all))
 
 abbrev pub decide_lines : (mode : Mode) (script : Script) (lines : List Line) → Decided (LinesAreSound mode script lines)
-decide_lines mode script lines = decide_as (λ p. record { shape = p.0; right = p.1 }) (λ p. (p.shape, p.right)) (decide_both (decide_shape (in_order mode script.records) lines) (decide_all_right mode (all_said mode script lines)))
+decide_lines mode script lines = decide_as (λ p. record { shape = p.0; right = p.1 }) (λ p. (p.shape, p.right))
+    (decide_both (decide_shape (in_order mode script.records) lines) (decide_all_right mode (all_said mode script lines)))
 
 abbrev pub decide_sound : (mode : Mode) (script : Script) (printed : Printed) → Decided (IsSound mode script printed)
 decide_sound mode script printed = decide_as (λ p. record { lines = p.0; totals = p.1 }) (λ p. (p.lines, p.totals))

@@ -13,7 +13,8 @@ use Rattle.hg_base.specs.History.{Commit, Group, History, EachGroup, NoneTwice, 
 use Rattle.hg_base.specs.Transcript.{Said, commits, history_of}
 use Rattle.hg_base.specs.Shape.{same_kind, IsReportOf, IsLineOf, HasShape}
 use Rattle.hg_base.specs.Sound.{IsWhole}
-use Rattle.hg_decide.proofs.Decide.{Decided, decide_as, decide_true, decide_false, decide_equal, decide_below, decide_at_most, decide_always, decide_never, decide_both, decide_all3, decide_all4, decide_either, decide_match, decide_each}
+use Rattle.hg_decide.proofs.Decide.{Decided, decide_as, decide_true, decide_false, decide_equal, decide_below, decide_at_most, decide_always, decide_never, decide_both, decide_all3}
+use Rattle.hg_decide.proofs.Decide.{decide_all4, decide_either, decide_match, decide_each}
 
 -- ---- the shape
 
@@ -57,4 +58,5 @@ decide_whole all = decide_as (λ p. record { numbers = p.0; history = p.1 }) (λ
     (decide_both (decide_each (λ p. 1 ≤ p.0) (λ p. decide_at_most 1 p.0) (commits all)) (decide_each_group IsGroup decide_group 1 (history_of all)))
 
 abbrev pub decide_no_lost_update : (h : History) → Decided (NoLostUpdate h)
-decide_no_lost_update h = decide_each_group _ (λ n group. decide_each _ (λ c. decide_each _ (λ w. decide_each _ (λ other. decide_either (decide_at_most other.0 c.at) (decide_at_most n other.0)) (writes h w.rid)) c.images) group) 1 h
+decide_no_lost_update h = decide_each_group _ (λ n group. decide_each _
+    (λ c. decide_each _ (λ w. decide_each _ (λ other. decide_either (decide_at_most other.0 c.at) (decide_at_most n other.0)) (writes h w.rid)) c.images) group) 1 h

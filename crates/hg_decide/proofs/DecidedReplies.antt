@@ -18,9 +18,11 @@ use Rattle.hg_base.specs.Lists.{Each}
 use Rattle.hg_base.specs.Script.{Mode, replay, run}
 use Rattle.hg_base.specs.History.{Write, Group, History, image_in, group_image, rids_of, group_rids, writes_from, last_image, visible, seen, nothing}
 use Rattle.hg_base.specs.Transcript.{Said, Rest, has, passed, rest_in, stored, own_writes}
-use Rattle.hg_base.specs.Replies.{IsBegun, IsGot, IsPut, IsDeleted, AreRows, IsScanned, AreFirst, IsFetched, IsEnded, IsCommitted, IsUndone, IsSwept, IsBeside, IsCollected, IsUndeclared, WithinScope, IsAnswer, IsReply, is_written}
+use Rattle.hg_base.specs.Replies.{IsBegun, IsGot, IsPut, IsDeleted, AreRows, IsScanned, AreFirst, IsFetched, IsEnded, IsCommitted, IsUndone, IsSwept, IsBeside, IsCollected, IsUndeclared}
+use Rattle.hg_base.specs.Replies.{WithinScope, IsAnswer, IsReply, is_written}
 use Rattle.hg_base.proofs.ListFacts.{cases}
-use Rattle.hg_decide.proofs.Decide.{Decided, decide_as, decide_true, decide_false, decide_bools, decide_equal, decide_at_most, decide_always, decide_never, decide_all3, decide_all4, decide_either, decide_implies, decide_match, decide_each, decide_ascends, decide_rows, decide_some, false_is_not_true}
+use Rattle.hg_decide.proofs.Decide.{Decided, decide_as, decide_true, decide_false, decide_bools, decide_equal, decide_at_most, decide_always, decide_never, decide_all3, decide_all4}
+use Rattle.hg_decide.proofs.Decide.{decide_either, decide_implies, decide_match, decide_each, decide_ascends, decide_rows, decide_some, false_is_not_true}
 
 abbrev pub decide_begun : (answer : Answer) → Decided (IsBegun answer)
 decide_begun (Begun s) = decide_always
@@ -126,7 +128,8 @@ none_seen h own at r e =
 
 pub each_has : (P : ℕ → Type 0) (rids : List Rid) (key : ℕ) → Each (λ r. P r.key) rids → list_any (λ r. r.key == key) rids ≡ true → P key
 each_has P [] key h e = absurd (elim (false_is_not_true e) [ ])
-each_has P (r ∷ rids) key h e = cases (r.key == key) (λ same. subst P ((Decides-eqb r.key key).0 same) h.0) (λ other. each_has P rids key h.1 (ap (λ b. b || list_any (λ q. q.key == key) rids) (sym other) ∙ e))
+each_has P (r ∷ rids) key h e = cases (r.key == key) (λ same. subst P ((Decides-eqb r.key key).0 same) h.0)
+    (λ other. each_has P rids key h.1 (ap (λ b. b || list_any (λ q. q.key == key) rids) (sym other) ∙ e))
 
 module _ (look : ℕ → Image) (low : ℕ) (high : ℕ) (rows : List (ℕ × List Value)) where
   -- a key of the range is among the rows, or not seen as one
@@ -149,17 +152,21 @@ module _ (look : ℕ → Image) (low : ℕ) (high : ℕ) (rows : List (ℕ × Li
       (decide_all3 (decide_ascends (map (λ p. p.0) rows)) (decide_each _ (λ p. decide_all3 (decide_at_most low p.0) (decide_at_most p.0 high) (decide_rows (look p.0).row (Some p.1))) rows)
       (decide_each (λ (r : Rid). IsTold r.key) (λ r. decide_told r.key) rids))
 
-abbrev pub decide_scanned : (look : ℕ → Image) (low : ℕ) (high : ℕ) (answer : Answer) (rids : List Rid) → ((key : ℕ) → NoneHas key rids → (look key).row ≡ None) → Decided (IsScanned look low high answer)
+abbrev pub decide_scanned : (look : ℕ → Image) (low : ℕ) (high : ℕ) (answer : Answer) (rids : List Rid) → ((key : ℕ) → NoneHas key rids → (look key).row ≡ None) →
+    Decided (IsScanned look low high answer)
 decide_scanned look low high (Rows rows) rids outside = decide_are_rows look low high rows rids outside
 decide_scanned look low high _ rids outside = decide_never
 
-abbrev pub decide_first : (look : ℕ → Image) (n : ℕ) (low : ℕ) (high : ℕ) (rows : List (ℕ × List Value)) (rids : List Rid) → ((key : ℕ) → NoneHas key rids → (look key).row ≡ None) → Decided (AreFirst look n low high rows)
+abbrev pub decide_first : (look : ℕ → Image) (n : ℕ) (low : ℕ) (high : ℕ) (rows : List (ℕ × List Value)) (rids : List Rid) → ((key : ℕ) → NoneHas key rids → (look key).row ≡ None)
+    → Decided (AreFirst look n low high rows)
 decide_first look n low high rows rids outside = decide_as (λ p. record { few = p.0; within = p.1; all = p.2 }) (λ p. (p.few, p.within, p.all))
     (decide_all3 (decide_at_most (length rows) n) (decide_at_most (passed n high rows) high) (decide_are_rows look low (passed n high rows) rows rids outside))
 
-abbrev pub decide_fetched : (look : Rid → Image) (n : ℕ) (rest : Option Rest) (answer : Answer) (rids : List Rid) → ((r : Rid) → NoneHas r.key rids → (look r).row ≡ None) → Decided (IsFetched look n rest answer)
+abbrev pub decide_fetched : (look : Rid → Image) (n : ℕ) (rest : Option Rest) (answer : Answer) (rids : List Rid) → ((r : Rid) → NoneHas r.key rids → (look r).row ≡ None) →
+    Decided (IsFetched look n rest answer)
 decide_fetched look n None answer rids outside = decide_never
-decide_fetched look n (Some rest) (Rows rows) rids outside = decide_first (λ key. look (record { table = rest.table; key = key })) n rest.low rest.high rows rids (λ key none. outside (record { table = rest.table; key = key }) none)
+decide_fetched look n (Some rest) (Rows rows) rids outside = decide_first (λ key. look (record { table = rest.table; key = key })) n rest.low rest.high rows rids
+    (λ key none. outside (record { table = rest.table; key = key }) none)
 decide_fetched look n (Some rest) _ rids outside = decide_never
 
 -- ---- the reply
@@ -171,7 +178,8 @@ module _ (mode : Mode) (look : Rid → Image) (wrote : Bool) (rest : Option Rest
   decide_answer (Get r) = decide_scope now.scope r.table now.reply.answer (decide_got (look r) now.reply.answer)
   decide_answer (Put r row) = decide_scope now.scope r.table now.reply.answer (decide_put now.reply.answer)
   decide_answer (Del r) = decide_scope now.scope r.table now.reply.answer (decide_deleted (look r) now.reply.answer)
-  decide_answer (Scan table low high) = decide_scope now.scope table now.reply.answer (decide_scanned (λ key. look (record { table = table; key = key })) low high now.reply.answer rids (λ key none. outside (record { table = table; key = key }) none))
+  decide_answer (Scan table low high) = decide_scope now.scope table now.reply.answer
+      (decide_scanned (λ key. look (record { table = table; key = key })) low high now.reply.answer rids (λ key none. outside (record { table = table; key = key }) none))
   decide_answer (CursorOpen table low high) = decide_begun now.reply.answer
   decide_answer (Fetch n) = decide_fetched look n rest now.reply.answer rids outside
   decide_answer CursorClose = decide_ended now.reply.answer
@@ -182,4 +190,5 @@ module _ (mode : Mode) (look : Rid → Image) (wrote : Bool) (rest : Option Rest
 abbrev pub decide_reply : (mode : Mode) (h : History) (earlier : List Said) (now : Said) → Decided (IsReply mode h earlier now)
 decide_reply mode h earlier now = decide_as (λ p. record { at = p.0; number = p.1; snapshot = p.2; answer = p.3 }) (λ p. (p.at, p.number, p.snapshot, p.answer))
     (decide_all4 (decide_bools (is_some now.reply.at) now.alone) (decide_bools (is_some now.reply.number) (now.alone && is_some (stored now))) (decide_at_most now.at (length h))
-    (let own = own_writes earlier now in decide_answer mode (seen h own now.at) (is_written own) (rest_in now.session now.transaction earlier) now (rids_to_see h own) (none_seen h own now.at) now.statement))
+    (let own = own_writes earlier now in decide_answer mode (seen h own now.at) (is_written own) (rest_in now.session now.transaction earlier) now (rids_to_see h own)
+    (none_seen h own now.at) now.statement))

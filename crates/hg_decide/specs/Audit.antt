@@ -61,4 +61,5 @@ HasFault mode script printed (in_fresh k) =
     HasShape (in_order mode script.records) printed.lines × GiveHistory all × EachAfter (IsRightReply mode all) [] all × FirstWithout (IsKnown mode all) [] all k
 HasFault mode script printed in_totals =
     let all = all_said mode script printed.lines in
-    HasShape (in_order mode script.records) printed.lines × GiveHistory all × EachAfter (IsRightReply mode all) [] all × EachAfter (IsKnown mode all) [] all × ¬ AreTotals all (history_of all) printed.totals
+    HasShape (in_order mode script.records) printed.lines × GiveHistory all × EachAfter (IsRightReply mode all) [] all × EachAfter (IsKnown mode all) [] all ×
+    ¬ AreTotals all (history_of all) printed.totals

@@ -9,8 +9,8 @@ ghost use Rattle.hg_decide.specs.Examples.{empty, own_write, absent_key, two_put
 ghost use Rattle.hg_decide.specs.Broken.{another_number, another_row, another_snapshot, none_left, without_a_line, row_skipped, row_twice, row_too_new, too_many_rows, too_few_rows};
 ghost use Rattle.hg_decide.specs.Audit.{HasFault, in_commits, in_reply, in_shape, in_totals};
 
-/// What is printed for each example is sound.
-pub fn worked_examples_are_sound()
+/// What is printed for each example without a collector's pass is sound.
+pub fn examples_without_collectors_are_sound()
     ensures empty { IsSound replay empty.script empty.printed }
     ensures own_write { IsSound replay own_write.script own_write.printed }
     ensures absent_key { IsSound replay absent_key.script absent_key.printed }
@@ -19,6 +19,10 @@ pub fn worked_examples_are_sound()
     ensures scan_ends { IsSound replay scan_ends.script scan_ends.printed }
     ensures undeclared { IsSound replay undeclared.script undeclared.printed }
     ensures open_write { IsSound replay open_write.script open_write.printed }
+{}
+
+/// What is printed for each example in which a collector makes a pass is sound.
+pub fn examples_with_collectors_are_sound()
     ensures middle_of_a_chain { IsSound replay middle_of_a_chain.script middle_of_a_chain.printed }
     ensures group_pass { IsSound replay group_pass.script group_pass.printed }
     ensures equal_to_a_successor { IsSound replay equal_to_a_successor.script
@@ -31,8 +35,9 @@ pub fn worked_examples_are_sound()
     ensures cursor { IsSound replay cursor.script cursor.printed }
 {}
 
-/// What is printed for each example has these bytes. Fields are joined by commas, and a record ends with a line feed.
-pub fn worked_examples_print_their_text()
+/// What is printed for each example without a collector's pass has these bytes. Fields are joined by commas, and a record ends with a
+/// line feed.
+pub fn examples_without_collectors_print_their_text()
     ensures empty { text_of plain_row empty.script empty.printed
         ≡ codes "total,made,0\ntotal,undone,0\ntotal,group,0\ntotal,table,0\n"
         ++ codes "total,interval,0\ntotal,left,0\n" }
@@ -66,6 +71,10 @@ pub fn worked_examples_print_their_text()
         ++ codes "2,7,stored\n2,8,committed,1\n"
         ++ codes "total,made,2\ntotal,undone,1\ntotal,group,0\ntotal,table,0\n"
         ++ codes "total,interval,0\ntotal,left,1\n" }
+{}
+
+/// What is printed for each example in which a collector makes a pass has these bytes.
+pub fn examples_with_collectors_print_their_text()
     ensures middle_of_a_chain { text_of plain_row middle_of_a_chain.script middle_of_a_chain.printed
         ≡ codes "2,2,at,0,stored,committed,1\n1,3,begun,1\n2,4,at,1,stored,committed,2\n"
         ++ codes "2,5,at,2,stored,committed,3\n2,6,at,3,stored,committed,4\n"
@@ -78,7 +87,8 @@ pub fn worked_examples_print_their_text()
         ++ codes "3,7,swept,group,4,4,0\n3,7,held,1,1,unmoved\n1,8,row,10\n1,9,ended\n"
         ++ codes "total,made,4\ntotal,undone,0\ntotal,group,0\ntotal,table,3\n"
         ++ codes "total,interval,0\ntotal,left,1\n" }
-    ensures equal_to_a_successor { text_of plain_row equal_to_a_successor.script equal_to_a_successor.printed
+    ensures equal_to_a_successor { text_of plain_row equal_to_a_successor.script
+        equal_to_a_successor.printed
         ≡ codes "1,2,at,0,stored,committed,1\n1,3,at,1,stored,committed,2\n2,4,begun,2\n"
         ++ codes "1,5,at,2,stored,committed,3\n3,6,swept,interval,3,3,1\n"
         ++ codes "3,6,held,2,2,unmoved\n2,7,row,20\n"
@@ -105,7 +115,8 @@ pub fn worked_examples_print_their_text()
         ++ codes "3,9,held,1,1,unmoved\n1,10,refused,newer,2\n"
         ++ codes "total,made,2\ntotal,undone,0\ntotal,group,0\ntotal,table,2\n"
         ++ codes "total,interval,0\ntotal,left,0\n" }
-    ensures kept_deletion_longer { text_of plain_row kept_deletion_longer.script kept_deletion_longer.printed
+    ensures kept_deletion_longer { text_of plain_row kept_deletion_longer.script
+        kept_deletion_longer.printed
         ≡ codes "2,2,at,0,stored,committed,1\n1,3,begun,1\n2,4,begun,1\n2,5,gone\n"
         ++ codes "2,6,committed,2\n3,7,swept,group,2,2,0\n3,7,held,1,1,unmoved\n"
         ++ codes "3,8,swept,table,2,2,0\n3,8,held,1,1,unmoved\n3,9,swept,interval,2,2,0\n"
@@ -124,8 +135,8 @@ pub fn worked_examples_print_their_text()
         ++ codes "total,interval,1\ntotal,left,2\n" }
 {}
 
-/// A text that is broken in one place is not sound, and its first fault (`.._at`) is in the part that was broken.
-pub fn broken_texts_are_not_sound()
+/// A transaction's text that is broken in one place is not sound, and its first fault (`.._at`) is in the part that was broken.
+pub fn broken_transactions_are_not_sound()
     ensures another_row { IsSound replay own_write.script another_row → ⊥ }
     ensures another_row_at { HasFault replay own_write.script another_row (in_reply 2) }
     ensures another_number { IsSound replay own_write.script another_number → ⊥ }
@@ -136,6 +147,10 @@ pub fn broken_texts_are_not_sound()
     ensures none_left_at { HasFault replay own_write.script none_left in_totals }
     ensures without_a_line { IsSound replay own_write.script without_a_line → ⊥ }
     ensures without_a_line_at { HasFault replay own_write.script without_a_line (in_shape 2) }
+{}
+
+/// A cursor's text in which one fetch is broken is not sound, and its first fault (`.._at`) is the reply to that fetch.
+pub fn broken_cursors_are_not_sound()
     ensures row_skipped { IsSound replay cursor.script row_skipped → ⊥ }
     ensures row_skipped_at { HasFault replay cursor.script row_skipped (in_reply 9) }
     ensures row_twice_at { HasFault replay cursor.script row_twice (in_reply 9) }

@@ -11,14 +11,16 @@
 //! text fails.
 //!
 //! The functions are laws: their bodies are empty, and their contracts state what the definitions make of the worked examples of
-//! `specs/Examples.antt`: which texts they accept, byte for byte, and which they refuse. One more law states the limits of `hg_base` as
-//! numbers.
+//! `specs/Examples.antt`: which texts they accept, byte for byte, and which they refuse. Two more laws state the limits of `hg_base`
+//! as numbers.
 #![tactic(auto)]
 
 mod examples;
 mod limits;
 
 pub use examples::{
-    broken_texts_are_not_sound, worked_examples_are_sound, worked_examples_print_their_text,
+    broken_cursors_are_not_sound, broken_transactions_are_not_sound,
+    examples_with_collectors_are_sound, examples_with_collectors_print_their_text,
+    examples_without_collectors_are_sound, examples_without_collectors_print_their_text,
 };
-pub use limits::limits_are_these_numbers;
+pub use limits::{limits_of_options_are_these_numbers, limits_of_scripts_are_these_numbers};

@@ -8,8 +8,9 @@ use hg_base::{
     MOST_TABLES, MOST_TEXT_BYTES,
 };
 
-/// Clauses elsewhere name a limit, and would follow a change of it. This one says which number it is.
-pub fn limits_are_these_numbers()
+/// Clauses elsewhere name a limit, and would follow a change of it. This one says which numbers are those of a script, and of what a
+/// server numbers.
+pub fn limits_of_scripts_are_these_numbers()
     ensures sessions { MOST_SESSIONS ≡ 64 }
     ensures tables { MOST_TABLES ≡ 64 }
     ensures columns { MOST_COLUMNS ≡ 8 }
@@ -17,10 +18,14 @@ pub fn limits_are_these_numbers()
     ensures text_bytes { MOST_TEXT_BYTES ≡ 64 }
     ensures script_bytes { MOST_SCRIPT_BYTES ≡ 16777216 }
     ensures records { MOST_RECORDS ≡ 1048576 }
+    ensures numbers { MOST_NUMBER ≡ 2 ^ 40 }
+{}
+
+/// The numbers of the options: the most that each may be, and what it is if it is not given.
+pub fn limits_of_options_are_these_numbers()
     ensures buckets { MOST_BUCKETS ≡ 1024 }
     ensures long { MOST_LONG ≡ 1048576 }
     ensures rounds { MOST_ROUNDS ≡ 1000 }
-    ensures numbers { MOST_NUMBER ≡ 2 ^ 40 }
     ensures default_buckets { DEFAULT_BUCKETS ≡ 64 }
     ensures default_long { DEFAULT_LONG ≡ 4 }
     ensures default_rounds { DEFAULT_ROUNDS ≡ 8 }
