@@ -41,7 +41,8 @@ after_first shown low high p rows a = record {
   every = λ key l h. go key l (let m = a.each.0.0 in a.every key (omega (arith, l, m)) h);
 }
   where
-    over : (xs : Rows) → Each (λ q. p.0 < q.0) xs → Each (λ q. (low ≤ q.0) × (q.0 ≤ high) × ((shown q.0).row ≡ Some q.1)) xs → Each (λ q. (suc p.0 ≤ q.0) × (q.0 ≤ high) × ((shown q.0).row ≡ Some q.1)) xs
+    over : (xs : Rows) → Each (λ q. p.0 < q.0) xs → Each (λ q. (low ≤ q.0) × (q.0 ≤ high) × ((shown q.0).row ≡ Some q.1)) xs →
+        Each (λ q. (suc p.0 ≤ q.0) × (q.0 ≤ high) × ((shown q.0).row ≡ Some q.1)) xs
     over [] l e = tt
     over (x ∷ xs) l e = ((l.0, e.0.1, e.0.2), over xs l.1 e.1)
 

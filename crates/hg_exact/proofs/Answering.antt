@@ -32,7 +32,8 @@ IsPlain _ = ⊤
 
 -- ---- the answer is that of the table
 
-within_scope : (scope : Scope) (table : TableId) (a : Answer) (P : Answer → Type 0) → P a → let answer : Answer = (if has scope table then a else Undeclared table) in WithinScope scope table answer (P answer)
+within_scope : (scope : Scope) (table : TableId) (a : Answer) (P : Answer → Type 0) → P a → let answer : Answer = (if has scope table then a else Undeclared table) in
+    WithinScope scope table answer (P answer)
 within_scope scope table a P p = go (has scope table)
   where
     go : (b : Bool) → let answer : Answer = (if b then a else Undeclared table) in MatchBool b (P answer) (IsUndeclared table answer)
@@ -62,7 +63,8 @@ deleted s o r image = go (is_some image.row) refl
 
 fetch : (s : State) (o : Open) (n : ℕ) (x : Option Rest) → 1 ≤ n → IsSome x → IsFetched (sees s o) n x (fetched s o n x)
 fetch s o n None k some = absurd (let bad : false ≡ true = some in cc)
-fetch s o n (Some rest) k some = first_rows (λ key. sees s o (record { table = rest.table; key = key })) n rest.low rest.high (rows_seen s o rest.table rest.low rest.high) k (rows_are s o rest.table rest.low rest.high)
+fetch s o n (Some rest) k some = first_rows (λ key. sees s o (record { table = rest.table; key = key })) n rest.low rest.high (rows_seen s o rest.table rest.low rest.high) k
+    (rows_are s o rest.table rest.low rest.high)
 
 committed_by_it : (m : ℕ) (b : Bool) → IsCommitted b (if b then Committed m else Ended)
 committed_by_it m true = refl
@@ -72,12 +74,14 @@ committed_by_it m false = refl
 abbrev pub told : Said → Statement → Scope → Answer → Said
 told base st scope answer = record base { scope = scope; statement = st; reply = record { at = base.reply.at; answer = answer; number = base.reply.number } }
 
-pub answered : (s : State) (o : Open) (st : Statement) (base : Said) → IsPlain st → MayAsk (Some o) st → IsAnswer replay (sees s o) (is_written o.wrote) o.rest (told base st o.scope (answer_in s o st)) st
+pub answered : (s : State) (o : Open) (st : Statement) (base : Said) → IsPlain st → MayAsk (Some o) st →
+    IsAnswer replay (sees s o) (is_written o.wrote) o.rest (told base st o.scope (answer_in s o st)) st
 answered s o (Begin scope) base plain may = absurd plain
 answered s o (CursorOpen table low high) base plain may = absurd plain
 answered s o (Gc kind) base plain may = absurd plain
 answered s o (Get r) base plain may = within_scope o.scope r.table (found (sees s o r).row) (IsGot (sees s o r)) (got (sees s o r))
-answered s o (Scan table low high) base plain may = within_scope o.scope table (Rows (rows_seen s o table low high)) (IsScanned (λ key. sees s o (record { table = table; key = key })) low high) (rows_are s o table low high)
+answered s o (Scan table low high) base plain may = within_scope o.scope table (Rows (rows_seen s o table low high))
+    (IsScanned (λ key. sees s o (record { table = table; key = key })) low high) (rows_are s o table low high)
 answered s o (Fetch n) base plain may = fetch s o n o.rest may.0 may.1
 answered s o CursorClose base plain may = tt
 answered s o (Put r row) base plain may = within_scope o.scope r.table (written s o r Stored) IsPut (put s o r)
@@ -143,7 +147,8 @@ answer_prints s o Rollback plain = tt
 -- what holds of a write's outcomes, and of an answer that is no write, holds of the answer to a put or a del
 pub target_by : (P : Answer → Type 0) (s : State) (o : Open) (r : Rid) (st : Statement) → target st ≡ Some r → P (Undeclared r.table) → P Nothing
     → ((a : Answer) → (a ≡ Stored) ⊎ (a ≡ Gone) → IsSome (image_in r o.wrote) ⊎ ((writers s r ≡ []) × (newest s.history r ≤ o.at)) → P a)
-    → ((w : Writer) (ws : List Writer) → image_in r o.wrote ≡ None → writers s r ≡ w ∷ ws → P (OpenBy w)) → (image_in r o.wrote ≡ None → writers s r ≡ [] → o.at < newest s.history r → P (Newer (newest s.history r))) → P (answer_in s o st)
+    → ((w : Writer) (ws : List Writer) → image_in r o.wrote ≡ None → writers s r ≡ w ∷ ws → P (OpenBy w)) →
+    (image_in r o.wrote ≡ None → writers s r ≡ [] → o.at < newest s.history r → P (Newer (newest s.history r))) → P (answer_in s o st)
 target_by P s o r (Put q row) e out none stored held newer =
     let same : q ≡ r = some_same q r e in
     subst (λ (x : Rid). P (answer_in s o (Put x row))) (sym same)

@@ -28,14 +28,16 @@ commit_printed P now e h = go now.alone now.reply.number (committed_by now.state
     go false None c x f k = k
     go false (Some m) c x f k = absurd (let bad : true ≡ false = f in cc)
 
-most_after : (earlier : List Said) (now : Said) (top next : ℕ) → greatest_commit earlier ≤ top → top ≤ next → IfSome (committed now) (λ c. (top < c) × (c ≤ next)) → greatest_commit (now ∷ earlier) ≤ next
+most_after : (earlier : List Said) (now : Said) (top next : ℕ) → greatest_commit earlier ≤ top → top ≤ next → IfSome (committed now) (λ c. (top < c) × (c ≤ next)) →
+    greatest_commit (now ∷ earlier) ≤ next
 most_after earlier now top next a b h = go (committed now) h
   where
     go : (o : Option ℕ) → IfSome o (λ c. (top < c) × (c ≤ next)) → greatest (cons_option o (filter_map committed earlier)) ≤ next
     go None k = omega (arith, a, b)
     go (Some c) k = let l : c ≤ next = k.1 in omega (arith, a, b, l)
 
-lines_ascend : (h : History) (final : List Said) (earlier : List Said) (rs : List Record) (lines : List Line) (top last : ℕ) → Rises top rs lines last → greatest_commit earlier ≤ top → EachAfter (IsRight replay h final) earlier (said_from earlier rs lines) → EachAfter CommitAscends earlier (said_from earlier rs lines)
+lines_ascend : (h : History) (final : List Said) (earlier : List Said) (rs : List Record) (lines : List Line) (top last : ℕ) → Rises top rs lines last →
+    greatest_commit earlier ≤ top → EachAfter (IsRight replay h final) earlier (said_from earlier rs lines) → EachAfter CommitAscends earlier (said_from earlier rs lines)
 lines_ascend h final earlier [] lines top last rises a right = tt
 lines_ascend h final earlier (r ∷ rs) [] top last rises a right = tt
 lines_ascend h final earlier (r ∷ rs) (line ∷ lines) top last rises a right =
@@ -43,7 +45,8 @@ lines_ascend h final earlier (r ∷ rs) (line ∷ lines) top last rises a right 
     let next : ℕ = rises.0 in
     let timely : IsTimely top next r.statement line.reply = rises.1 in
     let says = said_says (last_of r.session earlier) r line.reply r.statement in
-    let prints = subst (λ (p : Statement × Reply). IfSome (commit_in p.0 p.1) (λ c. (top < c) × (c ≤ next))) (λ i. (sym says.1 i, sym says.2 i)) (both (commit_in r.statement line.reply) timely.commit) in
+    let prints = subst (λ (p : Statement × Reply). IfSome (commit_in p.0 p.1) (λ c. (top < c) × (c ≤ next))) (λ i. (sym says.1 i, sym says.2 i))
+    (both (commit_in r.statement line.reply) timely.commit) in
     let commits : IfSome (committed now) (λ c. (top < c) × (c ≤ next)) = commit_printed (λ c. (top < c) × (c ≤ next)) now right.0.reply.number prints in
     (over now commits, lines_ascend h final (now ∷ earlier) rs lines next last rises.2 (most_after earlier now top next a timely.grows commits) right.1)
   where

@@ -79,7 +79,8 @@ none_after within reads (Del r) plain h = h
 none_after within reads (Scan table low high) plain h = h
 none_after within reads (Fetch n) plain h = h
 
-some_after : (within reads : Bool) (o p : Open) (st : Statement) (a : Answer) → IsPlain st → p.rest ≡ rest_after st a o.rest → IsHeld within reads (Some o) → MayStand within reads st → IsHeld (opened within st) (reading reads st) (if is_end st then None else Some p)
+some_after : (within reads : Bool) (o p : Open) (st : Statement) (a : Answer) → IsPlain st → p.rest ≡ rest_after st a o.rest → IsHeld within reads (Some o) →
+    MayStand within reads st → IsHeld (opened within st) (reading reads st) (if is_end st then None else Some p)
 some_after within reads o p (Begin scope) a plain e h m = absurd plain
 some_after within reads o p (CursorOpen table low high) a plain e h m = absurd plain
 some_after within reads o p (Gc kind) a plain e h m = absurd plain
@@ -100,13 +101,15 @@ some_after within reads o p (Del r) a plain e (inr h) m = inr (h.0, h.1, subst I
 some_after within reads o p (Scan table low high) a plain e (inl h) m = inl h
 some_after within reads o p (Scan table low high) a plain e (inr h) m = inr (h.0, h.1, subst IsSome (sym e) h.2)
 
-stands_held : (within reads : Bool) (s : State) (j : ℕ) (st : Statement) (x : Option Open) → s.opened j ≡ x → IsPlain st → IsHeld within reads x → MayStand within reads st → IsHeld (opened within st) (reading reads st) ((stands s j x st).1.opened j)
+stands_held : (within reads : Bool) (s : State) (j : ℕ) (st : Statement) (x : Option Open) → s.opened j ≡ x → IsPlain st → IsHeld within reads x → MayStand within reads st →
+    IsHeld (opened within st) (reading reads st) ((stands s j x st).1.opened j)
 stands_held within reads s j st None e plain h m = subst (IsHeld (opened within st) (reading reads st)) (sym e) (none_after within reads st plain h)
 stands_held within reads s j st (Some o) e plain h m =
     let p : Open = going o st (answer_in s o st) in
     subst (IsHeld (opened within st) (reading reads st)) (sym (put_here s.opened j (if is_end st then None else Some p))) (some_after within reads o p st (answer_in s o st) plain refl h m)
 
-step_held : (within reads : Bool) (s : State) (j : ℕ) (st : Statement) → IsHeld within reads (s.opened j) → MayStand within reads st → IsHeld (opened within st) (reading reads st) ((step s j st).1.opened j)
+step_held : (within reads : Bool) (s : State) (j : ℕ) (st : Statement) → IsHeld within reads (s.opened j) → MayStand within reads st →
+    IsHeld (opened within st) (reading reads st) ((step s j st).1.opened j)
 step_held within reads s j (Begin scope) h m = subst (IsHeld true reads) (sym (put_here s.opened j (Some (next s j scope None)))) (inl (refl, (or_parts within reads m).1))
 step_held within reads s j (CursorOpen table low high) h m =
     let o : Open = next s j (only (Some table)) (Some (record { table = table; low = low; high = high })) in
@@ -143,18 +146,27 @@ reads_snoc j rs r = folds false rs
 abbrev Holds : List Record → State → ℕ → Type 0
 Holds before s j = IsHeld (is_open j before) (is_reading j before) (s.opened j)
 
-held_more : (before : List Record) (s : State) (r : Record) → ((j : ℕ) → Holds before s j) → MayStand (is_open r.session before) (is_reading r.session before) r.statement → (j : ℕ) → Holds (before ++ r ∷ []) (step s r.session r.statement).1 j
+held_more : (before : List Record) (s : State) (r : Record) → ((j : ℕ) → Holds before s j) → MayStand (is_open r.session before) (is_reading r.session before) r.statement →
+    (j : ℕ) → Holds (before ++ r ∷ []) (step s r.session r.statement).1 j
 held_more before s r h m = at_index r.session (λ j. IsHeld (is_open j (before ++ r ∷ [])) (is_reading j (before ++ r ∷ [])) ((step s r.session r.statement).1.opened j))
-    (subst (λ (p : Bool × Bool). IsHeld p.0 p.1 ((step s r.session r.statement).1.opened r.session)) (λ i. (sym own.0 i, sym own.1 i)) (step_held (is_open r.session before) (is_reading r.session before) s r.session r.statement (h r.session) m))
+    (subst (λ (p : Bool × Bool). IsHeld p.0 p.1 ((step s r.session r.statement).1.opened r.session)) (λ i. (sym own.0 i, sym own.1 i))
+    (step_held (is_open r.session before) (is_reading r.session before) s r.session r.statement (h r.session) m))
     (λ j f. subst (λ (p : Bool × Bool × Option Open). IsHeld p.0 p.1 p.2) (λ i. (sym (other j f).0 i, sym (other j f).1 i, sym (step_other s r.session j r.statement f) i)) (h j))
   where
     own : (is_open r.session (before ++ r ∷ []) ≡ opened (is_open r.session before) r.statement) × (is_reading r.session (before ++ r ∷ []) ≡ reading (is_reading r.session before) r.statement)
-    own = (open_snoc r.session before r ∙ ap (λ b. cond b (opened (is_open r.session before) r.statement) (is_open r.session before)) (same_number r.session), reads_snoc r.session before r ∙ ap (λ b. cond b (reading (is_reading r.session before) r.statement) (is_reading r.session before)) (same_number r.session))
+    own = (
+      open_snoc r.session before r ∙ ap (λ b. cond b (opened (is_open r.session before) r.statement) (is_open r.session before))
+          (same_number r.session),
+      reads_snoc r.session before r ∙ ap (λ b. cond b (reading (is_reading r.session before) r.statement) (is_reading r.session before)) (same_number r.session),
+    )
 
     other : (j : ℕ) → (j ≡ r.session → ⊥) → (is_open j (before ++ r ∷ []) ≡ is_open j before) × (is_reading j (before ++ r ∷ []) ≡ is_reading j before)
     other j f =
-        let t : (r.session == j) ≡ false = differs r.session j (λ g. f (sym g)) in
-        (open_snoc j before r ∙ ap (λ b. cond b (opened (is_open j before) r.statement) (is_open j before)) t, reads_snoc j before r ∙ ap (λ b. cond b (reading (is_reading j before) r.statement) (is_reading j before)) t)
+        let t : (r.session == j) ≡ false = differs r.session j (λ g. f (sym g)) in (
+          open_snoc j before r ∙ ap (λ b. cond b (opened (is_open j before) r.statement) (is_open j before)) t,
+          reads_snoc j before r ∙
+              ap (λ b. cond b (reading (is_reading j before) r.statement) (is_reading j before)) t,
+        )
 
 records_asked : (tables : List Declaration) (before rs : List Record) (s : State) → ((j : ℕ) → Holds before s j) → AreInOrder before rs → Each (IsStatement tables) rs → AreAnswered s rs
 records_asked tables before [] s h order each = tt

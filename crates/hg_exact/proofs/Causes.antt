@@ -54,8 +54,10 @@ greatest_in (w ∷ ws) k = go (greatest (map (λ (v : ℕ × Image). v.0) ws)) k
   where
     go : (g : ℕ) → 0 < max w.0 g → (0 < g → list_any (λ (v : ℕ × Image). v.0 == g) ws ≡ true) → list_any (λ (v : ℕ × Image). v.0 == max w.0 g) (w ∷ ws) ≡ true
     go g l later = cases (nat_lt w.0 g)
-        (λ e. let is : max w.0 g ≡ g = grind (arith, nat_tests) in subst (λ n. list_any (λ (v : ℕ × Image). v.0 == n) (w ∷ ws) ≡ true) (sym is) (or_keeps (w.0 == g) (list_any (λ (v : ℕ × Image). v.0 == g) ws) (later (grind (arith, nat_tests)))))
-        (λ e. let is : max w.0 g ≡ w.0 = grind (arith, nat_tests) in subst (λ n. list_any (λ (v : ℕ × Image). v.0 == n) (w ∷ ws) ≡ true) (sym is) (ap (λ b. b || list_any (λ (v : ℕ × Image). v.0 == w.0) ws) ((Decides-eqb w.0 w.0).1 refl)))
+        (λ e. let is : max w.0 g ≡ g = grind (arith, nat_tests) in
+        subst (λ n. list_any (λ (v : ℕ × Image). v.0 == n) (w ∷ ws) ≡ true) (sym is) (or_keeps (w.0 == g) (list_any (λ (v : ℕ × Image). v.0 == g) ws) (later (grind (arith, nat_tests)))))
+        (λ e. let is : max w.0 g ≡ w.0 = grind (arith, nat_tests) in
+        subst (λ n. list_any (λ (v : ℕ × Image). v.0 == n) (w ∷ ws) ≡ true) (sym is) (ap (λ b. b || list_any (λ (v : ℕ × Image). v.0 == w.0) ws) ((Decides-eqb w.0 w.0).1 refl)))
       where
         or_keeps : (a b : Bool) → b ≡ true → (a || b) ≡ true
         or_keeps true b e = refl
@@ -96,8 +98,10 @@ module _ (s : State) (all : List Said) (now : Said) (shows : Shows (onto all [])
       let here : numbers_in k x (now ∷ []) ≡ [] = ap (λ b. filter_map committed (cond b (now ∷ []) [])) off in (
         record {
           other = differs k now.session other;
-          does = subst (λ ws. IsSome (image_in r ws)) (sym (stored_in_append k x all (now ∷ []))) (still_written r (stored_in k x all) (stored_in k x (now ∷ [])) (image_of_onto r (stored_in k x all) (subst (λ ws. IsSome (image_in r ws)) (stored_onto k x all) wrote)));
-          after = subst (Each (λ c. now.at < c)) (sym (numbers_in_append k x all (now ∷ []))) (each_append (λ c. now.at < c) (numbers_in k x all) (numbers_in k x (now ∷ [])) before (subst (Each (λ c. now.at < c)) (sym here) tt));
+          does = subst (λ ws. IsSome (image_in r ws)) (sym (stored_in_append k x all (now ∷ [])))
+              (still_written r (stored_in k x all) (stored_in k x (now ∷ [])) (image_of_onto r (stored_in k x all) (subst (λ ws. IsSome (image_in r ws)) (stored_onto k x all) wrote)));
+          after = subst (Each (λ c. now.at < c)) (sym (numbers_in_append k x all (now ∷ []))) (each_append (λ c. now.at < c) (numbers_in k x all) (numbers_in k x (now ∷ [])) before
+              (subst (Each (λ c. now.at < c)) (sym here) tt));
         },
         record { does = wrote; opened = goes },
       )
@@ -112,14 +116,16 @@ module _ (s : State) (all : List Said) (now : Said) (shows : Shows (onto all [])
       let at = opened_is k earlier (s.opened k) o (shows.opened k) is.1 in
       let q : Said = at.0 in
       let number : q.transaction ≡ o.transaction = ap (λ (x : Open). x.transaction) (sym at.2) in
-      let wrote : IsSome (image_in r (stored_in k o.transaction earlier)) = subst (λ n. IsSome (image_in r (stored_in k n earlier))) number (subst (λ (x : Open). IsSome (image_in r x.wrote)) at.2 is.2) in
+      let wrote : IsSome (image_in r (stored_in k o.transaction earlier)) = subst (λ n. IsSome (image_in r (stored_in k n earlier))) number
+      (subst (λ (x : Open). IsSome (image_in r x.wrote)) at.2 is.2) in
       let other : k ≡ now.session → ⊥ = λ g. not_none (image_in r (wrote_by (s.opened now.session))) mine (subst (λ x. IsSome (image_in r (wrote_by x))) (sym (ap s.opened (sym g) ∙ is.1)) is.2) in
       let back : record { session = k; transaction = o.transaction } ≡ w = (λ i. record { session = sym is.3 i; transaction = sym is.4 i }) in
       subst (λ (v : Writer). ShowsOpen (stored_in v.session v.transaction after) (numbers_in v.session v.transaction after) now.session now.at r v × IsStillOpen earlier r v) back
       (open_shown k o.transaction r q other at.1 number wrote)
 
   -- a write of the transaction o, as the line says it
-  pub cause_shown : (o : Open) (st : Statement) (r : Rid) → target st ≡ Some r → own_writes earlier now ≡ o.wrote → now.at ≡ o.at → (image_in r o.wrote ≡ None → image_in r (wrote_by (s.opened now.session)) ≡ None) → ShowsCause replay s.history after earlier now r (answer_in s o st)
+  pub cause_shown : (o : Open) (st : Statement) (r : Rid) → target st ≡ Some r → own_writes earlier now ≡ o.wrote → now.at ≡ o.at →
+      (image_in r o.wrote ≡ None → image_in r (wrote_by (s.opened now.session)) ≡ None) → ShowsCause replay s.history after earlier now r (answer_in s o st)
   cause_shown o st r e own at mine =
       target_by (ShowsCause replay s.history after earlier now r) s o r st e tt tt
       (λ a is k. stored a is)

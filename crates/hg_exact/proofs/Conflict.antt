@@ -11,7 +11,7 @@ use Rattle.hg_core.proofs.Indices.{at_index, put_else}
 use Rattle.hg_headline.specs.Replayed.{HasReplayed}
 use Rattle.hg_headline.specs.Worked.{five, history, lines, records}
 use Rattle.hg_headline.proofs.Worked.{met}
-use Rattle.hg_exact.specs.Shown.{HasOpen, IsFreeIn, IsNewestIn, ShowsFirsts}
+use Rattle.hg_core.specs.Shown.{HasOpen, IsFreeIn, IsNewestIn, ShowsFirsts}
 
 pub record Shown : Type 0 where
   pub logs : ℕ → List LogEntry

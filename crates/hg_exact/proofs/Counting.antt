@@ -76,7 +76,8 @@ pub marks_upto : (kind : Kind) (m : ℕ) (earlier : List Said) → Each (IsUpTo 
 marks_upto kind m [] h = tt
 marks_upto kind m (s ∷ ss) h = go (report_of s.reply) h.0.1 (marks_upto kind m ss h.1)
   where
-    go : (o : Option Sweep) → IfSome o (λ sweep. sweep.mark ≤ m) → Each (λ n. n ≤ m) (filter_map (mark_of kind) ss) → Each (λ n. n ≤ m) (cons_option (elim o [ None ↦ None | Some sweep ↦ if same_kind sweep.kind kind then Some sweep.mark else None ]) (filter_map (mark_of kind) ss))
+    go : (o : Option Sweep) → IfSome o (λ sweep. sweep.mark ≤ m) → Each (λ n. n ≤ m) (filter_map (mark_of kind) ss) →
+        Each (λ n. n ≤ m) (cons_option (elim o [ None ↦ None | Some sweep ↦ if same_kind sweep.kind kind then Some sweep.mark else None ]) (filter_map (mark_of kind) ss))
     go None k l = l
     go (Some sweep) k l = at (same_kind sweep.kind kind)
       where
@@ -103,7 +104,8 @@ or_keeps false b e = e
 
 pub begun_more : (j : ℕ) (earlier : List Said) (now q p : Said) → q.at ≡ p.at → q.scope ≡ p.scope → WasBegun j earlier q → WasBegun j (now ∷ earlier) p
 begun_more j earlier now q p at scope b = record {
-  shown = λ d k. or_keeps (begins_at j d p.at now) (list_any (begins_at j d p.at) earlier) (subst (λ n. list_any (begins_at j d n) earlier ≡ true) at (b.shown d (ap (λ sc. if d then is_declared sc else true) scope ∙ k)));
+  shown = λ d k. or_keeps (begins_at j d p.at now) (list_any (begins_at j d p.at) earlier)
+      (subst (λ n. list_any (begins_at j d n) earlier ≡ true) at (b.shown d (ap (λ sc. if d then is_declared sc else true) scope ∙ k)));
 }
 
 pub begun_here : (j : ℕ) (earlier : List Said) (now : Said) → now.session ≡ j → snapshot_of now ≡ Some now.at → WasBegun j (now ∷ earlier) now
@@ -135,7 +137,8 @@ module _ (opens : ℕ → Option Open) where
   held_over n zero least k = tt
   held_over n (suc many) least k = go (opens n) (held_over (suc n) many least (omega (arith, k)))
     where
-      go : (o : Option Open) → Each (λ m. least ≤ m) (map (λ (t : Told). t.session) (held_from (suc n) many)) → Each (λ m. least ≤ m) (map (λ (t : Told). t.session) (cons_option (told_of n o) (held_from (suc n) many)))
+      go : (o : Option Open) → Each (λ m. least ≤ m) (map (λ (t : Told). t.session) (held_from (suc n) many)) →
+          Each (λ m. least ≤ m) (map (λ (t : Told). t.session) (cons_option (told_of n o) (held_from (suc n) many)))
       go None h = h
       go (Some o) h = (k, h)
 
@@ -143,9 +146,11 @@ module _ (opens : ℕ → Option Open) where
   held_ascends n zero = tt
   held_ascends n (suc many) = go (opens n) (held_ascends (suc n) many) (held_over (suc n) many (suc n) (omega arith))
     where
-      go : (o : Option Open) → Ascends (map (λ (t : Told). t.session) (held_from (suc n) many)) → Each (λ m. suc n ≤ m) (map (λ (t : Told). t.session) (held_from (suc n) many)) → Ascends (map (λ (t : Told). t.session) (cons_option (told_of n o) (held_from (suc n) many)))
+      go : (o : Option Open) → Ascends (map (λ (t : Told). t.session) (held_from (suc n) many)) → Each (λ m. suc n ≤ m) (map (λ (t : Told). t.session) (held_from (suc n) many)) →
+          Ascends (map (λ (t : Told). t.session) (cons_option (told_of n o) (held_from (suc n) many)))
       go None h k = h
-      go (Some o) h k = ascends_cons n (map (λ (t : Told). t.session) (held_from (suc n) many)) (each_keeps (λ m. suc n ≤ m) (λ m. n < m) (λ m q. q) (map (λ (t : Told). t.session) (held_from (suc n) many)) k) h
+      go (Some o) h k = ascends_cons n (map (λ (t : Told). t.session) (held_from (suc n) many))
+          (each_keeps (λ m. suc n ≤ m) (λ m. n < m) (λ m q. q) (map (λ (t : Told). t.session) (held_from (suc n) many)) k) h
 
   -- of an open transaction
   abbrev pub IsOf : Told → Type 0
@@ -168,12 +173,14 @@ module _ (opens : ℕ → Option Open) where
       go None e = e
       go (Some o) e = ap (λ xs. (n, o.at) ∷ xs) e
 
-  pub held_snapshots : (sessions : ℕ) (earlier : List Said) → ((j : ℕ) → opens j ≡ opened_in j earlier) → Each (λ (s : Said). s.session ≤ sessions) earlier → map pair (held_from 1 sessions) ≡ open_snapshots earlier
+  pub held_snapshots : (sessions : ℕ) (earlier : List Said) → ((j : ℕ) → opens j ≡ opened_in j earlier) → Each (λ (s : Said). s.session ≤ sessions) earlier →
+      map pair (held_from 1 sessions) ≡ open_snapshots earlier
   held_snapshots sessions earlier is w =
       let top : ℕ = greatest (map (λ (s : Said). s.session) earlier) in
       held_pairs 1 sessions
       ∙ picked_same (λ j. option_map (pair_of j) (opens j)) (λ j. open_snapshot j (open_of j earlier)) (λ j. ap (option_map (pair_of j)) (is j) ∙ one j (open_of j earlier)) (numbers_from 1 sessions)
-      ∙ picked_few (λ j. open_snapshot j (open_of j earlier)) 1 top sessions (greatest_within sessions (map (λ (s : Said). s.session) earlier) (each_map (λ n. n ≤ sessions) (λ (s : Said). s.session) earlier w))
+      ∙ picked_few (λ j. open_snapshot j (open_of j earlier)) 1 top sessions
+      (greatest_within sessions (map (λ (s : Said). s.session) earlier) (each_map (λ n. n ≤ sessions) (λ (s : Said). s.session) earlier w))
       (λ j k. ap (λ o. open_snapshot j (open_after o)) (last_of_none j earlier (none_named j earlier (omega (arith, k)))))
     where
       one : (j : ℕ) (o : Option Said) → option_map (pair_of j) (option_map (open_as j earlier) o) ≡ open_snapshot j o
@@ -198,6 +205,7 @@ pub told_sessions : (held : List Told) → map (λ (t : Told). t.session) held �
 told_sessions held = sym (map_twice plain_told (λ (t : Told). t.session) held)
 
 -- a line of session j leaves the others' transactions open as they were
-pub are_begun : (j : ℕ) (earlier : List Said) (now : Said) → now.session ≡ j → AreBegun earlier → ((q : Said) → open_of j (now ∷ earlier) ≡ Some q → WasBegun j (now ∷ earlier) q) → AreBegun (now ∷ earlier)
+pub are_begun : (j : ℕ) (earlier : List Said) (now : Said) → now.session ≡ j → AreBegun earlier → ((q : Said) → open_of j (now ∷ earlier) ≡ Some q → WasBegun j (now ∷ earlier) q) →
+    AreBegun (now ∷ earlier)
 are_begun j earlier now mine before here k q = by_number j (λ i b. open_of i (now ∷ earlier) ≡ Some q → WasBegun i (now ∷ earlier) q) (here q)
     (λ i f e. begun_more i earlier now q q refl refl (before i q (sym (ap open_after (last_other i earlier now (differs now.session i (λ g. f (sym g ∙ mine))))) ∙ e))) k

@@ -57,7 +57,8 @@ module _ (s : State) (o : Open) (r : Rid) where
   written_newer : (answer : Answer) (c : ℕ) → Caused s o r (Newer c) → written s o r answer ≡ Newer c
   written_newer answer c h =
       let below : nat_lt o.at c ≡ true = (let k = h.2 in grind (arith, nat_tests)) in
-      written_other answer h.0 ∙ ap (λ l. unless_refused l (newest s.history r) o.at answer) h.1 ∙ ap (λ n. if nat_lt o.at n then Newer n else answer) h.3 ∙ ap (λ b. if b then Newer c else answer) below
+      written_other answer h.0 ∙ ap (λ l. unless_refused l (newest s.history r) o.at answer) h.1 ∙ ap (λ n. if nat_lt o.at n then Newer n else answer) h.3 ∙
+      ap (λ b. if b then Newer c else answer) below
 
   written_open : (answer : Answer) (w : Writer) → Caused s o r (OpenBy w) → written s o r answer ≡ OpenBy w
   written_open answer w h = written_other answer h.0 ∙ ap (λ l. unless_refused l (newest s.history r) o.at answer) h.1.1
@@ -93,12 +94,14 @@ got_is image (Found row) e = sym (ap found e)
 got_is image Nothing e = sym (ap found e)
 got_is image _ e = absurd e
 
-scanned_is : (s : State) (o : Open) (table : TableId) (low high : ℕ) (a : Answer) → IsScanned (λ key. sees s o (record { table = table; key = key })) low high a → a ≡ Rows (rows_seen s o table low high)
+scanned_is : (s : State) (o : Open) (table : TableId) (low high : ℕ) (a : Answer) → IsScanned (λ key. sees s o (record { table = table; key = key })) low high a →
+    a ≡ Rows (rows_seen s o table low high)
 scanned_is s o table low high (Rows rows) h = ap Rows (same_rows (λ key. sees s o (record { table = table; key = key })) low high rows (rows_seen s o table low high) h (rows_are s o table low high))
 scanned_is s o table low high _ h = absurd h
 
 fetched_is : (s : State) (o : Open) (n : ℕ) (x : Option Rest) (a : Answer) → 1 ≤ n → IsFetched (sees s o) n x a → a ≡ fetched s o n x
-fetched_is s o n (Some rest) (Rows rows) k h = ap Rows (same_first (λ key. sees s o (record { table = rest.table; key = key })) n rest.low rest.high rows _ h (first_rows (λ key. sees s o (record { table = rest.table; key = key })) n rest.low rest.high (rows_seen s o rest.table rest.low rest.high) k (rows_are s o rest.table rest.low rest.high)))
+fetched_is s o n (Some rest) (Rows rows) k h = ap Rows (same_first (λ key. sees s o (record { table = rest.table; key = key })) n rest.low rest.high rows _ h
+    (first_rows (λ key. sees s o (record { table = rest.table; key = key })) n rest.low rest.high (rows_seen s o rest.table rest.low rest.high) k (rows_are s o rest.table rest.low rest.high)))
 fetched_is s o n x a k h = absurd h
 
 commit_is : (m : ℕ) (b : Bool) (a : Answer) → IsCommitted b a → (IsTrue b → IfSome (committed_by CommitIt a) (λ c. c ≡ suc m)) → a ≡ (if b then Committed (suc m) else Ended)
@@ -114,16 +117,20 @@ undone_is : (a : Answer) → IsUndone a → a ≡ Undone
 undone_is Undone h = refl
 undone_is _ h = absurd h
 
-pub determined : (s : State) (o : Open) (st : Statement) (base : Said) (a : Answer) → IsPlain st → MayAsk (Some o) st → IsAnswer replay (sees s o) (is_written o.wrote) o.rest (told base st o.scope a) st → IfSome (target st) (λ r. Caused s o r a) → (IsTrue (is_written o.wrote) → IfSome (committed_by st a) (λ c. c ≡ suc (mark s))) → a ≡ answer_in s o st
+pub determined : (s : State) (o : Open) (st : Statement) (base : Said) (a : Answer) → IsPlain st → MayAsk (Some o) st →
+    IsAnswer replay (sees s o) (is_written o.wrote) o.rest (told base st o.scope a) st → IfSome (target st) (λ r. Caused s o r a) →
+    (IsTrue (is_written o.wrote) → IfSome (committed_by st a) (λ c. c ≡ suc (mark s))) → a ≡ answer_in s o st
 determined s o (Begin scope) base a plain may h c n = absurd plain
 determined s o (CursorOpen table low high) base a plain may h c n = absurd plain
 determined s o (Gc kind) base a plain may h c n = absurd plain
 determined s o (Get r) base a plain may h c n = declared_is o.scope r.table a (found (sees s o r).row) (IsGot (sees s o r) a) h (got_is (sees s o r) a)
-determined s o (Scan table low high) base a plain may h c n = declared_is o.scope table a (Rows (rows_seen s o table low high)) (IsScanned (λ key. sees s o (record { table = table; key = key })) low high a) h (scanned_is s o table low high a)
+determined s o (Scan table low high) base a plain may h c n = declared_is o.scope table a (Rows (rows_seen s o table low high))
+    (IsScanned (λ key. sees s o (record { table = table; key = key })) low high a) h (scanned_is s o table low high a)
 determined s o (Fetch k) base a plain may h c n = fetched_is s o k o.rest a may.0 h
 determined s o CursorClose base a plain may h c n = ended_is a h
 determined s o (Put r row) base a plain may h c n = declared_is o.scope r.table a (written s o r Stored) (IsPut a) h (λ p. put_is s o r a p c)
-determined s o (Del r) base a plain may h c n = declared_is o.scope r.table a (if is_some (sees s o r).row then written s o r Gone else Nothing) (IsDeleted (sees s o r) a) h (λ p. del_is s o r (sees s o r) a p c)
+determined s o (Del r) base a plain may h c n = declared_is o.scope r.table a (if is_some (sees s o r).row then written s o r Gone else Nothing) (IsDeleted (sees s o r) a) h
+    (λ p. del_is s o r (sees s o r) a p c)
 determined s o CommitIt base a plain may h c n = commit_is (mark s) (is_written o.wrote) a h n
 determined s o Rollback base a plain may h c n = undone_is a h
 
@@ -137,13 +144,15 @@ not_writer r k (Some o) e =
 
 picked_none : {Y : Type 0} (f : ℕ → Option Y) (n many : ℕ) → ((k : ℕ) → n ≤ k → k < n + many → f k ≡ None) → filter_map f (numbers_from n many) ≡ []
 picked_none f n zero h = refl
-picked_none f n (suc many) h = ap (λ o. cons_option o (filter_map f (numbers_from (suc n) many))) (h n (omega arith) (omega arith)) ∙ picked_none f (suc n) many (λ k a b. h k (omega (arith, a)) (omega (arith, b)))
+picked_none f n (suc many) h = ap (λ o. cons_option o (filter_map f (numbers_from (suc n) many))) (h n (omega arith) (omega arith)) ∙
+    picked_none f (suc n) many (λ k a b. h k (omega (arith, a)) (omega (arith, b)))
 
 -- where one is picked, of one number
 picked_one : {Y : Type 0} (f : ℕ → Option Y) (n many j : ℕ) (y : Y) → n ≤ j → j < n + many → f j ≡ Some y → ((k : ℕ) → (k ≡ j → ⊥) → f k ≡ None) → filter_map f (numbers_from n many) ≡ y ∷ []
 picked_one f n zero j y a b e h = absurd (omega (arith, a, b))
 picked_one f n (suc many) j y a b e h = cases (n == j)
-    (λ q. let same : n ≡ j = (Decides-eqb n j).0 q in ap (λ o. cons_option o (filter_map f (numbers_from (suc n) many))) (ap f same ∙ e) ∙ ap (λ l. y ∷ l) (picked_none f (suc n) many (λ k c d. h k (λ g. omega (arith, c, same, g)))))
+    (λ q. let same : n ≡ j = (Decides-eqb n j).0 q in ap (λ o. cons_option o (filter_map f (numbers_from (suc n) many))) (ap f same ∙ e) ∙
+    ap (λ l. y ∷ l) (picked_none f (suc n) many (λ k c d. h k (λ g. omega (arith, c, same, g)))))
     (λ q. ap (λ o. cons_option o (filter_map f (numbers_from (suc n) many))) (h n (λ g. true_not q g)) ∙ picked_one f (suc n) many j y (grind (arith, nat_tests)) (omega (arith, b)) e h)
   where
     true_not : (n == j) ≡ false → n ≡ j → ⊥
@@ -152,7 +161,8 @@ picked_one f n (suc many) j y a b e h = cases (n == j)
 pub nobody_has : (s : State) (r : Rid) → ((k : ℕ) → image_in r (wrote_by (s.opened k)) ≡ None) → writers s r ≡ []
 nobody_has s r h = picked_none (λ j. writer_of r j (s.opened j)) 1 s.sessions (λ k a b. not_writer r k (s.opened k) (h k))
 
-pub one_has : (s : State) (r : Rid) (j : ℕ) (o : Open) → 1 ≤ j → j ≤ s.sessions → s.opened j ≡ Some o → IsSome (image_in r o.wrote) → ((k : ℕ) → (k ≡ j → ⊥) → image_in r (wrote_by (s.opened k)) ≡ None) → writers s r ≡ record { session = j; transaction = o.transaction } ∷ []
+pub one_has : (s : State) (r : Rid) (j : ℕ) (o : Open) → 1 ≤ j → j ≤ s.sessions → s.opened j ≡ Some o → IsSome (image_in r o.wrote) →
+    ((k : ℕ) → (k ≡ j → ⊥) → image_in r (wrote_by (s.opened k)) ≡ None) → writers s r ≡ record { session = j; transaction = o.transaction } ∷ []
 one_has s r j o a b e w h =
     let its : Writer = record { session = j; transaction = o.transaction } in
     picked_one (λ k. writer_of r k (s.opened k)) 1 s.sessions j its a (omega (arith, b)) (ap (writer_of r j) e ∙ ap (λ x. cond x (Some its) None) w) (λ k f. not_writer r k (s.opened k) (h k f))

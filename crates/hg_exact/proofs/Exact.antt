@@ -22,7 +22,8 @@ use Rattle.hg_base.specs.Lists.{Each, EachAfter, greatest, onto}
 use Rattle.hg_base.specs.Script.{Script, replay}
 use Rattle.hg_base.specs.Sound.{IsRight, LinesAreSound, all_said}
 use Rattle.hg_base.specs.History.{Write, History, does_write, image_in, seen}
-use Rattle.hg_base.specs.Transcript.{Said, Rest, commit_by, committed, ends, history_of, greatest_commit, has, is_of, last_of, next_after, only, open_after, open_of, own_writes, rest_after, rest_in, said, said_from, standing, stored, stored_by, stored_in, table_of}
+use Rattle.hg_base.specs.Transcript.{Said, Rest, commit_by, committed, ends, history_of, greatest_commit, has, is_of, last_of, next_after, only, open_after, open_of, own_writes, rest_after}
+use Rattle.hg_base.specs.Transcript.{rest_in, said, said_from, standing, stored, stored_by, stored_in, table_of}
 use Rattle.hg_base.specs.Shape.{HasShape, IsLineOf, same_kind}
 use Rattle.hg_base.specs.Replies.{IsAnswer, IsBegun, IsCommitted, IsDeleted, IsEnded, IsFetched, IsGot, IsPut, IsReply, IsScanned, IsSwept, IsUndeclared, IsUndone, is_written}
 use Rattle.hg_base.specs.Conflicts.{ShowsCause, ShowsConflict, target}
@@ -56,7 +57,8 @@ Ended earlier = (k x : ℕ) (r : Rid) → IsSome (image_in r (stored_in k x earl
 pub ended_nothing : Ended []
 ended_nothing k x r s e = absurd (let bad : false ≡ true = s in cc)
 
-ended_other : (j : ℕ) (earlier : List Said) (now : Said) → now.session ≡ j → Ended earlier → (k : ℕ) → (k ≡ j → ⊥) → (x : ℕ) (r : Rid) → IsSome (image_in r (stored_in k x (now ∷ earlier))) → list_any ends (filter (is_of k x) (now ∷ earlier)) ≡ false → (q : Said) × (open_of k (now ∷ earlier) ≡ Some q) × (q.transaction ≡ x)
+ended_other : (j : ℕ) (earlier : List Said) (now : Said) → now.session ≡ j → Ended earlier → (k : ℕ) → (k ≡ j → ⊥) → (x : ℕ) (r : Rid) →
+    IsSome (image_in r (stored_in k x (now ∷ earlier))) → list_any ends (filter (is_of k x) (now ∷ earlier)) ≡ false → (q : Said) × (open_of k (now ∷ earlier) ≡ Some q) × (q.transaction ≡ x)
 ended_other j earlier now mine h k f x r s e =
     let t : (now.session == k) ≡ false = differs now.session k (λ g. f (sym g ∙ mine)) in
     let off : is_of k x now ≡ false = not_session k x now t in
@@ -64,22 +66,32 @@ ended_other j earlier now mine h k f x r s e =
     let is = h k x r (subst (λ l. IsSome (image_in r (filter_map stored l))) lines s) (sym (ap (list_any ends) lines) ∙ e) in
     (is.0, ap open_after (last_other k earlier now t) ∙ is.1, is.2)
 
-pub ended_line : (j : ℕ) (earlier : List Said) (now : Said) → now.session ≡ j → nat_lt 0 now.transaction ≡ true → ((q : Said) → open_of j earlier ≡ Some q → q.transaction ≡ now.transaction) → Ended earlier → Ended (now ∷ earlier)
-ended_line j earlier now mine some same h k x r s e = at_index j (λ i. IsSome (image_in r (stored_in i x (now ∷ earlier))) → list_any ends (filter (is_of i x) (now ∷ earlier)) ≡ false → (q : Said) × (open_of i (now ∷ earlier) ≡ Some q) × (q.transaction ≡ x))
+pub ended_line : (j : ℕ) (earlier : List Said) (now : Said) → now.session ≡ j → nat_lt 0 now.transaction ≡ true →
+    ((q : Said) → open_of j earlier ≡ Some q → q.transaction ≡ now.transaction) → Ended earlier → Ended (now ∷ earlier)
+ended_line j earlier now mine some same h k x r s e = at_index j (λ i. IsSome (image_in r (stored_in i x (now ∷ earlier))) →
+    list_any ends (filter (is_of i x) (now ∷ earlier)) ≡ false → (q : Said) × (open_of i (now ∷ earlier) ≡ Some q) × (q.transaction ≡ x))
     (λ s e. go (is_of j x now) refl s e) (λ i f s e. ended_other j earlier now mine h i f x r s e) k s e
   where
     and_right : (a b : Bool) → (a && b) ≡ true → b ≡ true
     and_right true b f = f
     and_right false b f = absurd (let bad : false ≡ true = f in cc)
 
-    go : (b : Bool) → is_of j x now ≡ b → IsSome (image_in r (filter_map stored (cond b (now ∷ filter (is_of j x) earlier) (filter (is_of j x) earlier)))) → list_any ends (cond b (now ∷ filter (is_of j x) earlier) (filter (is_of j x) earlier)) ≡ false → (q : Said) × (open_of j (now ∷ earlier) ≡ Some q) × (q.transaction ≡ x)
-    go true f s e = (now, ap open_after (last_by j earlier now true mine some) ∙ ap (λ b. cond b None (Some now)) (or_parts (ends now) (list_any ends (filter (is_of j x) earlier)) e).0, (Decides-eqb now.transaction x).0 (and_right (now.session == j) (now.transaction == x) f))
+    go : (b : Bool) → is_of j x now ≡ b → IsSome (image_in r (filter_map stored (cond b (now ∷ filter (is_of j x) earlier) (filter (is_of j x) earlier)))) →
+        list_any ends (cond b (now ∷ filter (is_of j x) earlier) (filter (is_of j x) earlier)) ≡ false → (q : Said) × (open_of j (now ∷ earlier) ≡ Some q) × (q.transaction ≡ x)
+    go true f s e = (
+      now,
+      ap open_after (last_by j earlier now true mine some) ∙
+          ap (λ b. cond b None (Some now)) (or_parts (ends now) (list_any ends (filter (is_of j x) earlier)) e).0,
+      (Decides-eqb now.transaction x).0
+          (and_right (now.session == j) (now.transaction == x) f),
+    )
     go false f s e =
         let is = h j x r s e in
         absurd (let bad : true ≡ false = sym (is_mine j x now mine (sym (same is.0 is.1) ∙ is.2)) ∙ f in cc)
 
 pub ended_beside : (j : ℕ) (earlier : List Said) (now : Said) → now.session ≡ j → now.transaction ≡ 0 → stored now ≡ None → Ended earlier → Ended (now ∷ earlier)
-ended_beside j earlier now mine none writes_none h k x r s e = at_index j (λ i. IsSome (image_in r (stored_in i x (now ∷ earlier))) → list_any ends (filter (is_of i x) (now ∷ earlier)) ≡ false → (q : Said) × (open_of i (now ∷ earlier) ≡ Some q) × (q.transaction ≡ x))
+ended_beside j earlier now mine none writes_none h k x r s e = at_index j (λ i. IsSome (image_in r (stored_in i x (now ∷ earlier))) →
+    list_any ends (filter (is_of i x) (now ∷ earlier)) ≡ false → (q : Said) × (open_of i (now ∷ earlier) ≡ Some q) × (q.transaction ≡ x))
     (λ s e. go (is_of j x now) s e) (λ i f s e. ended_other j earlier now mine h i f x r s e) k s e
   where
     last : last_of j (now ∷ earlier) ≡ last_of j earlier
@@ -88,7 +100,8 @@ ended_beside j earlier now mine none writes_none h k x r s e = at_index j (λ i.
     same : (q : Said) × (open_of j earlier ≡ Some q) × (q.transaction ≡ x) → (q : Said) × (open_of j (now ∷ earlier) ≡ Some q) × (q.transaction ≡ x)
     same (q, f, g) = (q, ap open_after last ∙ f, g)
 
-    go : (b : Bool) → IsSome (image_in r (filter_map stored (cond b (now ∷ filter (is_of j x) earlier) (filter (is_of j x) earlier)))) → list_any ends (cond b (now ∷ filter (is_of j x) earlier) (filter (is_of j x) earlier)) ≡ false → (q : Said) × (open_of j (now ∷ earlier) ≡ Some q) × (q.transaction ≡ x)
+    go : (b : Bool) → IsSome (image_in r (filter_map stored (cond b (now ∷ filter (is_of j x) earlier) (filter (is_of j x) earlier)))) →
+        list_any ends (cond b (now ∷ filter (is_of j x) earlier) (filter (is_of j x) earlier)) ≡ false → (q : Said) × (open_of j (now ∷ earlier) ≡ Some q) × (q.transaction ≡ x)
     go true s e = same (h j x r (subst (λ o. IsSome (image_in r (cons_option o (stored_in j x earlier)))) writes_none s) (or_parts (ends now) (list_any ends (filter (is_of j x) earlier)) e).1)
     go false s e = same (h j x r s e)
 
@@ -187,7 +200,8 @@ module _ (all : List Said) (s : State) (knows : Knows false all s) (ended : Ende
   newest_so_far : (r : Rid) (c : ℕ) → IsNewest h earlier r c → (n : ℕ) → n ≤ length s.history → IsTrue (does_write (s.history ++ more) n r) → n ≤ c
   newest_so_far r c f n l does = f n (subst (λ m. n ≤ m) (sym marked) l) (subst (λ k. IsTrue (does_write k n r)) (sym longer) does)
 
-  open_is : (k x : ℕ) (r : Rid) → (k ≡ j → ⊥) → IsSome (image_in r (stored_in k x earlier)) → list_any ends (filter (is_of k x) earlier) ≡ false → writers s r ≡ record { session = k; transaction = x } ∷ []
+  open_is : (k x : ℕ) (r : Rid) → (k ≡ j → ⊥) → IsSome (image_in r (stored_in k x earlier)) → list_any ends (filter (is_of k x) earlier) ≡ false →
+      writers s r ≡ record { session = k; transaction = x } ∷ []
   open_is k x r other wrote going =
       let is = ended k x r wrote going in
       let q : Said = is.0 in
@@ -201,10 +215,16 @@ module _ (all : List Said) (s : State) (knows : Knows false all s) (ended : Ende
       → IsSome (image_in r (own_writes earlier now)) ⊎ (IsFree earlier now.session r × IsNewest h earlier r now.at) → IsSome (image_in r o.wrote) ⊎ ((writers s r ≡ []) × (newest s.history r ≤ o.at))
   stored_by_first o now r mine own at none (inl w) = inl (subst (λ ws. IsSome (image_in r ws)) own w)
   stored_by_first o now r mine own at none (inr f) = cases (is_some (image_in r o.wrote)) (λ t. inl t)
-      (λ t. inr (nobody_has s r (free_is r (subst (λ i. IsFree earlier i r) mine f.0) (none (none_of (image_in r o.wrote) t))), newest_within s.history more r o.at (newest_so_far r o.at (subst (λ n. IsNewest h earlier r n) at f.1))))
+      (λ t. inr (
+        nobody_has s r (free_is r (subst (λ i. IsFree earlier i r) mine f.0) (none (none_of (image_in r o.wrote) t))),
+        newest_within s.history more r o.at
+            (newest_so_far r o.at (subst (λ n. IsNewest h earlier r n) at f.1)),
+      ))
 
-  caused : (o : Open) (now : Said) (all' : List Said) (r : Rid) (a : Answer) → now.session ≡ j → own_writes earlier now ≡ o.wrote → now.at ≡ o.at → (image_in r o.wrote ≡ None → image_in r (wrote_by (s.opened j)) ≡ None)
-      → ShowsCause replay h all' earlier now r a → IsFirstCause h earlier now r a → IfSome (elim a [ Newer c ↦ Some c | _ ↦ None ]) (λ c. IsTrue (list_any (λ n. n == c) (filter_map committed earlier))) → Caused s o r a
+  caused : (o : Open) (now : Said) (all' : List Said) (r : Rid) (a : Answer) → now.session ≡ j → own_writes earlier now ≡ o.wrote → now.at ≡ o.at →
+      (image_in r o.wrote ≡ None → image_in r (wrote_by (s.opened j)) ≡ None)
+      → ShowsCause replay h all' earlier now r a → IsFirstCause h earlier now r a →
+      IfSome (elim a [ Newer c ↦ Some c | _ ↦ None ]) (λ c. IsTrue (list_any (λ n. n == c) (filter_map committed earlier))) → Caused s o r a
   caused o now all' r Stored mine own at none shows first newer = stored_by_first o now r mine own at none first
   caused o now all' r Gone mine own at none shows first newer = stored_by_first o now r mine own at none first
   caused o now all' r (Newer c) mine own at none shows first newer =
@@ -224,19 +244,23 @@ module _ (all : List Said) (s : State) (knows : Knows false all s) (ended : Ende
   caused o now all' r _ mine own at none shows first newer = tt
 
   -- what a line has beside its answer
-  line_caused : (o : Open) (now : Said) (all' : List Said) (st : Statement) → now.statement ≡ st → now.session ≡ j → own_writes earlier now ≡ o.wrote → now.at ≡ o.at → ((r : Rid) → image_in r o.wrote ≡ None → image_in r (wrote_by (s.opened j)) ≡ None)
+  line_caused : (o : Open) (now : Said) (all' : List Said) (st : Statement) → now.statement ≡ st → now.session ≡ j → own_writes earlier now ≡ o.wrote → now.at ≡ o.at →
+      ((r : Rid) → image_in r o.wrote ≡ None → image_in r (wrote_by (s.opened j)) ≡ None)
       → ShowsConflict replay h all' earlier now → IsNext h earlier now → IsExact earlier now → IfSome (target st) (λ r. Caused s o r now.reply.answer)
   line_caused o now all' st is mine own at none shows first exact = subst (λ x. IfSome (target x) (λ r. Caused s o r now.reply.answer)) is (go (target now.statement) shows first.cause)
     where
-      go : (t : Option Rid) → IfSome t (λ r. ShowsCause replay h all' earlier now r now.reply.answer) → IfSome t (λ r. IsFirstCause h earlier now r now.reply.answer) → IfSome t (λ r. Caused s o r now.reply.answer)
+      go : (t : Option Rid) → IfSome t (λ r. ShowsCause replay h all' earlier now r now.reply.answer) → IfSome t (λ r. IsFirstCause h earlier now r now.reply.answer) →
+          IfSome t (λ r. Caused s o r now.reply.answer)
       go None f g = tt
       go (Some r) f g = caused o now all' r now.reply.answer mine own at (none r) f g exact.newer
 
-  begun_exact : (at : Option ℕ) (a : Answer) (number : Option ℕ) → is_some at ≡ false → is_some number ≡ false → IsBegun a → IfSome (elim a [ Begun n ↦ Some n | _ ↦ at ]) (λ n. n ≡ greatest_commit earlier) → plain_reply (record { at = at; answer = a; number = number }) ≡ inside (Begun (mark s))
+  begun_exact : (at : Option ℕ) (a : Answer) (number : Option ℕ) → is_some at ≡ false → is_some number ≡ false → IsBegun a →
+      IfSome (elim a [ Begun n ↦ Some n | _ ↦ at ]) (λ n. n ≡ greatest_commit earlier) → plain_reply (record { at = at; answer = a; number = number }) ≡ inside (Begun (mark s))
   begun_exact at (Begun n) number e f g k = λ i. record { at = none_of_no at e i; answer = Begun ((k ∙ marked) i); number = none_of_no number f i }
   begun_exact at _ number e f g k = absurd g
 
-  round_exact : (kind : Kind) (at : Option ℕ) (a : Answer) (number : Option ℕ) → is_some at ≡ false → is_some number ≡ false → IsSwept a → IfSome (elim a [ Swept sweep ↦ Some sweep | _ ↦ None ]) (IsReplayed earlier (Gc kind)) → plain_reply (record { at = at; answer = a; number = number }) ≡ inside (Swept (report s kind))
+  round_exact : (kind : Kind) (at : Option ℕ) (a : Answer) (number : Option ℕ) → is_some at ≡ false → is_some number ≡ false → IsSwept a →
+      IfSome (elim a [ Swept sweep ↦ Some sweep | _ ↦ None ]) (IsReplayed earlier (Gc kind)) → plain_reply (record { at = at; answer = a; number = number }) ≡ inside (Swept (report s kind))
   round_exact kind at (Swept sweep) number e f g k = λ i. record { at = none_of_no at e i; answer = Swept (same i); number = none_of_no number f i }
     where
       kind_is : (x y : Kind) → same_kind x y ≡ true → x ≡ y
@@ -254,7 +278,8 @@ module _ (all : List Said) (s : State) (knows : Knows false all s) (ended : Ende
       held_plain n zero = refl
       held_plain n (suc many) = one (s.opened n) (held_plain (suc n) many)
         where
-          one : (o : Option Open) → map made (map pair (held_from s.opened (suc n) many)) ≡ held_from s.opened (suc n) many → map made (map pair (cons_option (told_of n o) (held_from s.opened (suc n) many))) ≡ cons_option (told_of n o) (held_from s.opened (suc n) many)
+          one : (o : Option Open) → map made (map pair (held_from s.opened (suc n) many)) ≡ held_from s.opened (suc n) many →
+              map made (map pair (cons_option (told_of n o) (held_from s.opened (suc n) many))) ≡ cons_option (told_of n o) (held_from s.opened (suc n) many)
           one None q = q
           one (Some o) q = ap (λ l. record { session = n; number = o.at; moved = false } ∷ l) q
 
@@ -266,7 +291,8 @@ module _ (all : List Said) (s : State) (knows : Knows false all s) (ended : Ende
   round_exact kind at _ number e f g k = absurd g
 
   -- a line in the open transaction
-  within_exact : (all' : List Said) (q : Said) → open_of j earlier ≡ Some q → (st : Statement) → IsPlain st → MayAsk (Some (open_as j earlier q)) st → (reply : Reply) → let now : Said = standing (Some q) (next_after (last_of j earlier)) (asked st) reply in
+  within_exact : (all' : List Said) (q : Said) → open_of j earlier ≡ Some q → (st : Statement) → IsPlain st → MayAsk (Some (open_as j earlier q)) st → (reply : Reply) →
+      let now : Said = standing (Some q) (next_after (last_of j earlier)) (asked st) reply in
       IsReply replay h earlier now → ShowsConflict replay h all' earlier now → IsExact earlier now → IsNext h earlier now → plain_reply reply ≡ inside (answer_in s (open_as j earlier q) st)
   within_exact all' q e st plain may reply right shows exact first =
       let o : Open = open_as j earlier q in
@@ -277,19 +303,30 @@ module _ (all : List Said) (s : State) (knows : Knows false all s) (ended : Ende
       let is : reply.answer ≡ answer_in s o st = determined s o st now reply.answer plain may (subst (λ l. IsAnswer replay l (is_written o.wrote) o.rest now st) look right.answer)
       (line_caused o now all' st refl refl refl refl (λ r f. ap (λ x. image_in r (wrote_by x)) opened ∙ f) shows first exact)
       (λ _. subst (λ m. IfSome (committed now) (λ c. c ≡ suc m)) marked first.number) in
-      λ i. record { at = none_of_no reply.at right.at i; answer = (ap plain_answer is ∙ plain_same (answer_in s o st) (swept_not (answer_in s o st) (mark s) (answer_prints s o st plain))) i; number = none_of_no reply.number right.number i }
+      λ i. record {
+        at = none_of_no reply.at right.at i;
+        answer = (ap plain_answer is ∙
+            plain_same (answer_in s o st) (swept_not (answer_in s o st) (mark s) (answer_prints s o st plain))) i;
+        number = none_of_no reply.number right.number i;
+      }
 
   -- a line that is a transaction of its own
-  alone_exact : (all' : List Said) → open_of j earlier ≡ None → (st : Statement) → IsPlain st → MayAsk (Some (next s j (only (table_of st)) None)) st → (at : Option ℕ) (a : Answer) (number : Option ℕ) → let now : Said = standing None (suc (s.begun j)) (asked st) (record { at = at; answer = a; number = number }) in
+  alone_exact : (all' : List Said) → open_of j earlier ≡ None → (st : Statement) → IsPlain st → MayAsk (Some (next s j (only (table_of st)) None)) st →
+      (at : Option ℕ) (a : Answer) (number : Option ℕ) → let now : Said = standing None (suc (s.begun j)) (asked st) (record { at = at; answer = a; number = number }) in
       IsReply replay h earlier now → ShowsConflict replay h all' earlier now → IsExact earlier now → IsNext h earlier now
-      → plain_reply (record { at = at; answer = a; number = number }) ≡ record { at = Some (mark s); answer = answer_in s (next s j (only (table_of st)) None) st; number = number_for s st (answer_in s (next s j (only (table_of st)) None) st) }
+      → plain_reply (record { at = at; answer = a; number = number }) ≡ record {
+        at = Some (mark s);
+        answer = answer_in s (next s j (only (table_of st)) None) st;
+        number = number_for s st (answer_in s (next s j (only (table_of st)) None) st);
+      }
   alone_exact all' e st plain may at a number right shows exact first =
       let o : Open = next s j (only (table_of st)) None in
       let now : Said = standing None (suc (s.begun j)) (asked st) (record { at = at; answer = a; number = number }) in
       let opened : s.opened j ≡ None = knows.shows.opened j ∙ ap (option_map (open_as j earlier)) e in
       let none_before : filter (is_of j (suc (s.begun j))) earlier ≡ [] = knows.shows.fresh j (suc (s.begun j)) (omega arith) in
       let own : own_writes earlier now ≡ [] = ap (filter_map stored) none_before in
-      let shown : at ≡ Some (mark s) = some_is at (mark s) right.at (subst (λ m. IfSome at (λ n. n ≡ m)) marked (shown_at a at (λ n. n ≡ greatest_commit earlier) (not_begun _ _ _ now st plain right.answer) exact.snapshot)) in
+      let shown : at ≡ Some (mark s) = some_is at (mark s) right.at
+      (subst (λ m. IfSome at (λ n. n ≡ m)) marked (shown_at a at (λ n. n ≡ greatest_commit earlier) (not_begun _ _ _ now st plain right.answer) exact.snapshot)) in
       let now_at : now.at ≡ mark s = ap (λ x. unwrap_or x 0) shown in
       let look : seen h (own_writes earlier now) now.at ≡ sees s o = (λ i. seen (longer i) (own i) (now_at i)) ∙ seen_longer s.history more [] (mark s) (omega arith) in
       let wrote : is_written (own_writes earlier now) ≡ is_written o.wrote = ap is_written own in
@@ -298,14 +335,17 @@ module _ (all : List Said) (s : State) (knows : Knows false all s) (ended : Ende
       (subst (λ (p : (Rid → Image) × Bool × Option Rest). IsAnswer replay p.0 p.1 p.2 now st) (λ i. (look i, wrote i, rest i)) right.answer)
       (line_caused o now all' st refl refl own now_at (λ r f. ap (λ x. image_in r (wrote_by x)) opened) shows first exact)
       (λ w. absurd (let bad : false ≡ true = w in cc)) in
-      let numbered : number ≡ number_for s st (answer_in s o st) = number_is (stored_by st a) number right.number (subst (λ m. IfSome number (λ c. c ≡ suc m)) marked first.number) ∙ ap (λ x. number_for s st x) is in
+      let numbered : number ≡ number_for s st (answer_in s o st) = number_is (stored_by st a) number right.number
+      (subst (λ m. IfSome number (λ c. c ≡ suc m)) marked first.number) ∙ ap (λ x. number_for s st x) is in
       λ i. record { at = shown i; answer = (ap plain_answer is ∙ plain_same (answer_in s o st) (swept_not (answer_in s o st) (mark s) (answer_prints s o st plain))) i; number = numbered i }
     where
       rest_none : (xs : List Said) → filter (is_of j (suc (s.begun j))) xs ≡ [] → rest_in j (suc (s.begun j)) xs ≡ None
       rest_none [] f = refl
       rest_none (x ∷ xs) f = go (is_of j (suc (s.begun j)) x) f (λ g. rest_none xs g)
         where
-          go : (b : Bool) → cond b (x ∷ filter (is_of j (suc (s.begun j))) xs) (filter (is_of j (suc (s.begun j))) xs) ≡ [] → (filter (is_of j (suc (s.begun j))) xs ≡ [] → rest_in j (suc (s.begun j)) xs ≡ None) → (if b then rest_after x.statement x.reply.answer (rest_in j (suc (s.begun j)) xs) else rest_in j (suc (s.begun j)) xs) ≡ None
+          go : (b : Bool) → cond b (x ∷ filter (is_of j (suc (s.begun j))) xs) (filter (is_of j (suc (s.begun j))) xs) ≡ [] →
+              (filter (is_of j (suc (s.begun j))) xs ≡ [] → rest_in j (suc (s.begun j)) xs ≡ None) →
+              (if b then rest_after x.statement x.reply.answer (rest_in j (suc (s.begun j)) xs) else rest_in j (suc (s.begun j)) xs) ≡ None
           go true g later = absurd (let bad : (x ∷ filter (is_of j (suc (s.begun j))) xs) ≡ [] = g in cc)
           go false g later = later g
 
@@ -327,7 +367,8 @@ module _ (all : List Said) (s : State) (knows : Knows false all s) (ended : Ende
       let now : Said = standing None n (asked st) reply in
       IsReply replay h earlier now → ShowsConflict replay h all' earlier now → IsExact earlier now → IsNext h earlier now → plain_reply reply ≡ (stands s j None st).0
 
-  stands_exact : (all' : List Said) (st : Statement) → IsPlain st → MayAsk (s.opened j) st → (reply : Reply) → let now : Said = standing (open_of j earlier) (next_after (last_of j earlier)) (asked st) reply in
+  stands_exact : (all' : List Said) (st : Statement) → IsPlain st → MayAsk (s.opened j) st → (reply : Reply) →
+      let now : Said = standing (open_of j earlier) (next_after (last_of j earlier)) (asked st) reply in
       IsReply replay h earlier now → ShowsConflict replay h all' earlier now → IsExact earlier now → IsNext h earlier now → plain_reply reply ≡ (stands s j (s.opened j) st).0
   stands_exact all' st plain may reply right shows exact first =
       subst (Whole all' st reply) (sym (knows.shows.opened j)) (go (open_of j earlier) refl) may right shows exact first
@@ -338,7 +379,9 @@ module _ (all : List Said) (s : State) (knows : Knows false all s) (ended : Ende
       no_fetch (CursorOpen table low high) p m = absurd p
       no_fetch _ p m = tt
 
-      go : (y : Option Said) → open_of j earlier ≡ y → MayAsk (option_map (open_as j earlier) y) st → IsReply replay h earlier (as_line st reply y) → ShowsConflict replay h all' earlier (as_line st reply y) → IsExact earlier (as_line st reply y) → IsNext h earlier (as_line st reply y) → plain_reply reply ≡ (stands s j (option_map (open_as j earlier) y) st).0
+      go : (y : Option Said) → open_of j earlier ≡ y → MayAsk (option_map (open_as j earlier) y) st → IsReply replay h earlier (as_line st reply y) →
+          ShowsConflict replay h all' earlier (as_line st reply y) → IsExact earlier (as_line st reply y) → IsNext h earlier (as_line st reply y) →
+          plain_reply reply ≡ (stands s j (option_map (open_as j earlier) y) st).0
       go None g m a b c d = subst (Numbered all' st reply) (sym (knows.shows.begun j)) (alone_exact all' g st plain (no_fetch st plain m) reply.at reply.answer reply.number) a b c d
       go (Some q) g m a b c d = within_exact all' q g st plain m reply a b c d
 
@@ -358,13 +401,15 @@ module _ (all : List Said) (s : State) (knows : Knows false all s) (ended : Ende
 
   pub step_ended : (st : Statement) → MayAsk (s.opened j) st → (reply : Reply) → Ended (said earlier (asked st) reply ∷ earlier)
   step_ended (Begin scope) may reply = ended_line j earlier (said earlier (asked (Begin scope)) reply) refl some_next (λ q e. absurd (none_open (Begin scope) (λ o m. m) may q e)) ended
-  step_ended (CursorOpen table low high) may reply = ended_line j earlier (said earlier (asked (CursorOpen table low high)) reply) refl some_next (λ q e. absurd (none_open (CursorOpen table low high) (λ o m. m) may q e)) ended
+  step_ended (CursorOpen table low high) may reply = ended_line j earlier (said earlier (asked (CursorOpen table low high)) reply) refl some_next
+      (λ q e. absurd (none_open (CursorOpen table low high) (λ o m. m) may q e)) ended
   step_ended (Gc kind) may reply = ended_beside j earlier (said earlier (asked (Gc kind)) reply) refl refl refl ended
   step_ended st may reply = go (open_of j earlier) refl
     where
       go : (y : Option Said) → open_of j earlier ≡ y → Ended (standing y (next_after (last_of j earlier)) (asked st) reply ∷ earlier)
       go None e = ended_line j earlier (standing None (next_after (last_of j earlier)) (asked st) reply) refl some_next (λ q f. absurd (no_said q (sym e ∙ f))) ended
-      go (Some p) e = ended_line j earlier (standing (Some p) (next_after (last_of j earlier)) (asked st) reply) refl (last_some j earlier p (opened_last j earlier s.begun s.opened knows.shows p e)) (λ q f. ap (λ (x : Said). x.transaction) (said_same q p (sym f ∙ e))) ended
+      go (Some p) e = ended_line j earlier (standing (Some p) (next_after (last_of j earlier)) (asked st) reply) refl
+          (last_some j earlier p (opened_last j earlier s.begun s.opened knows.shows p e)) (λ q f. ap (λ (x : Said). x.transaction) (said_same q p (sym f ∙ e))) ended
 
 -- ---- the history goes on
 
@@ -388,7 +433,8 @@ goes_on h all (x ∷ rest) first =
     let split : history_of (all ++ x ∷ rest) ≡ history_of (all ++ x ∷ []) ++ later.0 = ap history_of (sym (append_assoc all (x ∷ []) rest)) ∙ later.1 in
     go (committed x) refl first.0.number later.0 split
   where
-    go : (o : Option ℕ) → committed x ≡ o → IfSome o (λ c. c ≡ suc (greatest_commit (onto all []))) → (k : History) → history_of (all ++ x ∷ rest) ≡ history_of (all ++ x ∷ []) ++ k → (more : History) × (history_of (all ++ x ∷ rest) ≡ history_of all ++ more)
+    go : (o : Option ℕ) → committed x ≡ o → IfSome o (λ c. c ≡ suc (greatest_commit (onto all []))) → (k : History) → history_of (all ++ x ∷ rest) ≡ history_of (all ++ x ∷ []) ++ k
+        → (more : History) × (history_of (all ++ x ∷ rest) ≡ history_of all ++ more)
     go None e f k g = (k, g ∙ ap (λ l. l ++ k) (history_same all x e))
     go (Some c) e f k g =
         let next : committed x ≡ Some (suc (greatest_commit all)) = e ∙ ap Some (f ∙ ap suc (same_mark all)) in
@@ -399,7 +445,9 @@ goes_on h all (x ∷ rest) first =
 line_plain : (r : Record) (line : Line) (reply : Reply) → IsLineOf r line → plain_reply line.reply ≡ reply → plain line ≡ record { session = r.session; place = r.place; reply = reply }
 line_plain r line reply is e = λ i. record { session = is.session i; place = is.place i; reply = e i }
 
-pub lines_exact : (h : History) (final : List Said) (all : List Said) (s : State) (rs : List Record) (lines : List Line) → Knows false all s → Ended (onto all []) → let rest : List Said = said_from (onto all []) rs lines in h ≡ history_of (all ++ rest) → HasShape rs lines → EachAfter (IsRight replay h final) (onto all []) rest → EachAfter (IsNext h) (onto all []) rest → AreAnswered s rs → Each (λ (r : Record). r.session ≤ s.sessions) rs → map plain lines ≡ lines_from s rs
+pub lines_exact : (h : History) (final : List Said) (all : List Said) (s : State) (rs : List Record) (lines : List Line) → Knows false all s → Ended (onto all []) →
+    let rest : List Said = said_from (onto all []) rs lines in h ≡ history_of (all ++ rest) → HasShape rs lines → EachAfter (IsRight replay h final) (onto all []) rest →
+    EachAfter (IsNext h) (onto all []) rest → AreAnswered s rs → Each (λ (r : Record). r.session ≤ s.sessions) rs → map plain lines ≡ lines_from s rs
 lines_exact h final all s [] [] knows ended is shape right first answered within = refl
 lines_exact h final all s [] (line ∷ lines) knows ended is shape right first answered within = absurd shape
 lines_exact h final all s (r ∷ rs) [] knows ended is shape right first answered within = absurd shape
@@ -410,10 +458,12 @@ lines_exact h final all s (r ∷ rs) (line ∷ lines) knows ended is shape right
     let back : now ∷ onto all [] ≡ onto (all ++ now ∷ []) [] = sym (onto_snoc all [] now) in
     let on = goes_on h all (said_from (onto all []) (r ∷ rs) (line ∷ lines)) first in
     let longer : h ≡ s.history ++ on.0 = is ∙ on.1 ∙ ap (λ k. k ++ on.0) knows.history in
-    let here : plain_reply line.reply ≡ (step s r.session st).0 = step_exact all s knows ended r.place r.session h on.0 longer final st answered.1 line.reply right.0.reply right.0.conflict right.0.fresh.exact first.0 in
+    let here : plain_reply line.reply ≡ (step s r.session st).0 = step_exact all s knows ended r.place r.session h on.0 longer final st answered.1 line.reply right.0.reply
+    right.0.conflict right.0.fresh.exact first.0 in
     let next : Knows false (all ++ now ∷ []) after = step_line false all s knows r.place r.session answered.0 within.0 st answered.1 line.reply here tt in
     let done : Ended (onto (all ++ now ∷ []) []) = subst Ended back (step_ended all s knows ended r.place r.session h on.0 longer st answered.1 line.reply) in
-    let whole : h ≡ history_of ((all ++ now ∷ []) ++ said_from (onto (all ++ now ∷ []) []) rs lines) = is ∙ ap history_of (sym (append_assoc all (now ∷ []) (said_from (now ∷ onto all []) rs lines)) ∙ ap (λ l. (all ++ now ∷ []) ++ said_from l rs lines) back) in
+    let whole : h ≡ history_of ((all ++ now ∷ []) ++ said_from (onto (all ++ now ∷ []) []) rs lines) = is ∙
+    ap history_of (sym (append_assoc all (now ∷ []) (said_from (now ∷ onto all []) rs lines)) ∙ ap (λ l. (all ++ now ∷ []) ++ said_from l rs lines) back) in
     let later = lines_exact h final (all ++ now ∷ []) after rs lines next done whole shape.1
     (subst (λ l. EachAfter (IsRight replay h final) l (said_from l rs lines)) back right.1)
     (subst (λ l. EachAfter (IsNext h) l (said_from l rs lines)) back first.1)
@@ -421,8 +471,11 @@ lines_exact h final all s (r ∷ rs) (line ∷ lines) knows ended is shape right
     (each_keeps (λ (q : Record). q.session ≤ s.sessions) (λ q. q.session ≤ after.sessions) (λ q k. subst (λ n. q.session ≤ n) (sym (step_sessions s r.session st)) k) rs within.1) in
     (λ i. line_plain r line (step s r.session st).0 shape.0 here i ∷ later i)
 
-pub sound_exact : (script : Script) (lines : List Line) → LinesAreSound replay script lines → EachAfter (IsFirst (history_of (all_said replay script lines))) [] (all_said replay script lines) → AreAnswered (start (greatest (map (λ (r : Record). r.session) script.records))) script.records → map plain lines ≡ replayed script
+pub sound_exact : (script : Script) (lines : List Line) → LinesAreSound replay script lines →
+    EachAfter (IsFirst (history_of (all_said replay script lines))) [] (all_said replay script lines) →
+    AreAnswered (start (greatest (map (λ (r : Record). r.session) script.records))) script.records → map plain lines ≡ replayed script
 sound_exact script lines sound first answered =
     let top : ℕ = greatest (map (λ (r : Record). r.session) script.records) in
     let all : List Said = all_said replay script lines in
-    lines_exact (history_of all) all [] (start top) script.records lines (knows_nothing false top) ended_nothing refl sound.shape sound.right.lines (all_next all sound.right.whole first) answered (each_most script.records top (omega arith))
+    lines_exact (history_of all) all [] (start top) script.records lines (knows_nothing false top) ended_nothing refl sound.shape sound.right.lines
+    (all_next all sound.right.whole first) answered (each_most script.records top (omega arith))

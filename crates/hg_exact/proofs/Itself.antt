@@ -33,7 +33,8 @@ held_plain opens n zero = refl
 held_plain opens n (suc many) = one (opens n) (held_plain opens (suc n) many)
   where
     one : (o : Option Open) → map plain_told (filter_map (λ j. told_of j (opens j)) (numbers_from (suc n) many)) ≡ filter_map (λ j. told_of j (opens j)) (numbers_from (suc n) many)
-        → map plain_told (cons_option (told_of n o) (filter_map (λ j. told_of j (opens j)) (numbers_from (suc n) many))) ≡ cons_option (told_of n o) (filter_map (λ j. told_of j (opens j)) (numbers_from (suc n) many))
+        → map plain_told (cons_option (told_of n o) (filter_map (λ j. told_of j (opens j)) (numbers_from (suc n) many))) ≡ cons_option (told_of n o)
+        (filter_map (λ j. told_of j (opens j)) (numbers_from (suc n) many))
     one None q = q
     one (Some o) q = ap (λ l. record { session = n; number = o.at; moved = false } ∷ l) q
 
@@ -62,9 +63,14 @@ lines_plain s (r ∷ rs) = λ i. record { session = r.session; place = r.place; 
 
 -- ---- and says of nothing that it was moved
 
-unmoved : (ts : List Told) (earlier : List Said) → map plain_told ts ≡ ts → Each (λ (told : Told). MatchBool told.moved (IfSome (open_of told.session earlier) (λ said. IsTrue (is_declared said.scope))) ⊤) ts
+unmoved : (ts : List Told) (earlier : List Said) → map plain_told ts ≡ ts →
+    Each (λ (told : Told). MatchBool told.moved (IfSome (open_of told.session earlier) (λ said. IsTrue (is_declared said.scope))) ⊤) ts
 unmoved [] earlier e = tt
-unmoved (t ∷ ts) earlier e = (subst (λ b. MatchBool b (IfSome (open_of t.session earlier) (λ said. IsTrue (is_declared said.scope))) ⊤) (ap (λ (x : Told). x.moved) (heads (plain_told t) t (map plain_told ts) ts e)) tt, unmoved ts earlier (tails (plain_told t) t (map plain_told ts) ts e))
+unmoved (t ∷ ts) earlier e = (
+  subst (λ b. MatchBool b (IfSome (open_of t.session earlier) (λ said. IsTrue (is_declared said.scope))) ⊤)
+      (ap (λ (x : Told). x.moved) (heads (plain_told t) t (map plain_told ts) ts e)) tt,
+  unmoved ts earlier (tails (plain_told t) t (map plain_told ts) ts e),
+)
   where
     heads : (x y : Told) (xs ys : List Told) → (x ∷ xs) ≡ (y ∷ ys) → x ≡ y
     heads x y xs ys f = cc
@@ -72,7 +78,9 @@ unmoved (t ∷ ts) earlier e = (subst (λ b. MatchBool b (IfSome (open_of t.sess
     tails : (x y : Told) (xs ys : List Told) → (x ∷ xs) ≡ (y ∷ ys) → xs ≡ ys
     tails x y xs ys f = cc
 
-moves_none : (earlier : List Said) (a : Answer) → plain_answer a ≡ a → IfSome (elim a [ Swept sweep ↦ Some sweep | _ ↦ None ]) (λ sweep. Each (λ (told : Told). MatchBool told.moved (IfSome (open_of told.session earlier) (λ said. IsTrue (is_declared said.scope))) ⊤) sweep.held)
+moves_none : (earlier : List Said) (a : Answer) → plain_answer a ≡ a →
+    IfSome (elim a [ Swept sweep ↦ Some sweep | _ ↦ None ]) (λ sweep. Each
+    (λ (told : Told). MatchBool told.moved (IfSome (open_of told.session earlier) (λ said. IsTrue (is_declared said.scope))) ⊤) sweep.held)
 moves_none earlier (Swept sweep) e = unmoved sweep.held earlier (ap (λ (x : Sweep). x.held) (same (plain_sweep sweep) sweep e))
   where
     same : (x y : Sweep) → Swept x ≡ Swept y → x ≡ y
@@ -84,7 +92,9 @@ moves_nothing earlier s [] = tt
 moves_nothing earlier s (r ∷ rs) =
     let reply : Reply = (step s r.session r.statement).0 in
     let says = said_says (last_of r.session earlier) r reply r.statement in (
-      subst (λ (x : Reply). IfSome (report_of x) (λ sweep. Each (λ (told : Told). MatchBool told.moved (IfSome (open_of told.session earlier) (λ said. IsTrue (is_declared said.scope))) ⊤) sweep.held)) (sym says.2) (moves_none earlier reply.answer (ap (λ (x : Reply). x.answer) (step_plain s r.session r.statement))),
+      subst (λ (x : Reply). IfSome (report_of x) (λ sweep. Each
+          (λ (told : Told). MatchBool told.moved (IfSome (open_of told.session earlier) (λ said. IsTrue (is_declared said.scope))) ⊤) sweep.held)) (sym says.2)
+          (moves_none earlier reply.answer (ap (λ (x : Reply). x.answer) (step_plain s r.session r.statement))),
       moves_nothing (said earlier r reply ∷ earlier) (step s r.session r.statement).1 rs,
     )
 

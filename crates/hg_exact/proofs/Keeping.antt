@@ -39,7 +39,8 @@ pub others : (r : Rid) (ws : List Write) → image_in r ws ≡ None → Each (λ
 others r [] e = tt
 others r (w ∷ ws) e = go (same_rid w.rid r) refl e (λ f. others r ws f)
   where
-    go : (b : Bool) → same_rid w.rid r ≡ b → cond b (Some w.image) (image_in r ws) ≡ None → (image_in r ws ≡ None → Each (λ v. same_rid v.rid r ≡ false) ws) → (same_rid w.rid r ≡ false) × Each (λ v. same_rid v.rid r ≡ false) ws
+    go : (b : Bool) → same_rid w.rid r ≡ b → cond b (Some w.image) (image_in r ws) ≡ None → (image_in r ws ≡ None → Each (λ v. same_rid v.rid r ≡ false) ws) →
+        (same_rid w.rid r ≡ false) × Each (λ v. same_rid v.rid r ≡ false) ws
     go true f g later = absurd (some_none w.image g)
     go false f g later = (f, later g)
 
@@ -102,7 +103,8 @@ pub kept_nothing : (sessions : ℕ) → AreKept sessions [] (λ j. None)
 kept_nothing sessions = record { each = λ j. tt; apart = λ j k r f s. refl }
 
 -- session j has another transaction open, or none: what it wrote there, no other has written
-pub kept_but : (sessions : ℕ) (h : History) (opens : ℕ → Option Open) (j : ℕ) (x : Option Open) → AreKept sessions h opens → IfSome x (IsKept sessions h j) → ((k : ℕ) (r : Rid) → (k ≡ j → ⊥) → IsSome (image_in r (wrote_by x)) → image_in r (wrote_by (opens k)) ≡ None) → AreKept sessions h (but opens j x)
+pub kept_but : (sessions : ℕ) (h : History) (opens : ℕ → Option Open) (j : ℕ) (x : Option Open) → AreKept sessions h opens → IfSome x (IsKept sessions h j) →
+    ((k : ℕ) (r : Rid) → (k ≡ j → ⊥) → IsSome (image_in r (wrote_by x)) → image_in r (wrote_by (opens k)) ≡ None) → AreKept sessions h (but opens j x)
 kept_but sessions h opens j x kept is alone = record {
   each = by_number j (λ k b. IfSome (if b then x else opens k) (IsKept sessions h k)) is (λ k f. kept.each k);
   apart = λ i k r f. by_number j (λ i b. (i ≡ k → ⊥) → IsSome (image_in r (wrote_by (if b then x else opens i))) → image_in r (wrote_by (but opens j x k)) ≡ None)
@@ -129,7 +131,8 @@ writes_more h c r e = writes_from_snoc 1 h (c ∷ []) r ∙ ap (λ o. writes h r
     nil (w ∷ ws) = ap (λ vs. w ∷ vs) (nil ws)
 
 -- a transaction that has written none of what the group writes
-pub kept_longer : (sessions : ℕ) (h : History) (c : Commit) (ws : List Write) (k : ℕ) (o : Open) → c.images ≡ last_images ws → ((r : Rid) → IsSome (image_in r o.wrote) → image_in r ws ≡ None) → IsKept sessions h k o → IsKept sessions (h ++ (c ∷ []) ∷ []) k o
+pub kept_longer : (sessions : ℕ) (h : History) (c : Commit) (ws : List Write) (k : ℕ) (o : Open) → c.images ≡ last_images ws →
+    ((r : Rid) → IsSome (image_in r o.wrote) → image_in r ws ≡ None) → IsKept sessions h k o → IsKept sessions (h ++ (c ∷ []) ∷ []) k o
 kept_longer sessions h c ws k o is alone kept = record {
   some = kept.some;
   most = kept.most;
@@ -137,15 +140,18 @@ kept_longer sessions h c ws k o is alone kept = record {
   loses = longer o.wrote (λ r s. ap (image_in r) is ∙ none_last r ws (alone r s)) kept.loses;
 }
   where
-    longer : (vs : List Write) → ((r : Rid) → IsSome (image_in r vs) → image_in r c.images ≡ None) → Each (λ w. Each (λ (other : ℕ × Image). other.0 ≤ o.at) (writes h w.rid)) vs → Each (λ w. Each (λ (other : ℕ × Image). other.0 ≤ o.at) (writes (h ++ (c ∷ []) ∷ []) w.rid)) vs
+    longer : (vs : List Write) → ((r : Rid) → IsSome (image_in r vs) → image_in r c.images ≡ None) → Each (λ w. Each (λ (other : ℕ × Image). other.0 ≤ o.at) (writes h w.rid)) vs →
+        Each (λ w. Each (λ (other : ℕ × Image). other.0 ≤ o.at) (writes (h ++ (c ∷ []) ∷ []) w.rid)) vs
     longer vs f e = both vs (each_written (λ r. image_in r c.images ≡ None) vs f) e
       where
-        both : (us : List Write) → Each (λ w. image_in w.rid c.images ≡ None) us → Each (λ w. Each (λ (other : ℕ × Image). other.0 ≤ o.at) (writes h w.rid)) us → Each (λ w. Each (λ (other : ℕ × Image). other.0 ≤ o.at) (writes (h ++ (c ∷ []) ∷ []) w.rid)) us
+        both : (us : List Write) → Each (λ w. image_in w.rid c.images ≡ None) us → Each (λ w. Each (λ (other : ℕ × Image). other.0 ≤ o.at) (writes h w.rid)) us →
+            Each (λ w. Each (λ (other : ℕ × Image). other.0 ≤ o.at) (writes (h ++ (c ∷ []) ∷ []) w.rid)) us
         both [] n e = tt
         both (u ∷ us) n e = (subst (Each (λ (other : ℕ × Image). other.0 ≤ o.at)) (sym (writes_more h c u.rid n.0)) e.0, both us n.1 e.1)
 
 -- the transaction of session j is committed, and then it has none open
-pub kept_commit : (sessions : ℕ) (h : History) (c : Commit) (ws : List Write) (opens : ℕ → Option Open) (j : ℕ) → c.images ≡ last_images ws → ((k : ℕ) (r : Rid) → (k ≡ j → ⊥) → IsSome (image_in r (wrote_by (opens k))) → image_in r ws ≡ None) → AreKept sessions h opens → AreKept sessions (h ++ (c ∷ []) ∷ []) (but opens j None)
+pub kept_commit : (sessions : ℕ) (h : History) (c : Commit) (ws : List Write) (opens : ℕ → Option Open) (j : ℕ) → c.images ≡ last_images ws →
+    ((k : ℕ) (r : Rid) → (k ≡ j → ⊥) → IsSome (image_in r (wrote_by (opens k))) → image_in r ws ≡ None) → AreKept sessions h opens → AreKept sessions (h ++ (c ∷ []) ∷ []) (but opens j None)
 kept_commit sessions h c ws opens j is alone kept =
     let closed : AreKept sessions h (but opens j None) = kept_but sessions h opens j None kept tt (λ k r f s. absurd (let bad : false ≡ true = s in cc)) in
     record {
@@ -164,7 +170,8 @@ pub picked_first : {Y : Type 0} (f : ℕ → Option Y) (n many : ℕ) (y : Y) (y
 picked_first f n zero y ys e = absurd (let bad : [] ≡ y ∷ ys = e in cc)
 picked_first f n (suc many) y ys e = go (f n) refl e (λ g. picked_first f (suc n) many y ys g)
   where
-    go : (o : Option _) → f n ≡ o → cons_option o (filter_map f (numbers_from (suc n) many)) ≡ y ∷ ys → (filter_map f (numbers_from (suc n) many) ≡ y ∷ ys → (k : ℕ) × (f k ≡ Some y)) → (k : ℕ) × (f k ≡ Some y)
+    go : (o : Option _) → f n ≡ o → cons_option o (filter_map f (numbers_from (suc n) many)) ≡ y ∷ ys →
+        (filter_map f (numbers_from (suc n) many) ≡ y ∷ ys → (k : ℕ) × (f k ≡ Some y)) → (k : ℕ) × (f k ≡ Some y)
     go None g e later = later e
     go (Some z) g e later = (n, g ∙ ap Some (first_same e))
       where
@@ -181,11 +188,13 @@ picked_nothing f n (suc many) e k a b = go (f n) refl e (λ g c. picked_nothing 
     go None g e later = cases (n == k) (λ q. subst (λ m. f m ≡ None) ((Decides-eqb n k).0 q) g) (λ q. later e (grind (arith, nat_tests)))
 
 -- the writer of an open write, and its transaction
-pub writer_is : (r : Rid) (j : ℕ) (x : Option Open) (w : Writer) → writer_of r j x ≡ Some w → (o : Open) × (x ≡ Some o) × IsSome (image_in r o.wrote) × (w.session ≡ j) × (w.transaction ≡ o.transaction)
+pub writer_is : (r : Rid) (j : ℕ) (x : Option Open) (w : Writer) → writer_of r j x ≡ Some w → (o : Open) × (x ≡ Some o) × IsSome (image_in r o.wrote) × (w.session ≡ j) ×
+    (w.transaction ≡ o.transaction)
 writer_is r j None w e = absurd (let bad : None ≡ Some w = e in cc)
 writer_is r j (Some o) w e = go (has_written r o) refl e
   where
-    go : (b : Bool) → has_written r o ≡ b → (if b then Some (record { session = j; transaction = o.transaction }) else None) ≡ Some w → (p : Open) × (Some o ≡ Some p) × IsSome (image_in r p.wrote) × (w.session ≡ j) × (w.transaction ≡ p.transaction)
+    go : (b : Bool) → has_written r o ≡ b → (if b then Some (record { session = j; transaction = o.transaction }) else None) ≡ Some w → (p : Open) × (Some o ≡ Some p) ×
+        IsSome (image_in r p.wrote) × (w.session ≡ j) × (w.transaction ≡ p.transaction)
     go true f g = (o, refl, f, ap (λ (v : Writer). v.session) (same g), ap (λ (v : Writer). v.transaction) (same g))
       where
         same : Some (record { session = j; transaction = o.transaction }) ≡ Some w → w ≡ record { session = j; transaction = o.transaction }
@@ -211,8 +220,10 @@ nobody s r kept e k = go (s.opened k) refl (kept.each k)
 
 -- ---- the outcomes of a write
 
-pub written_by : (P : Answer → Type 0) (s : State) (o : Open) (r : Rid) (answer : Answer) → (IsSome (image_in r o.wrote) → P answer) → (image_in r o.wrote ≡ None → writers s r ≡ [] → newest s.history r ≤ o.at → P answer)
-    → ((w : Writer) (ws : List Writer) → image_in r o.wrote ≡ None → writers s r ≡ w ∷ ws → P (OpenBy w)) → (image_in r o.wrote ≡ None → writers s r ≡ [] → o.at < newest s.history r → P (Newer (newest s.history r))) → P (written s o r answer)
+pub written_by : (P : Answer → Type 0) (s : State) (o : Open) (r : Rid) (answer : Answer) → (IsSome (image_in r o.wrote) → P answer) →
+    (image_in r o.wrote ≡ None → writers s r ≡ [] → newest s.history r ≤ o.at → P answer)
+    → ((w : Writer) (ws : List Writer) → image_in r o.wrote ≡ None → writers s r ≡ w ∷ ws → P (OpenBy w)) →
+    (image_in r o.wrote ≡ None → writers s r ≡ [] → o.at < newest s.history r → P (Newer (newest s.history r))) → P (written s o r answer)
 written_by P s o r answer own stored held newer = go (has_written r o) refl (writers s r) refl
   where
     at_most : (m n : ℕ) → nat_lt m n ≡ false → n ≤ m

@@ -51,7 +51,8 @@ pub none_later : (n : ℕ) (earlier rest : List Said) → n ≤ greatest_commit 
 none_later n earlier [] k h = refl
 none_later n earlier (x ∷ rest) k h = go (committed x) h.0 (λ l. none_later n (x ∷ earlier) rest l h.1) refl
   where
-    go : (o : Option ℕ) → IfSome o (λ c. greatest_commit earlier < c) → (n ≤ greatest_commit (x ∷ earlier) → list_any (λ m. m == n) (filter_map committed rest) ≡ false) → committed x ≡ o → list_any (λ m. m == n) (cons_option o (filter_map committed rest)) ≡ false
+    go : (o : Option ℕ) → IfSome o (λ c. greatest_commit earlier < c) → (n ≤ greatest_commit (x ∷ earlier) → list_any (λ m. m == n) (filter_map committed rest) ≡ false) →
+        committed x ≡ o → list_any (λ m. m == n) (cons_option o (filter_map committed rest)) ≡ false
     go None f later e = later (subst (λ q. n ≤ greatest (cons_option q (filter_map committed earlier))) (sym e) k)
     go (Some c) f later e =
         let differs : (c == n) ≡ false = (let l : greatest_commit earlier < c = f in grind (arith, nat_tests)) in
@@ -60,7 +61,8 @@ none_later n earlier (x ∷ rest) k h = go (committed x) h.0 (λ l. none_later n
         over : (d : ℕ) → n ≤ max d (greatest (filter_map committed earlier))
         over d = omega (arith, k)
 
-number_next : (all earlier : List Said) (now : Said) (rest : List Said) (c : ℕ) → onto all [] ≡ onto rest (now ∷ earlier) → IsWhole all → c ≤ greatest_commit all → committed now ≡ Some c → greatest_commit earlier < c → EachAfter Ascends (now ∷ earlier) rest → c ≡ suc (greatest_commit earlier)
+number_next : (all earlier : List Said) (now : Said) (rest : List Said) (c : ℕ) → onto all [] ≡ onto rest (now ∷ earlier) → IsWhole all → c ≤ greatest_commit all →
+    committed now ≡ Some c → greatest_commit earlier < c → EachAfter Ascends (now ∷ earlier) rest → c ≡ suc (greatest_commit earlier)
 number_next all earlier now rest c is whole most e l later = cases (suc (greatest_commit earlier) == c)
     (λ q. sym ((Decides-eqb (suc (greatest_commit earlier)) c).0 q))
     (λ q.
@@ -71,8 +73,10 @@ number_next all earlier now rest c is whole most e l later = cases (suc (greates
     in_onto : (n : ℕ) (xs es : List ℕ) → list_any (λ k. k == n) xs ≡ true → list_any (λ k. k == n) (onto xs es) ≡ true
     in_onto n xs es h = any_from_onto (λ k. k == n) xs es h
 
-    there : (n : ℕ) → list_any (λ k. k == n) (filter_map committed all) ≡ true → (list_any (λ k. k == n) (filter_map committed rest) ≡ true) ⊎ (list_any (λ k. k == n) (filter_map committed (now ∷ earlier)) ≡ true)
-    there n h = any_onto (λ k. k == n) (filter_map committed rest) (filter_map committed (now ∷ earlier)) (sym (ap (list_any (λ k. k == n)) (sym (picked_onto committed all []) ∙ ap (filter_map committed) is ∙ picked_onto committed rest (now ∷ earlier))) ∙ in_onto n (filter_map committed all) [] h)
+    there : (n : ℕ) → list_any (λ k. k == n) (filter_map committed all) ≡ true →
+        (list_any (λ k. k == n) (filter_map committed rest) ≡ true) ⊎ (list_any (λ k. k == n) (filter_map committed (now ∷ earlier)) ≡ true)
+    there n h = any_onto (λ k. k == n) (filter_map committed rest) (filter_map committed (now ∷ earlier))
+        (sym (ap (list_any (λ k. k == n)) (sym (picked_onto committed all []) ∙ ap (filter_map committed) is ∙ picked_onto committed rest (now ∷ earlier))) ∙ in_onto n (filter_map committed all) [] h)
 
     at_now : greatest_commit (now ∷ earlier) ≡ max c (greatest_commit earlier)
     at_now = ap (λ o. greatest (cons_option o (filter_map committed earlier))) e
@@ -88,7 +92,9 @@ number_next all earlier now rest c is whole most e l later = cases (suc (greates
 most_all : (ns : List ℕ) (n : ℕ) → list_any (λ k. k == n) ns ≡ true → n ≤ greatest ns
 most_all ns n h = any_below n ns h
 
-next_from : (h : History) (all earlier rest : List Said) → onto all [] ≡ onto rest earlier → IsWhole all → ((c : ℕ) → list_any (λ k. k == c) (filter_map committed rest) ≡ true → c ≤ greatest_commit all) → EachAfter (IsFirst h) earlier rest → EachAfter Ascends earlier rest → EachAfter (IsNext h) earlier rest
+next_from : (h : History) (all earlier rest : List Said) → onto all [] ≡ onto rest earlier → IsWhole all →
+    ((c : ℕ) → list_any (λ k. k == c) (filter_map committed rest) ≡ true → c ≤ greatest_commit all) → EachAfter (IsFirst h) earlier rest → EachAfter Ascends earlier rest →
+    EachAfter (IsNext h) earlier rest
 next_from h all earlier [] is whole most first up = tt
 next_from h all earlier (x ∷ rest) is whole most first up = (
   record { number = go (committed x) refl up.0; cause = first.0.cause },
@@ -111,7 +117,8 @@ next_from h all earlier (x ∷ rest) is whole most first up = (
 
     go : (o : Option ℕ) → committed x ≡ o → IfSome o (λ c. greatest_commit earlier < c) → IfSome o (λ c. c ≡ suc (greatest_commit earlier))
     go None e f = tt
-    go (Some c) e f = number_next all earlier x rest c is whole (most c (ap (λ o. list_any (λ k. k == c) (cons_option o (filter_map committed rest))) e ∙ ap (λ b. b || list_any (λ k. k == c) (filter_map committed rest)) (same c))) e f up.1
+    go (Some c) e f = number_next all earlier x rest c is whole (most c (ap (λ o. list_any (λ k. k == c) (cons_option o (filter_map committed rest))) e ∙
+        ap (λ b. b || list_any (λ k. k == c) (filter_map committed rest)) (same c))) e f up.1
 
 ups : (h : History) (earlier rest : List Said) → EachAfter (IsFirst h) earlier rest → EachAfter Ascends earlier rest
 ups h earlier [] f = tt

@@ -1,5 +1,6 @@
 -- The rows that are seen of a table are those of a scan, and the first of them those of a fetch.
-use Rattle.std.proofs.Common.{◌≡◌, ℕ, suc, ◌<◌, ◌≤◌, ◌⊎◌, inl, inr, List, [], ◌∷◌, ◌++◌, length, map, take, drop, Bool, true, false, Option, Some, None, refl, sym, ap, ◌∙◌, subst, arith, take_all, length-take, take-append-drop}
+use Rattle.std.proofs.Common.{◌≡◌, ℕ, suc, ◌<◌, ◌≤◌, ◌⊎◌, inl, inr, List, [], ◌∷◌, ◌++◌, length, map, take, drop, Bool, true, false, Option, Some, None, refl, sym, ap, ◌∙◌, subst, arith}
+use Rattle.std.proofs.Common.{take_all, length-take, take-append-drop}
 use Rattle.std.specs.Prelude.{◌==◌, ◌&&◌, ◌||◌, cond, filter, filter_map, unwrap_or, nat_lt, nat_le, option_map, IsTrue}
 use Rattle.std.specs.List.{list_any, cons_option, flat_map}
 use Rattle.std.specs.Option.{option_or}
@@ -73,7 +74,8 @@ placed_ascends k (m ∷ ms) h = go (nat_lt k m) refl (k == m) refl (placed_ascen
 
 pub keys_ascend : (table : TableId) (rids : List Rid) → Ascends (keys_in table rids)
 keys_ascend table [] = tt
-keys_ascend table (r ∷ rs) = cond_by Ascends (r.table.0 == table.0) (placed r.key (keys_in table rs)) (keys_in table rs) (λ e. placed_ascends r.key (keys_in table rs) (keys_ascend table rs)) (λ e. keys_ascend table rs)
+keys_ascend table (r ∷ rs) = cond_by Ascends (r.table.0 == table.0) (placed r.key (keys_in table rs)) (keys_in table rs)
+    (λ e. placed_ascends r.key (keys_in table rs) (keys_ascend table rs)) (λ e. keys_ascend table rs)
 
 abbrev has : ℕ → List ℕ → Bool
 has key ks = list_any (λ k. k == key) ks
@@ -122,7 +124,8 @@ keys_have table key (r ∷ rs) e = go (r.table.0 == table.0) refl (same_rid (rec
     here : (r.key == key) ≡ true → has key (placed r.key (keys_in table rs)) ≡ true
     here f = subst (λ k. has k (placed r.key (keys_in table rs)) ≡ true) ((Decides-eqb r.key key).0 f) (placed_has r.key (keys_in table rs))
 
-    go : (b : Bool) → (r.table.0 == table.0) ≡ b → (c : Bool) → same_rid (record { table = table; key = key }) r ≡ c → (is_among (record { table = table; key = key }) rs ≡ true → has key (keys_in table rs) ≡ true) → has key (cond b (placed r.key (keys_in table rs)) (keys_in table rs)) ≡ true
+    go : (b : Bool) → (r.table.0 == table.0) ≡ b → (c : Bool) → same_rid (record { table = table; key = key }) r ≡ c →
+        (is_among (record { table = table; key = key }) rs ≡ true → has key (keys_in table rs) ≡ true) → has key (cond b (placed r.key (keys_in table rs)) (keys_in table rs)) ≡ true
     go true f true g later = here (let k : (table.0 == r.table.0) && (key == r.key) ≡ true = g in grind (arith, nat_tests))
     go true f false g later = placed_keeps r.key key (keys_in table rs) (later (sym (ap (λ b. b || is_among (record { table = table; key = key }) rs) g) ∙ e))
     go false f true g later = absurd (let k : (table.0 == r.table.0) && (key == r.key) ≡ true = g in grind (arith, nat_tests))
@@ -190,7 +193,8 @@ module _ (look : ℕ → Image) (low : ℕ) (high : ℕ) where
   picked_ascend [] h = tt
   picked_ascend (k ∷ ks) h = go (nat_le low k && nat_le k high) (look k).row (picked_ascend ks (ascends_tail k ks h)) (picked_over k ks (ascends_over k ks h))
     where
-      go : (b : Bool) (o : Option (List Value)) → Ascends (keys (picked ks)) → Each (λ m. k < m) (keys (picked ks)) → Ascends (keys (cons_option (cond b (option_map (λ row. (k, row)) o) None) (picked ks)))
+      go : (b : Bool) (o : Option (List Value)) → Ascends (keys (picked ks)) → Each (λ m. k < m) (keys (picked ks)) →
+          Ascends (keys (cons_option (cond b (option_map (λ row. (k, row)) o) None) (picked ks)))
       go true None a e = a
       go true (Some row) a e = ascends_cons k (keys (picked ks)) e a
       go false o a e = a
@@ -202,7 +206,8 @@ module _ (look : ℕ → Image) (low : ℕ) (high : ℕ) where
   picked_each [] = tt
   picked_each (k ∷ ks) = go (nat_le low k && nat_le k high) refl (look k).row refl (picked_each ks)
     where
-      go : (b : Bool) → (nat_le low k && nat_le k high) ≡ b → (o : Option (List Value)) → (look k).row ≡ o → Each IsRow (picked ks) → Each IsRow (cons_option (cond b (option_map (λ row. (k, row)) o) None) (picked ks))
+      go : (b : Bool) → (nat_le low k && nat_le k high) ≡ b → (o : Option (List Value)) → (look k).row ≡ o → Each IsRow (picked ks) →
+          Each IsRow (cons_option (cond b (option_map (λ row. (k, row)) o) None) (picked ks))
       go true e None f h = h
       go true e (Some row) f h = (((in_range k e).0, (in_range k e).1, f), h)
       go false e o f h = h
@@ -211,7 +216,8 @@ module _ (look : ℕ → Image) (low : ℕ) (high : ℕ) where
   picked_every : (key : ℕ) (ks : List ℕ) → low ≤ key → key ≤ high → has key ks ≡ true → IsTrue (list_any (λ p. p.0 == key) (picked ks)) ⊎ ((look key).row ≡ None)
   picked_every key [] a b e = absurd (let bad : false ≡ true = e in cc)
   picked_every key (k ∷ ks) a b e = cases (k == key)
-      (λ f. subst (λ n. IsTrue (list_any (λ p. p.0 == key) (cons_option (row_within look low high n) (picked ks))) ⊎ ((look key).row ≡ None)) (sym ((Decides-eqb k key).0 f)) (here (look key).row refl))
+      (λ f. subst (λ n. IsTrue (list_any (λ p. p.0 == key) (cons_option (row_within look low high n) (picked ks))) ⊎ ((look key).row ≡ None)) (sym ((Decides-eqb k key).0 f))
+      (here (look key).row refl))
       (λ f. there (row_within look low high k) (picked_every key ks a b (sym (ap (λ c. c || has key ks) f) ∙ e)))
     where
       inside : (nat_le low key && nat_le key high) ≡ true
@@ -219,9 +225,13 @@ module _ (look : ℕ → Image) (low : ℕ) (high : ℕ) where
 
       here : (o : Option (List Value)) → (look key).row ≡ o → IsTrue (list_any (λ p. p.0 == key) (cons_option (row_within look low high key) (picked ks))) ⊎ ((look key).row ≡ None)
       here None f = inr f
-      here (Some row) f = inl (ap (λ (x : Bool). list_any (λ (p : ℕ × List Value). p.0 == key) (cons_option (cond x (option_map (λ row. (key, row)) (look key).row) None) (picked ks))) inside ∙ ap (λ (o : Option (List Value)). list_any (λ (p : ℕ × List Value). p.0 == key) (cons_option (option_map (λ row. (key, row)) o) (picked ks))) f ∙ ap (λ c. c || list_any (λ (p : ℕ × List Value). p.0 == key) (picked ks)) (same_number key))
+      here (Some row) f = inl (ap (λ (x : Bool). list_any (λ (p : ℕ × List Value). p.0 == key)
+          (cons_option (cond x (option_map (λ row. (key, row)) (look key).row) None) (picked ks))) inside ∙
+          ap (λ (o : Option (List Value)). list_any (λ (p : ℕ × List Value). p.0 == key) (cons_option (option_map (λ row. (key, row)) o) (picked ks))) f ∙
+          ap (λ c. c || list_any (λ (p : ℕ × List Value). p.0 == key) (picked ks)) (same_number key))
 
-      there : (o : Option (ℕ × List Value)) → IsTrue (list_any (λ p. p.0 == key) (picked ks)) ⊎ ((look key).row ≡ None) → IsTrue (list_any (λ p. p.0 == key) (cons_option o (picked ks))) ⊎ ((look key).row ≡ None)
+      there : (o : Option (ℕ × List Value)) → IsTrue (list_any (λ p. p.0 == key) (picked ks)) ⊎ ((look key).row ≡ None) →
+          IsTrue (list_any (λ p. p.0 == key) (cons_option o (picked ks))) ⊎ ((look key).row ≡ None)
       there None h = h
       there (Some p) (inl h) = inl (or_keeps (p.0 == key) (list_any (λ (q : ℕ × List Value). q.0 == key) (picked ks)) h)
       there (Some p) (inr h) = inr h
@@ -271,7 +281,8 @@ each_two P Q R (x ∷ xs) f h k = (f x h.0 k.0, each_two P Q R xs f h.1 k.1)
 -- of the rows of a range, one that is not over those of the beginning is in the beginning
 in_first : (key n : ℕ) (xs ys : Rows) → key ≤ n → Each (λ q. n < q.0) ys → IsTrue (list_any (λ p. p.0 == key) (xs ++ ys)) → IsTrue (list_any (λ p. p.0 == key) xs)
 in_first key n [] [] k h e = e
-in_first key n [] (y ∷ ys) k h e = in_first key n [] ys k h.1 (sym (ap (λ b. b || list_any (λ (p : ℕ × List Value). p.0 == key) ys) (let a : n < y.0 = h.0 in let f : (y.0 == key) ≡ false = grind (arith, nat_tests) in f)) ∙ e)
+in_first key n [] (y ∷ ys) k h e = in_first key n [] ys k h.1 (sym (ap (λ b. b || list_any (λ (p : ℕ × List Value). p.0 == key) ys) (let a : n < y.0 = h.0 in
+    let f : (y.0 == key) ≡ false = grind (arith, nat_tests) in f)) ∙ e)
 in_first key n (x ∷ xs) ys k h e = or_more (x.0 == key) (list_any (λ (p : ℕ × List Value). p.0 == key) (xs ++ ys)) (list_any (λ (p : ℕ × List Value). p.0 == key) xs) e (in_first key n xs ys k h)
 
 first_are : (look : ℕ → Image) (low high : ℕ) (p : ℕ × List Value) (rows more : Rows) → AreRows look low high (p ∷ (rows ++ more)) → AreRows look low (last_key high (p ∷ rows)) (p ∷ rows)
@@ -289,7 +300,8 @@ first_are look low high p rows more a =
     last_most q [] h = h.0.1
     last_most q (r ∷ qs) h = last_most r qs h.1
 
-    among : (key : ℕ) → key ≤ last_key high (p ∷ rows) → IsTrue (list_any (λ q. q.0 == key) (p ∷ (rows ++ more))) ⊎ ((look key).row ≡ None) → IsTrue (list_any (λ q. q.0 == key) (p ∷ rows)) ⊎ ((look key).row ≡ None)
+    among : (key : ℕ) → key ≤ last_key high (p ∷ rows) → IsTrue (list_any (λ q. q.0 == key) (p ∷ (rows ++ more))) ⊎ ((look key).row ≡ None) →
+        IsTrue (list_any (λ q. q.0 == key) (p ∷ rows)) ⊎ ((look key).row ≡ None)
     among key c (inl e) = inl (in_first key (last_key high (p ∷ rows)) (p ∷ rows) more c (after_last high p rows more a.ascend) e)
     among key c (inr e) = inr e
 
@@ -322,7 +334,8 @@ first_rows look n low high rows some a = go (nat_lt (length (take n rows)) n) re
         }
     go false e =
         let is : passed n high (take n rows) ≡ last_key high (take n rows) = ap (λ b. cond b high (last_key high (take n rows))) e in
-        let all = last_within (take n rows) (drop n rows) (let k : n ≤ length (take n rows) = grind (arith, nat_tests) in omega (arith, k, some)) (subst (AreRows look low high) (sym (take-append-drop n rows)) a) in
+        let all = last_within (take n rows) (drop n rows) (let k : n ≤ length (take n rows) = grind (arith, nat_tests) in
+        omega (arith, k, some)) (subst (AreRows look low high) (sym (take-append-drop n rows)) a) in
         record {
           few = few;
           within = subst (λ m. m ≤ high) (sym is) all.0;

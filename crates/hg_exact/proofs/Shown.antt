@@ -21,7 +21,8 @@ use Rattle.hg_base.specs.Conflicts.{target}
 use Rattle.hg_base.specs.History.{Commit, Group, History, does_write, group_at, group_from, group_image, image_in, writes_from}
 use Rattle.hg_base.specs.Script.{Script, replay}
 use Rattle.hg_base.specs.Sound.{LinesAreSound, all_said}
-use Rattle.hg_base.specs.Transcript.{Rest, Said, commits, commits_from, greatest_commit, group_of, history_of, last_of, next_after, open_of, own_writes, rest_after, said, said_from, standing, stored_in}
+use Rattle.hg_base.specs.Transcript.{Rest, Said, commits, commits_from, greatest_commit, group_of, history_of, last_of, next_after, open_of, own_writes, rest_after, said, said_from}
+use Rattle.hg_base.specs.Transcript.{standing, stored_in}
 use Rattle.hg_base.proofs.ListFacts.{append_nil}
 use Rattle.hg_base.proofs.Resting.{left_nothing}
 use Rattle.hg_core.specs.declared.log.LogEntry.{LogEntry}
@@ -30,6 +31,7 @@ use Rattle.hg_core.specs.Judged.{Judged, of_session}
 use Rattle.hg_core.specs.Logs.{begans, current, published}
 use Rattle.hg_core.specs.Logs.{own_writes as own_in_log}
 use Rattle.hg_core.specs.Reading.{Follows, log_after}
+use Rattle.hg_core.proofs.Firsts.{of_all}
 use Rattle.hg_core.proofs.Replies.{group_does}
 use Rattle.hg_core.proofs.Right.{places_of}
 use Rattle.hg_core.proofs.Updates.{some_is as some_of_yes}
@@ -51,7 +53,7 @@ use Rattle.hg_headline.proofs.Words.{same_number}
 use Rattle.hg_script.specs.Lawful.{IsLawful}
 use Rattle.hg_exact.specs.First.{IsFirst, IsFirstCause, IsFree, IsNewest}
 use Rattle.hg_exact.specs.Replayed.{plain, replayed}
-use Rattle.hg_exact.specs.Shown.{HasOpen, IsFreeIn, IsNewestIn, ShowsFirst, ShowsFirsts, reads_at}
+use Rattle.hg_core.specs.Shown.{HasOpen, IsFreeIn, IsNewestIn, ShowsFirst, ShowsFirsts, reads_at}
 use Rattle.hg_exact.proofs.Ascending.{CommitAscends, sound_ascends}
 use Rattle.hg_exact.proofs.Asked.{lawful_asked}
 use Rattle.hg_exact.proofs.Exact.{sound_exact}
@@ -70,7 +72,8 @@ no_test e = cc
 own_same : (j x : ℕ) (earlier : List Said) (l : List LogEntry) (c : Snapshot) → Ties j earlier l → current l ≡ Some c → x ≡ begans l → stored_in j x earlier ≡ own_in_log l
 own_same j x earlier l c t e number = ap (λ y. stored_in j y earlier) number ∙ t.own (begans l) ∙ sym (own_is l c e)
 
-has_open : (j : ℕ) (earlier : List Said) (l : List LogEntry) (r : Rid) (q : Said) → Ties j earlier l → open_of j earlier ≡ Some q → IsSome (image_in r (stored_in j q.transaction earlier)) → HasOpen l r
+has_open : (j : ℕ) (earlier : List Said) (l : List LogEntry) (r : Rid) (q : Said) → Ties j earlier l → open_of j earlier ≡ Some q →
+    IsSome (image_in r (stored_in j q.transaction earlier)) → HasOpen l r
 has_open j earlier l r q t e wrote = go (current l) refl (subst (λ o. StandsIn o (current l) (begans l)) e t.standing)
   where
     go : (c : Option Snapshot) → current l ≡ c → StandsIn (Some q) c (begans l) → HasOpen l r
@@ -128,7 +131,8 @@ at_same now None (Some c) x h p = absurd h
 at_same now (Some q) None x h p = absurd h
 at_same now (Some q) (Some c) x h p = sym (p.1 ∙ h.1.0)
 
-own_shown : (earlier : List Said) (now : Said) (j : ℕ) (l : List LogEntry) (r : Rid) → now.session ≡ j → Ties j earlier l → Placed (open_of j earlier) now → HasOpen l r → IsSome (image_in r (own_writes earlier now))
+own_shown : (earlier : List Said) (now : Said) (j : ℕ) (l : List LogEntry) (r : Rid) → now.session ≡ j → Ties j earlier l → Placed (open_of j earlier) now → HasOpen l r →
+    IsSome (image_in r (own_writes earlier now))
 own_shown earlier now j l r mine t p h =
     let c = some_of_yes (current l) h.0 in
     go (open_of j earlier) c.0 c.1 (subst (λ o. StandsIn (open_of j earlier) o (begans l)) c.1 t.standing) p
@@ -143,7 +147,10 @@ does_group : (first : ℕ) (h : History) (r : Rid) (n : ℕ) → list_any (λ (w
 does_group first [] r n does = absurd (no_test does)
 does_group first (g ∷ gs) r n does = go (first == n) refl (group_image r g) refl does (does_group (suc first) gs r n)
   where
-    go : (b : Bool) → (first == n) ≡ b → (o : Option Image) → group_image r g ≡ o → list_any (λ (w : ℕ × Image). w.0 == n) (cons_option (option_map (λ image. (first, image)) o) (writes_from (suc first) gs r)) ≡ true → (list_any (λ (w : ℕ × Image). w.0 == n) (writes_from (suc first) gs r) ≡ true → IsSome (group_image r (group_from (suc first) gs n))) → IsSome (group_image r (if b then g else group_from (suc first) gs n))
+    go : (b : Bool) → (first == n) ≡ b → (o : Option Image) → group_image r g ≡ o →
+        list_any (λ (w : ℕ × Image). w.0 == n) (cons_option (option_map (λ image. (first, image)) o) (writes_from (suc first) gs r)) ≡ true →
+        (list_any (λ (w : ℕ × Image). w.0 == n) (writes_from (suc first) gs r) ≡ true → IsSome (group_image r (group_from (suc first) gs n))) →
+        IsSome (group_image r (if b then g else group_from (suc first) gs n))
     go true q (Some i) f e later = ap is_some f
     go true q None f e later =
         let same : first ≡ n = (Decides-eqb first n).0 q in
@@ -155,7 +162,8 @@ group_numbered : (f : ℕ → Group) (first many n : ℕ) (r : Rid) → IsSome (
 group_numbered f first zero n r e = absurd (no_test e)
 group_numbered f first (suc many) n r e = go (first == n) refl e (group_numbered f (suc first) many n r)
   where
-    go : (b : Bool) → (first == n) ≡ b → IsSome (group_image r (if b then f first else group_from (suc first) (map f (numbers_from (suc first) many)) n)) → (IsSome (group_image r (group_from (suc first) (map f (numbers_from (suc first) many)) n)) → IsSome (group_image r (f n))) → IsSome (group_image r (f n))
+    go : (b : Bool) → (first == n) ≡ b → IsSome (group_image r (if b then f first else group_from (suc first) (map f (numbers_from (suc first) many)) n)) →
+        (IsSome (group_image r (group_from (suc first) (map f (numbers_from (suc first) many)) n)) → IsSome (group_image r (f n))) → IsSome (group_image r (f n))
     go true q k later = subst (λ m. IsSome (group_image r (f m))) ((Decides-eqb first n).0 q) k
     go false q k later = later k
 
@@ -164,8 +172,13 @@ of_one : (r : Rid) (g : Group) → IsSome (group_image r g) → (j : ℕ) × IsS
 of_one r [] e = absurd (no_test e)
 of_one r (c ∷ cs) e = go (image_in r c.images) refl e (of_one r cs)
   where
-    go : (o : Option Image) → image_in r c.images ≡ o → IsSome (option_or o (group_image r cs)) → (IsSome (group_image r cs) → (j : ℕ) × IsSome (group_image r (of_session j cs))) → (j : ℕ) × IsSome (group_image r (of_session j (c ∷ cs)))
-    go (Some i) f k rest = (c.session, subst (λ b. IsSome (group_image r (cond b (c ∷ of_session c.session cs) (of_session c.session cs)))) (sym (same_number c.session)) (ap (λ o. is_some (option_or o (group_image r (of_session c.session cs)))) f))
+    go : (o : Option Image) → image_in r c.images ≡ o → IsSome (option_or o (group_image r cs)) → (IsSome (group_image r cs) → (j : ℕ) × IsSome (group_image r (of_session j cs))) →
+        (j : ℕ) × IsSome (group_image r (of_session j (c ∷ cs)))
+    go (Some i) f k rest = (
+      c.session,
+      subst (λ b. IsSome (group_image r (cond b (c ∷ of_session c.session cs) (of_session c.session cs)))) (sym (same_number c.session))
+          (ap (λ o. is_some (option_or o (group_image r (of_session c.session cs)))) f),
+    )
     go None f k rest = let later = rest k in (later.0, with_one (c.session == later.0) later.0 later.1)
       where
         with_one : (b : Bool) (j : ℕ) → IsSome (group_image r (of_session j cs)) → IsSome (group_image r (cond b (c ∷ of_session j cs) (of_session j cs)))
@@ -179,37 +192,24 @@ no_picks n j (p ∷ ps) e =
     let parts = or_parts (p.0 == n) (list_any (λ k. k == n) (map (λ (q : ℕ × Commit). q.0) ps)) e in
     ap (λ o. cons_option o (filter_map (pick n j) ps)) (pick_other n j p parts.0) ∙ no_picks n j ps parts.1
 
-picked_before : (n j : ℕ) (all earlier rest : List Said) → onto all [] ≡ onto rest earlier → n ≤ greatest_commit earlier → EachAfter CommitAscends earlier rest → filter_map (pick n j) (commits all) ≡ filter_map (pick n j) (commits_back earlier)
+picked_before : (n j : ℕ) (all earlier rest : List Said) → onto all [] ≡ onto rest earlier → n ≤ greatest_commit earlier → EachAfter CommitAscends earlier rest →
+    filter_map (pick n j) (commits all) ≡ filter_map (pick n j) (commits_back earlier)
 picked_before n j all earlier rest is k up =
     let split : commits all ≡ commits_back earlier ++ commits_from earlier rest = sym (commits_onto [] all) ∙ ap commits_back is ∙ commits_onto earlier rest in
-    let none : filter_map (pick n j) (commits_from earlier rest) ≡ [] = no_picks n j (commits_from earlier rest) (ap (list_any (λ m. m == n)) (commits_numbers earlier rest) ∙ none_later n earlier rest k up) in
+    let none : filter_map (pick n j) (commits_from earlier rest) ≡ [] = no_picks n j (commits_from earlier rest) (ap (list_any (λ m. m == n)) (commits_numbers earlier rest) ∙
+    none_later n earlier rest k up) in
     ap (filter_map (pick n j)) split ∙ filter_map-append (pick n j) (commits_back earlier) (commits_from earlier rest)
     ∙ ap (λ cs. filter_map (pick n j) (commits_back earlier) ++ cs) none ∙ append_nil (filter_map (pick n j) (commits_back earlier))
 
-is_newest : (logs : ℕ → List LogEntry) (all earlier rest : List Said) (r : Rid) (c : ℕ) → onto all [] ≡ onto rest earlier → EachAfter CommitAscends earlier rest → ((k : ℕ) → Ties k earlier (logs k)) → IsNewestIn logs r c → IsNewest (history_of all) earlier r c
+is_newest : (logs : ℕ → List LogEntry) (all earlier rest : List Said) (r : Rid) (c : ℕ) → onto all [] ≡ onto rest earlier → EachAfter CommitAscends earlier rest →
+    ((k : ℕ) → Ties k earlier (logs k)) → IsNewestIn logs r c → IsNewest (history_of all) earlier r c
 is_newest logs all earlier rest r c is up t f n k does =
     let one = of_one r (group_of (commits all) n) (group_numbered (group_of (commits all)) 1 (greatest_commit all) n r (does_group 1 (history_of all) r n does)) in
-    let same : of_session one.0 (group_of (commits all) n) ≡ published n one.0 (logs one.0) = group_pick (commits all) n one.0 ∙ picked_before n one.0 all earlier rest is k up ∙ (t one.0).published n in
+    let same : of_session one.0 (group_of (commits all) n) ≡ published n one.0 (logs one.0) = group_pick (commits all) n one.0 ∙ picked_before n one.0 all earlier rest is k up ∙
+    (t one.0).published n in
     f one.0 n (subst (λ g. IsSome (group_image r g)) same one.1)
 
 -- ---- the groups of a history
-
-some_either : (o p : Option Image) → IsSome p → IsSome (option_or o p)
-some_either None p k = k
-some_either (Some i) p k = refl
-
-some_keeps : (o p q : Option Image) → (IsSome p → IsSome q) → IsSome (option_or o p) → IsSome (option_or o q)
-some_keeps None p q f k = f k
-some_keeps (Some i) p q f k = refl
-
--- what one session writes in a group, the group does
-of_all : (r : Rid) (j : ℕ) (g : Group) → IsSome (group_image r (of_session j g)) → IsSome (group_image r g)
-of_all r j [] e = e
-of_all r j (c ∷ cs) e = go (c.session == j) e (of_all r j cs)
-  where
-    go : (b : Bool) → IsSome (group_image r (cond b (c ∷ of_session j cs) (of_session j cs))) → (IsSome (group_image r (of_session j cs)) → IsSome (group_image r cs)) → IsSome (option_or (image_in r c.images) (group_image r cs))
-    go true k later = some_keeps (image_in r c.images) (group_image r (of_session j cs)) (group_image r cs) later k
-    go false k later = some_either (image_in r c.images) (group_image r cs) (later k)
 
 pub newest_there : (buckets : ℕ) (h : History) (logs : ℕ → List LogEntry) (r : Rid) (c : ℕ) → Logged buckets h logs → (IsNewestIn logs r c ↔ ((n : ℕ) → IsTrue (does_write h n r) → n ≤ c))
 newest_there buckets h logs r c logged = (
@@ -223,10 +223,13 @@ newest_there buckets h logs r c logged = (
 
 -- ---- one line
 
-cause_shown : (h : History) (earlier : List Said) (now : Said) (logs : ℕ → List LogEntry) (at : ℕ) (r : Rid) (a : Answer) → ((k : ℕ) → Ties k earlier (logs k)) → at ≡ now.at → (HasOpen (logs now.session) r → IsSome (image_in r (own_writes earlier now))) → ((c : ℕ) → IsNewestIn logs r c → IsNewest h earlier r c) → ShowsFirst logs now.session at r a → IsFirstCause h earlier now r a
+cause_shown : (h : History) (earlier : List Said) (now : Said) (logs : ℕ → List LogEntry) (at : ℕ) (r : Rid) (a : Answer) → ((k : ℕ) → Ties k earlier (logs k)) → at ≡ now.at →
+    (HasOpen (logs now.session) r → IsSome (image_in r (own_writes earlier now))) → ((c : ℕ) → IsNewestIn logs r c → IsNewest h earlier r c) → ShowsFirst logs now.session at r a →
+    IsFirstCause h earlier now r a
 cause_shown h earlier now logs at r a t same own new s = go a s
   where
-    stored : HasOpen (logs now.session) r ⊎ (IsFreeIn logs now.session r × IsNewestIn logs r at) → IsSome (image_in r (own_writes earlier now)) ⊎ (IsFree earlier now.session r × IsNewest h earlier r now.at)
+    stored : HasOpen (logs now.session) r ⊎ (IsFreeIn logs now.session r × IsNewestIn logs r at) →
+        IsSome (image_in r (own_writes earlier now)) ⊎ (IsFree earlier now.session r × IsNewest h earlier r now.at)
     stored (inl k) = inl (own k)
     stored (inr k) = inr (is_free logs earlier now.session r t k.0, subst (IsNewest h earlier r) same (new at k.1))
 
@@ -240,13 +243,16 @@ cause_shown h earlier now logs at r a t same own new s = go a s
 abbrev Shows : (ℕ → List LogEntry) → Record → Line → Type 0
 Shows logs r line = ShowsFirsts logs r line × AsCollected replay r.session r.statement line.reply.answer
 
-line_first : (buckets : ℕ) (Q : ℕ → List LogEntry → Type 0) (all earlier : List Said) (now : Said) (rest : List Said) → onto all [] ≡ onto (now ∷ rest) earlier → EachAfter CommitAscends earlier (now ∷ rest) → IsPlaced earlier now → AtLine buckets Shows Q earlier now → IsFirst (history_of all) earlier now
+line_first : (buckets : ℕ) (Q : ℕ → List LogEntry → Type 0) (all earlier : List Said) (now : Said) (rest : List Said) → onto all [] ≡ onto (now ∷ rest) earlier →
+    EachAfter CommitAscends earlier (now ∷ rest) → IsPlaced earlier now → AtLine buckets Shows Q earlier now → IsFirst (history_of all) earlier now
 line_first buckets Q all earlier now rest is up placed at =
     let shown : IfSome (target now.statement) (λ r. ShowsFirst at.logs now.session (reads_at (current (at.logs now.session)) now.reply) r now.reply.answer) =
-    subst (λ p. p) (λ i. IfSome (target (sym at.says.1 i)) (λ r. ShowsFirst at.logs (sym at.says.0 i) (reads_at (current (at.logs (sym at.says.0 i))) (sym at.says.2 i)) r (sym at.says.2 i).answer)) at.met.0 in
+    subst (λ p. p) (λ i. IfSome (target (sym at.says.1 i)) (λ r. ShowsFirst at.logs (sym at.says.0 i) (reads_at (current (at.logs (sym at.says.0 i))) (sym at.says.2 i)) r
+    (sym at.says.2 i).answer)) at.met.0 in
     record { number = up.0; cause = go (target now.statement) shown placed }
   where
-    go : (o : Option Rid) → IfSome o (λ r. ShowsFirst at.logs now.session (reads_at (current (at.logs now.session)) now.reply) r now.reply.answer) → IfSome o (λ r. Placed (open_of now.session earlier) now) → IfSome o (λ r. IsFirstCause (history_of all) earlier now r now.reply.answer)
+    go : (o : Option Rid) → IfSome o (λ r. ShowsFirst at.logs now.session (reads_at (current (at.logs now.session)) now.reply) r now.reply.answer) →
+        IfSome o (λ r. Placed (open_of now.session earlier) now) → IfSome o (λ r. IsFirstCause (history_of all) earlier now r now.reply.answer)
     go None s p = tt
     go (Some r) s p =
         cause_shown (history_of all) earlier now at.logs (reads_at (current (at.logs now.session)) now.reply) r now.reply.answer at.ties
@@ -254,14 +260,16 @@ line_first buckets Q all earlier now rest is up placed at =
         (own_shown earlier now now.session (at.logs now.session) r refl (at.ties now.session) p)
         (λ c. is_newest at.logs all earlier (now ∷ rest) r c is up at.ties) s
 
-lines_first : (buckets : ℕ) (Q : ℕ → List LogEntry → Type 0) (all earlier rest : List Said) → onto all [] ≡ onto rest earlier → EachAfter CommitAscends earlier rest → EachAfter IsPlaced earlier rest → EachAfter (AtLine buckets Shows Q) earlier rest → EachAfter (IsFirst (history_of all)) earlier rest
+lines_first : (buckets : ℕ) (Q : ℕ → List LogEntry → Type 0) (all earlier rest : List Said) → onto all [] ≡ onto rest earlier → EachAfter CommitAscends earlier rest →
+    EachAfter IsPlaced earlier rest → EachAfter (AtLine buckets Shows Q) earlier rest → EachAfter (IsFirst (history_of all)) earlier rest
 lines_first buckets Q all earlier [] is up placed at = tt
 lines_first buckets Q all earlier (now ∷ rest) is up placed at = (line_first buckets Q all earlier now rest is up placed.0 at.0, lines_first buckets Q all (now ∷ earlier) rest is up.1 placed.1 at.1)
 
 -- ---- all lines
 
 -- how each `gc` is answered is known of the lines, whatever logs they follow
-shows_too : (buckets sessions : ℕ) (rs : List Record) (lines : List Line) (logs final more last : ℕ → List LogEntry) (left was : ℕ → Option Rest) → Follows buckets ShowsFirsts logs left rs lines final → Follows buckets (IsMet sessions) more was rs lines last → Follows buckets Shows logs left rs lines final
+shows_too : (buckets sessions : ℕ) (rs : List Record) (lines : List Line) (logs final more last : ℕ → List LogEntry) (left was : ℕ → Option Rest) →
+    Follows buckets ShowsFirsts logs left rs lines final → Follows buckets (IsMet sessions) more was rs lines last → Follows buckets Shows logs left rs lines final
 shows_too buckets sessions [] [] logs final more last left was f m = f
 shows_too buckets sessions [] (line ∷ lines) logs final more last left was f m = absurd f
 shows_too buckets sessions (r ∷ rs) [] logs final more last left was f m = absurd f
@@ -277,19 +285,27 @@ shows_too buckets sessions (r ∷ rs) (line ∷ lines) logs final more last left
   ),
 )
 
-pub shown_first : (buckets sessions top : ℕ) (h : History) (logs : ℕ → List LogEntry) (script : Script) (lines : List Line) → HasReplayed buckets sessions h logs top script.records lines → Follows buckets ShowsFirsts (λ j. []) (λ j. None) script.records lines logs → EachAfter (IsFirst (history_of (all_said replay script lines))) [] (all_said replay script lines)
+pub shown_first : (buckets sessions top : ℕ) (h : History) (logs : ℕ → List LogEntry) (script : Script) (lines : List Line) →
+    HasReplayed buckets sessions h logs top script.records lines → Follows buckets ShowsFirsts (λ j. []) (λ j. None) script.records lines logs →
+    EachAfter (IsFirst (history_of (all_said replay script lines))) [] (all_said replay script lines)
 shown_first buckets sessions top h logs script lines r f =
     let all : List Said = said_from [] script.records lines in
     let k : History = history_of all in
     let Q : ℕ → List LogEntry → Type 0 = λ j l. Judged h l in
     let sound : LinesAreSound replay script lines = replay_sound buckets sessions top h logs script lines r in
     let told = lines_told replay buckets h k logs all Shows Q (judged_less h) (places_of buckets r.logged.some) (λ ls q line m. m.1) script.records lines (λ j. []) logs []
-    (λ j. ties_nothing j) (λ j. None) (λ j. left_nothing j) (shows_too buckets sessions script.records lines (λ j. []) logs (λ j. []) logs (λ j. None) (λ j. None) f r.follows) r.logged.judged r.logged.replied r.logged.judged in
+    (λ j. ties_nothing j) (λ j. None) (λ j. left_nothing j) (shows_too buckets sessions script.records lines (λ j. []) logs (λ j. []) logs (λ j. None) (λ j. None) f r.follows)
+    r.logged.judged r.logged.replied r.logged.judged in
     let both = each_after_first (IsTold replay h k logs all) (AtLine buckets Shows Q) [] all told.0 in
     lines_first buckets Q all [] all refl (sound_ascends script lines top sound r.rises) (placed_all script.records lines []) both.1
 
-pub shown_text : (buckets sessions top : ℕ) (h : History) (logs : ℕ → List LogEntry) (script : Script) (lines : List Line) → HasReplayed buckets sessions h logs top script.records lines → Follows buckets ShowsFirsts (λ j. []) (λ j. None) script.records lines logs → IsLawful script → map plain lines ≡ replayed script
-shown_text buckets sessions top h logs script lines r f lawful = sound_exact script lines (replay_sound buckets sessions top h logs script lines r) (shown_first buckets sessions top h logs script lines r f) (lawful_asked script lawful _)
+pub shown_text : (buckets sessions top : ℕ) (h : History) (logs : ℕ → List LogEntry) (script : Script) (lines : List Line) →
+    HasReplayed buckets sessions h logs top script.records lines → Follows buckets ShowsFirsts (λ j. []) (λ j. None) script.records lines logs → IsLawful script → map plain lines ≡ replayed script
+shown_text buckets sessions top h logs script lines r f lawful = sound_exact script lines (replay_sound buckets sessions top h logs script lines r)
+    (shown_first buckets sessions top h logs script lines r f) (lawful_asked script lawful _)
 
-pub shown_at_end : (buckets sessions seen top : ℕ) (h : History) (logs closed : ℕ → List LogEntry) (script : Script) (lines : List Line) → IsFollowing buckets sessions logs seen top script.records lines → Follows buckets ShowsFirsts (λ j. []) (λ j. None) script.records lines logs → ((j : ℕ) → Closes (logs j) (closed j)) → Logged buckets h closed → seen ≤ length h → IsLawful script → map plain lines ≡ replayed script
-shown_at_end buckets sessions seen top h logs closed script lines g f closes logged saw = shown_text buckets sessions top h logs script lines (following_ends buckets sessions h logs seen top script.records lines g (logged_before buckets h logs closed closes logged) saw) f
+pub shown_at_end : (buckets sessions seen top : ℕ) (h : History) (logs closed : ℕ → List LogEntry) (script : Script) (lines : List Line) →
+    IsFollowing buckets sessions logs seen top script.records lines → Follows buckets ShowsFirsts (λ j. []) (λ j. None) script.records lines logs →
+    ((j : ℕ) → Closes (logs j) (closed j)) → Logged buckets h closed → seen ≤ length h → IsLawful script → map plain lines ≡ replayed script
+shown_at_end buckets sessions seen top h logs closed script lines g f closes logged saw = shown_text buckets sessions top h logs script lines
+    (following_ends buckets sessions h logs seen top script.records lines g (logged_before buckets h logs closed closes logged) saw) f

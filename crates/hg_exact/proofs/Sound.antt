@@ -56,12 +56,18 @@ cons_tails : {X : Type 0} (x y : X) (xs ys : List X) → (x ∷ xs) ≡ (y ∷ y
 cons_tails x y xs ys e = cc
 
 line_is : (r : Record) (line : Line) (reply : Reply) → 1 ≤ r.session → plain line ≡ record { session = r.session; place = r.place; reply = reply } → IsLineOf r line
-line_is r line reply some e = record { session = ap (λ (l : Line). l.session) e; place = ap (λ (l : Line). l.place) e; report = subst (λ b. MatchBool b (IsReportOf r.statement line.reply.answer) ⊤) (sym zero_not) tt }
+line_is r line reply some e = record {
+  session = ap (λ (l : Line). l.session) e;
+  place = ap (λ (l : Line). l.place) e;
+  report = subst (λ b. MatchBool b (IsReportOf r.statement line.reply.answer) ⊤) (sym zero_not) tt;
+}
   where
     zero_not : (r.session == 0) ≡ false
     zero_not = grind (arith, nat_tests)
 
-pub lines_right : (all : List Said) (s : State) (rs : List Record) (lines : List Line) → Knows true all s → map plain lines ≡ lines_from s rs → AreAnswered s rs → Each (λ (r : Record). r.session ≤ s.sessions) rs → EachAfter MovesDeclared (onto all []) (said_from (onto all []) rs lines) → HasShape rs lines × AreRight replay (all ++ said_from (onto all []) rs lines)
+pub lines_right : (all : List Said) (s : State) (rs : List Record) (lines : List Line) → Knows true all s → map plain lines ≡ lines_from s rs → AreAnswered s rs →
+    Each (λ (r : Record). r.session ≤ s.sessions) rs → EachAfter MovesDeclared (onto all []) (said_from (onto all []) rs lines) → HasShape rs lines ×
+    AreRight replay (all ++ said_from (onto all []) rs lines)
 lines_right all s [] [] knows e answered within moves = (tt, subst (AreRight replay) (sym (append_nil all)) knows.right)
 lines_right all s [] (line ∷ lines) knows e answered within moves = absurd (no_line (plain line) (map plain lines) e)
   where
@@ -91,7 +97,8 @@ pub each_most : (rs : List Record) (n : ℕ) → greatest (map (λ (r : Record).
 each_most [] n k = tt
 each_most (r ∷ rs) n k = (omega (arith, k), each_most rs n (omega (arith, k)))
 
-pub replayed_sound : (script : Script) (lines : List Line) → map plain lines ≡ replayed script → AreAnswered (start (greatest (map (λ (r : Record). r.session) script.records))) script.records → EachAfter MovesDeclared [] (all_said replay script lines) → LinesAreSound replay script lines
+pub replayed_sound : (script : Script) (lines : List Line) → map plain lines ≡ replayed script →
+    AreAnswered (start (greatest (map (λ (r : Record). r.session) script.records))) script.records → EachAfter MovesDeclared [] (all_said replay script lines) → LinesAreSound replay script lines
 replayed_sound script lines e answered moves =
     let top : ℕ = greatest (map (λ (r : Record). r.session) script.records) in
     let is = lines_right [] (start top) script.records lines (knows_nothing true top) e answered (each_most script.records top (omega arith)) moves in

@@ -23,7 +23,8 @@ last_other k earlier now e = ap (λ b. cond (b && nat_lt 0 now.transaction) (Som
 
 pub last_by : (j : ℕ) (earlier : List Said) (now : Said) (b : Bool) → now.session ≡ j → nat_lt 0 now.transaction ≡ b → last_of j (now ∷ earlier) ≡ cond b (Some now) (last_of j earlier)
 last_by j earlier now b mine e =
-    ap (λ n. cond ((n == j) && nat_lt 0 now.transaction) (Some now) (last_of j earlier)) mine ∙ ap (λ c. cond (c && nat_lt 0 now.transaction) (Some now) (last_of j earlier)) (same_number j) ∙ ap (λ c. cond c (Some now) (last_of j earlier)) e
+    ap (λ n. cond ((n == j) && nat_lt 0 now.transaction) (Some now) (last_of j earlier)) mine ∙
+    ap (λ c. cond (c && nat_lt 0 now.transaction) (Some now) (last_of j earlier)) (same_number j) ∙ ap (λ c. cond c (Some now) (last_of j earlier)) e
 
 -- a line that is not of a transaction adds nothing to it
 pub lines_other : (k x : ℕ) (earlier : List Said) (now : Said) → is_of k x now ≡ false → filter (is_of k x) (now ∷ earlier) ≡ filter (is_of k x) earlier
@@ -84,7 +85,13 @@ module _ (j : ℕ) (earlier : List Said) (now : Said) (mine : now.session ≡ j)
       go None = refl
       go (Some q) =
           let off : is_of k q.transaction now ≡ false = not_session k q.transaction now (other_test k f) in
-          λ i. Some (record { transaction = q.transaction; at = q.at; scope = q.scope; wrote = filter_map stored (lines_other k q.transaction earlier now off i); rest = rest_other k q.transaction earlier now off i })
+          λ i. Some (record {
+            transaction = q.transaction;
+            at = q.at;
+            scope = q.scope;
+            wrote = filter_map stored (lines_other k q.transaction earlier now off i);
+            rest = rest_other k q.transaction earlier now off i;
+          })
 
   pub goes_other : (k : ℕ) → (k ≡ j → ⊥) → ((q : Said) → open_of k earlier ≡ Some q → GoesOn k earlier q) → (q : Said) → open_of k (now ∷ earlier) ≡ Some q → GoesOn k (now ∷ earlier) q
   goes_other k f h q e =
@@ -117,19 +124,29 @@ module _ (j : ℕ) (earlier : List Said) (begun_by : ℕ → ℕ) (opened : ℕ 
       (λ i f l. fresh_other j earlier now mine i x f ∙ shows.fresh i x l) k
 
   pub shows_begun : (now : Said) (o : Open) → now.session ≡ j → now.transaction ≡ suc (begun_by j) → ends now ≡ false → stored now ≡ None
-      → o ≡ record { transaction = suc (begun_by j); at = now.at; scope = now.scope; wrote = []; rest = rest_after now.statement now.reply.answer (rest_in j (suc (begun_by j)) earlier) } → Shows (now ∷ earlier) (but begun_by j (suc (begun_by j))) (but opened j (Some o))
+      → o ≡ record {
+        transaction = suc (begun_by j);
+        at = now.at;
+        scope = now.scope;
+        wrote = [];
+        rest = rest_after now.statement now.reply.answer (rest_in j (suc (begun_by j)) earlier);
+      } → Shows (now ∷ earlier) (but begun_by j (suc (begun_by j))) (but opened j (Some o))
   shows_begun now o mine number on writes_none is =
       let last : last_of j (now ∷ earlier) ≡ Some now = last_by j earlier now true mine (ap (nat_lt 0) number ∙ some_number (begun_by j)) in
       let here : open_of j (now ∷ earlier) ≡ Some now = ap open_after last ∙ ap (λ b. cond b None (Some now)) on in
       let mine_is : is_of j now.transaction now ≡ true = is_mine j now.transaction now mine refl in
       let none : filter (is_of j now.transaction) earlier ≡ [] = ap (λ x. filter (is_of j x) earlier) number ∙ shows.fresh j (suc (begun_by j)) (omega arith) in
-      let lines : filter (is_of j now.transaction) (now ∷ earlier) ≡ now ∷ [] = ap (λ b. cond b (now ∷ filter (is_of j now.transaction) earlier) (filter (is_of j now.transaction) earlier)) mine_is ∙ ap (λ xs. now ∷ xs) none in
+      let lines : filter (is_of j now.transaction) (now ∷ earlier) ≡ now ∷ [] = ap
+      (λ b. cond b (now ∷ filter (is_of j now.transaction) earlier) (filter (is_of j now.transaction) earlier)) mine_is ∙ ap (λ xs. now ∷ xs) none in
       let wrote : stored_in j now.transaction (now ∷ earlier) ≡ [] = ap (filter_map stored) lines ∙ ap (λ w. cons_option w []) writes_none in
       let rest : rest_in j now.transaction (now ∷ earlier) ≡ rest_after now.statement now.reply.answer (rest_in j (suc (begun_by j)) earlier) =
-      ap (λ b. if b then rest_after now.statement now.reply.answer (rest_in j now.transaction earlier) else rest_in j now.transaction earlier) mine_is ∙ ap (λ x. rest_after now.statement now.reply.answer (rest_in j x earlier)) number in
-      let whole : Some o ≡ opened_in j (now ∷ earlier) = ap Some is ∙ (λ i. Some (record { transaction = sym number i; at = now.at; scope = now.scope; wrote = sym wrote i; rest = sym rest i })) ∙ ap (option_map (open_as j (now ∷ earlier))) (sym here) in
+      ap (λ b. if b then rest_after now.statement now.reply.answer (rest_in j now.transaction earlier) else rest_in j now.transaction earlier) mine_is ∙
+      ap (λ x. rest_after now.statement now.reply.answer (rest_in j x earlier)) number in
+      let whole : Some o ≡ opened_in j (now ∷ earlier) = ap Some is ∙
+      (λ i. Some (record { transaction = sym number i; at = now.at; scope = now.scope; wrote = sym wrote i; rest = sym rest i })) ∙ ap (option_map (open_as j (now ∷ earlier))) (sym here) in
       record {
-        begun = by_number j (λ k b. next_after (last_of k (now ∷ earlier)) ≡ suc (if b then suc (begun_by j) else begun_by k)) (ap next_after last ∙ ap suc number) (λ k f. begun_other j earlier now mine k f ∙ shows.begun k);
+        begun = by_number j (λ k b. next_after (last_of k (now ∷ earlier)) ≡ suc (if b then suc (begun_by j) else begun_by k)) (ap next_after last ∙ ap suc number)
+            (λ k f. begun_other j earlier now mine k f ∙ shows.begun k);
         opened = by_number j (λ k b. (if b then Some o else opened k) ≡ opened_in k (now ∷ earlier)) whole (λ k f. shows.opened k ∙ sym (opened_other j earlier now mine k f));
         goes = by_number j (λ k b. (q : Said) → open_of k (now ∷ earlier) ≡ Some q → GoesOn k (now ∷ earlier) q)
             (λ q e. subst (GoesOn j (now ∷ earlier)) (some_same now q (sym here ∙ e)) (ap (list_any ends) lines ∙ ap (λ b. b || false) on))
@@ -144,9 +161,12 @@ module _ (j : ℕ) (earlier : List Said) (begun_by : ℕ → ℕ) (opened : ℕ 
       let last : last_of j (now ∷ earlier) ≡ Some now = last_by j earlier now true mine (ap (nat_lt 0) number ∙ some_number (begun_by j)) in
       let here : open_of j (now ∷ earlier) ≡ None = ap open_after last ∙ ap (λ b. cond b None (Some now)) over in
       record {
-        begun = by_number j (λ k b. next_after (last_of k (now ∷ earlier)) ≡ suc (if b then suc (begun_by j) else begun_by k)) (ap next_after last ∙ ap suc number) (λ k f. begun_other j earlier now mine k f ∙ shows.begun k);
-        opened = by_number j (λ k b. opened k ≡ opened_in k (now ∷ earlier)) (shows.opened j ∙ ap (option_map (open_as j earlier)) none ∙ ap (option_map (open_as j (now ∷ earlier))) (sym here)) (λ k f. shows.opened k ∙ sym (opened_other j earlier now mine k f));
-        goes = by_number j (λ k b. (q : Said) → open_of k (now ∷ earlier) ≡ Some q → GoesOn k (now ∷ earlier) q) (λ q e. absurd (none_some q (sym here ∙ e))) (λ k f. goes_other j earlier now mine k f (shows.goes k));
+        begun = by_number j (λ k b. next_after (last_of k (now ∷ earlier)) ≡ suc (if b then suc (begun_by j) else begun_by k)) (ap next_after last ∙ ap suc number)
+            (λ k f. begun_other j earlier now mine k f ∙ shows.begun k);
+        opened = by_number j (λ k b. opened k ≡ opened_in k (now ∷ earlier)) (shows.opened j ∙ ap (option_map (open_as j earlier)) none ∙
+            ap (option_map (open_as j (now ∷ earlier))) (sym here)) (λ k f. shows.opened k ∙ sym (opened_other j earlier now mine k f));
+        goes = by_number j (λ k b. (q : Said) → open_of k (now ∷ earlier) ≡ Some q → GoesOn k (now ∷ earlier) q) (λ q e. absurd (none_some q (sym here ∙ e)))
+            (λ k f. goes_other j earlier now mine k f (shows.goes k));
         fresh = fresh_new now mine number;
       }
 
@@ -170,13 +190,15 @@ module _ (j : ℕ) (earlier : List Said) (begun_by : ℕ → ℕ) (opened : ℕ 
       less : (m n : ℕ) → suc m ≡ suc n → m ≡ n
       less m n f = omega (arith, f)
 
-  pub shows_within : (now : Said) (q : Said) → now.session ≡ j → open_of j earlier ≡ Some q → nat_lt 0 q.transaction ≡ true → now.transaction ≡ q.transaction → now.at ≡ q.at → now.scope ≡ q.scope → now.alone ≡ false →
+  pub shows_within : (now : Said) (q : Said) → now.session ≡ j → open_of j earlier ≡ Some q → nat_lt 0 q.transaction ≡ true → now.transaction ≡ q.transaction → now.at ≡ q.at →
+      now.scope ≡ q.scope → now.alone ≡ false →
       Shows (now ∷ earlier) begun_by (but opened j (if is_end now.statement then None else Some (going (open_as j earlier q) now.statement now.reply.answer)))
   shows_within now q mine held some number at scope alone =
       let last : last_of j (now ∷ earlier) ≡ Some now = last_by j earlier now true mine (ap (nat_lt 0) number ∙ some) in
       let here : open_of j (now ∷ earlier) ≡ cond (is_end now.statement) None (Some now) = ap open_after last ∙ ap (λ b. cond (b || is_end now.statement) None (Some now)) alone in
       let mine_is : is_of j q.transaction now ≡ true = is_mine j q.transaction now mine number in
-      let lines : filter (is_of j q.transaction) (now ∷ earlier) ≡ now ∷ filter (is_of j q.transaction) earlier = ap (λ b. cond b (now ∷ filter (is_of j q.transaction) earlier) (filter (is_of j q.transaction) earlier)) mine_is in
+      let lines : filter (is_of j q.transaction) (now ∷ earlier) ≡ now ∷ filter (is_of j q.transaction) earlier = ap
+      (λ b. cond b (now ∷ filter (is_of j q.transaction) earlier) (filter (is_of j q.transaction) earlier)) mine_is in
       let rest : rest_in j q.transaction (now ∷ earlier) ≡ rest_after now.statement now.reply.answer (rest_in j q.transaction earlier) =
       ap (λ b. if b then rest_after now.statement now.reply.answer (rest_in j q.transaction earlier) else rest_in j q.transaction earlier) mine_is in
       let same : going (open_as j earlier q) now.statement now.reply.answer ≡ open_as j (now ∷ earlier) now = (λ i. record {
@@ -187,7 +209,8 @@ module _ (j : ℕ) (earlier : List Said) (begun_by : ℕ → ℕ) (opened : ℕ 
         rest = (sym rest ∙ ap (λ x. rest_in j x (now ∷ earlier)) (sym number)) i;
       }) in
       record {
-        begun = by_number j (λ k b. next_after (last_of k (now ∷ earlier)) ≡ suc (begun_by k)) (ap next_after last ∙ ap suc (number ∙ opened_number q held)) (λ k f. begun_other j earlier now mine k f ∙ shows.begun k);
+        begun = by_number j (λ k b. next_after (last_of k (now ∷ earlier)) ≡ suc (begun_by k)) (ap next_after last ∙ ap suc (number ∙ opened_number q held))
+            (λ k f. begun_other j earlier now mine k f ∙ shows.begun k);
         opened = by_number j (λ k b. (if b then (if is_end now.statement then None else Some (going (open_as j earlier q) now.statement now.reply.answer)) else opened k) ≡ opened_in k (now ∷ earlier))
             (whole (is_end now.statement) same ∙ ap (option_map (open_as j (now ∷ earlier))) (sym here)) (λ k f. shows.opened k ∙ sym (opened_other j earlier now mine k f));
         goes = by_number j (λ k b. (p : Said) → open_of k (now ∷ earlier) ≡ Some p → GoesOn k (now ∷ earlier) p)
@@ -198,25 +221,30 @@ module _ (j : ℕ) (earlier : List Said) (begun_by : ℕ → ℕ) (opened : ℕ 
             (λ i f m. fresh_other j earlier now mine i x f ∙ shows.fresh i x m) k l;
       }
     where
-      whole : (b : Bool) → going (open_as j earlier q) now.statement now.reply.answer ≡ open_as j (now ∷ earlier) now → (if b then None else Some (going (open_as j earlier q) now.statement now.reply.answer)) ≡ option_map (open_as j (now ∷ earlier)) (cond b None (Some now))
+      whole : (b : Bool) → going (open_as j earlier q) now.statement now.reply.answer ≡ open_as j (now ∷ earlier) now →
+          (if b then None else Some (going (open_as j earlier q) now.statement now.reply.answer)) ≡ option_map (open_as j (now ∷ earlier)) (cond b None (Some now))
       whole true e = refl
       whole false e = ap Some e
 
-      going_on : (b : Bool) → is_end now.statement ≡ b → (p : Said) → cond b None (Some now) ≡ Some p → filter (is_of j q.transaction) (now ∷ earlier) ≡ now ∷ filter (is_of j q.transaction) earlier → GoesOn j (now ∷ earlier) p
+      going_on : (b : Bool) → is_end now.statement ≡ b → (p : Said) → cond b None (Some now) ≡ Some p →
+          filter (is_of j q.transaction) (now ∷ earlier) ≡ now ∷ filter (is_of j q.transaction) earlier → GoesOn j (now ∷ earlier) p
       going_on true e p f lines = absurd (none_some p f)
       going_on false e p f lines =
           subst (GoesOn j (now ∷ earlier)) (some_same now p f)
           (ap (λ x. list_any ends (filter (is_of j x) (now ∷ earlier))) number ∙ ap (list_any ends) lines
-          ∙ ap (λ b. (b || is_end now.statement) || list_any ends (filter (is_of j q.transaction) earlier)) alone ∙ ap (λ b. b || list_any ends (filter (is_of j q.transaction) earlier)) e ∙ shows.goes j q held)
+          ∙ ap (λ b. (b || is_end now.statement) || list_any ends (filter (is_of j q.transaction) earlier)) alone ∙
+          ap (λ b. b || list_any ends (filter (is_of j q.transaction) earlier)) e ∙ shows.goes j q held)
 
   -- ---- a line that stands in no transaction
 
-  pub shows_beside : (now : Said) → now.session ≡ j → now.transaction ≡ 0 → stored now ≡ None → ((rest : Option Rest) → rest_after now.statement now.reply.answer rest ≡ rest) → ((q : Said) → open_of j earlier ≡ Some q → nat_lt 0 q.transaction ≡ true) → Shows (now ∷ earlier) begun_by opened
+  pub shows_beside : (now : Said) → now.session ≡ j → now.transaction ≡ 0 → stored now ≡ None → ((rest : Option Rest) → rest_after now.statement now.reply.answer rest ≡ rest) →
+      ((q : Said) → open_of j earlier ≡ Some q → nat_lt 0 q.transaction ≡ true) → Shows (now ∷ earlier) begun_by opened
   shows_beside now mine zero writes_none same_rest some =
       let last : last_of j (now ∷ earlier) ≡ last_of j earlier = last_by j earlier now false mine (ap (nat_lt 0) zero) in
       record {
         begun = by_number j (λ k b. next_after (last_of k (now ∷ earlier)) ≡ suc (begun_by k)) (ap next_after last ∙ shows.begun j) (λ k f. begun_other j earlier now mine k f ∙ shows.begun k);
-        opened = by_number j (λ k b. opened k ≡ opened_in k (now ∷ earlier)) (shows.opened j ∙ sym (ap (λ o. option_map (open_as j (now ∷ earlier)) (open_after o)) last ∙ whole (open_of j earlier) refl)) (λ k f. shows.opened k ∙ sym (opened_other j earlier now mine k f));
+        opened = by_number j (λ k b. opened k ≡ opened_in k (now ∷ earlier)) (shows.opened j ∙
+            sym (ap (λ o. option_map (open_as j (now ∷ earlier)) (open_after o)) last ∙ whole (open_of j earlier) refl)) (λ k f. shows.opened k ∙ sym (opened_other j earlier now mine k f));
         goes = by_number j (λ k b. (q : Said) → open_of k (now ∷ earlier) ≡ Some q → GoesOn k (now ∷ earlier) q)
             (λ q e. let was : open_of j earlier ≡ Some q = sym (ap open_after last) ∙ e in ap (list_any ends) (lines_other j q.transaction earlier now (off q was)) ∙ shows.goes j q was)
             (λ k f. goes_other j earlier now mine k f (shows.goes k));
@@ -228,7 +256,13 @@ module _ (j : ℕ) (earlier : List Said) (begun_by : ℕ → ℕ) (opened : ℕ 
 
       whole : (o : Option Said) → open_of j earlier ≡ o → option_map (open_as j (now ∷ earlier)) o ≡ option_map (open_as j earlier) o
       whole None e = refl
-      whole (Some q) e = λ i. Some (record { transaction = q.transaction; at = q.at; scope = q.scope; wrote = filter_map stored (lines_other j q.transaction earlier now (off q e) i); rest = rest_other j q.transaction earlier now (off q e) i })
+      whole (Some q) e = λ i. Some (record {
+        transaction = q.transaction;
+        at = q.at;
+        scope = q.scope;
+        wrote = filter_map stored (lines_other j q.transaction earlier now (off q e) i);
+        rest = rest_other j q.transaction earlier now (off q e) i;
+      })
 
 -- the last line of a session stands in a transaction, which has a number
 pub last_some : (j : ℕ) (earlier : List Said) (q : Said) → last_of j earlier ≡ Some q → nat_lt 0 q.transaction ≡ true
@@ -239,6 +273,7 @@ last_some j (s ∷ ss) q e = go ((s.session == j) && nat_lt 0 s.transaction) ref
     and_right true b f = f
     and_right false b f = absurd (true_false (sym f))
 
-    go : (b : Bool) → ((s.session == j) && nat_lt 0 s.transaction) ≡ b → cond b (Some s) (last_of j ss) ≡ Some q → (last_of j ss ≡ Some q → nat_lt 0 q.transaction ≡ true) → nat_lt 0 q.transaction ≡ true
+    go : (b : Bool) → ((s.session == j) && nat_lt 0 s.transaction) ≡ b → cond b (Some s) (last_of j ss) ≡ Some q → (last_of j ss ≡ Some q → nat_lt 0 q.transaction ≡ true) →
+        nat_lt 0 q.transaction ≡ true
     go true f g later = subst (λ (x : Said). nat_lt 0 x.transaction ≡ true) (some_same s q g) (and_right (s.session == j) (nat_lt 0 s.transaction) f)
     go false f g later = later g

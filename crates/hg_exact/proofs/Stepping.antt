@@ -19,7 +19,8 @@ use Rattle.hg_base.specs.declared.line.Reply.{Reply}
 use Rattle.hg_base.specs.Lists.{Each, Ascends, onto, present}
 use Rattle.hg_base.specs.Script.{replay}
 use Rattle.hg_base.specs.History.{Write, Commit, Group, History, IsGroup, LosesNothing, NoneTwice, image_in, rids_of, same_rid, seen, writes}
-use Rattle.hg_base.specs.Transcript.{Said, Rest, commit_by, committed, committed_by, greatest_commit, history_of, is_end, is_of, last_images, last_of, next_after, only, open_after, open_of, rest_after, rest_in, said, standing, stored, stored_by, stored_in, table_of}
+use Rattle.hg_base.specs.Transcript.{Said, Rest, commit_by, committed, committed_by, greatest_commit, history_of, is_end, is_of, last_images, last_of, next_after, only, open_after, open_of}
+use Rattle.hg_base.specs.Transcript.{rest_after, rest_in, said, standing, stored, stored_by, stored_in, table_of}
 use Rattle.hg_base.specs.Shape.{report_of, same_kind}
 use Rattle.hg_base.specs.Replies.{IsAnswer, IsReply, is_written}
 use Rattle.hg_base.specs.Conflicts.{ShowsCause, ShowsConflict, target}
@@ -39,7 +40,8 @@ use Rattle.hg_exact.specs.Lawful.{MayAsk, MovesDeclared}
 use Rattle.hg_exact.specs.Replayed.{alone, begins, inside, number_for, plain_answer, plain_reply, plain_sweep, plain_told, stands, step, within}
 use Rattle.hg_exact.proofs.Answering.{IsPlain, Prints, answer_prints, answered, target_by}
 use Rattle.hg_exact.proofs.Causes.{cause_shown, opened_at}
-use Rattle.hg_exact.proofs.Counting.{AreBegun, WasBegun, are_begun, Counts, IsOf, IsUpTo, begins_at, begun_here, begun_more, counts_commit, counts_plain, each_unmap, held_ascends, held_each, held_from, held_snapshots, known_upto, marks_upto, pair, told_pairs, told_sessions}
+use Rattle.hg_exact.proofs.Counting.{AreBegun, WasBegun, are_begun, Counts, IsOf, IsUpTo, begins_at, begun_here, begun_more, counts_commit, counts_plain, each_unmap, held_ascends, held_each}
+use Rattle.hg_exact.proofs.Counting.{held_from, held_snapshots, known_upto, marks_upto, pair, told_pairs, told_sessions}
 use Rattle.hg_exact.proofs.Keeping.{AreKept, IsKept, each_newest, newest_most, kept_but, kept_commit, nobody, not_none, wrote_by}
 use Rattle.hg_exact.proofs.Standing.{Shows, is_mine, last_by, last_some, open_as, opened_last, shows_alone, shows_begun, shows_beside, shows_within}
 
@@ -138,8 +140,10 @@ module _ (sound : Bool) (all : List Said) (s : State) (knows : Knows sound all s
 
   -- ---- a line that prints no commit, and one that does
 
-  plain_line : (now : Said) (begun_by : ℕ → ℕ) (opens : ℕ → Option Open) → now.session ≡ j → committed now ≡ None → OnSound sound (IsRight replay s.history (all ++ now ∷ []) earlier now) → IsUpTo (mark s) now → AreBegun (now ∷ earlier)
-      → Shows (now ∷ earlier) begun_by opens → AreKept s.sessions s.history opens → Knows sound (all ++ now ∷ []) (record { sessions = s.sessions; history = s.history; begun = begun_by; opened = opens })
+  plain_line : (now : Said) (begun_by : ℕ → ℕ) (opens : ℕ → Option Open) → now.session ≡ j → committed now ≡ None →
+      OnSound sound (IsRight replay s.history (all ++ now ∷ []) earlier now) → IsUpTo (mark s) now → AreBegun (now ∷ earlier)
+      → Shows (now ∷ earlier) begun_by opens → AreKept s.sessions s.history opens →
+      Knows sound (all ++ now ∷ []) (record { sessions = s.sessions; history = s.history; begun = begun_by; opened = opens })
   plain_line now begun_by opens mine none right upto begun shows kept =
       let back : now ∷ earlier ≡ onto (all ++ now ∷ []) [] = sym (onto_snoc all [] now) in
       record {
@@ -152,9 +156,11 @@ module _ (sound : Bool) (all : List Said) (s : State) (knows : Knows sound all s
         within = subst (Each (λ (said : Said). said.session ≤ s.sessions)) back (subst (λ n. n ≤ s.sessions) (sym mine) most, knows.within);
       }
 
-  commit_line : (now : Said) (o : Open) (begun_by : ℕ → ℕ) (opens : ℕ → Option Open) → now.session ≡ j → committed now ≡ Some (suc (mark s)) → commit_by earlier now ≡ record { session = j; transaction = o.transaction; at = o.at; images = last_images o.wrote }
+  commit_line : (now : Said) (o : Open) (begun_by : ℕ → ℕ) (opens : ℕ → Option Open) → now.session ≡ j → committed now ≡ Some (suc (mark s)) →
+      commit_by earlier now ≡ record { session = j; transaction = o.transaction; at = o.at; images = last_images o.wrote }
       → is_written o.wrote ≡ true → o.at ≤ mark s → Each (λ w. Each (λ (other : ℕ × Image). other.0 ≤ o.at) (writes s.history w.rid)) o.wrote
-      → IsReply replay s.history earlier now → ((h : History) → ShowsConflict replay h (all ++ now ∷ []) earlier now) → ((h : History) → IsFresh replay h (all ++ now ∷ []) earlier now) → IsUpTo (suc (mark s)) now → AreBegun (now ∷ earlier)
+      → IsReply replay s.history earlier now → ((h : History) → ShowsConflict replay h (all ++ now ∷ []) earlier now) →
+      ((h : History) → IsFresh replay h (all ++ now ∷ []) earlier now) → IsUpTo (suc (mark s)) now → AreBegun (now ∷ earlier)
       → Shows (now ∷ earlier) begun_by opens → AreKept s.sessions (with_group (Some (suc (mark s))) j o s.history) opens
       → Knows sound (all ++ now ∷ []) (record { sessions = s.sessions; history = with_group (Some (suc (mark s))) j o s.history; begun = begun_by; opened = opens })
   commit_line now o begun_by opens mine number is wrote at loses reply conflict fresh upto begun shows kept =
@@ -163,7 +169,12 @@ module _ (sound : Bool) (all : List Said) (s : State) (knows : Knows sound all s
       let group : Group = c ∷ [] in
       let printed : committed now ≡ Some (suc (length (history_of all))) = number ∙ ap (λ h. Some (suc (length h))) (sym knows.history) in
       let whole : history_of all ++ (commit_by earlier now ∷ []) ∷ [] ≡ s.history ++ group ∷ [] = (λ i. knows.history i ++ (is i ∷ []) ∷ []) in
-      let right : IsRight replay (s.history ++ group ∷ []) (all ++ now ∷ []) earlier now = (record { reply = reply_stays replay s.history (s.history ++ group ∷ []) earlier now (extends_snoc s.history group) reply; conflict = conflict (s.history ++ group ∷ []); fresh = fresh (s.history ++ group ∷ []) }) in
+      let right : IsRight replay (s.history ++ group ∷ []) (all ++ now ∷ []) earlier now =
+      (record {
+        reply = reply_stays replay s.history (s.history ++ group ∷ []) earlier now (extends_snoc s.history group) reply;
+        conflict = conflict (s.history ++ group ∷ []);
+        fresh = fresh (s.history ++ group ∷ []);
+      }) in
       let one : IsGroup (suc (length s.history)) group = (record {
         some = omega arith;
         commits = (record { some = images_some o.wrote wrote; before = omega (arith, at) }, tt);
@@ -174,7 +185,8 @@ module _ (sound : Bool) (all : List Said) (s : State) (knows : Knows sound all s
       let longer : suc (mark s) ≡ length (s.history ++ group ∷ []) = sym (length_snoc s.history group) in
       record {
         history = history_next all now printed ∙ whole;
-        right = on_sound sound (λ r. commit_stays replay all now r printed (as_group knows.history is one) (lost knows.history is loses_nothing) (subst (λ h. IsRight replay h (all ++ now ∷ []) earlier now) (sym whole) right)) knows.right;
+        right = on_sound sound (λ r. commit_stays replay all now r printed (as_group knows.history is one) (lost knows.history is loses_nothing)
+            (subst (λ h. IsRight replay h (all ++ now ∷ []) earlier now) (sym whole) right)) knows.right;
         shows = subst (λ l. Shows l begun_by opens) back shows;
         kept = kept;
         counts = subst (λ n. Counts (onto (all ++ now ∷ []) []) n) longer (subst (λ l. Counts l (suc (mark s))) back (counts_commit earlier (mark s) now knows.counts number upto));
@@ -205,7 +217,8 @@ module _ (sound : Bool) (all : List Said) (s : State) (knows : Knows sound all s
   newest_is = sym knows.counts.mark
 
   -- a line with an answer that neither begins nor reports, at this snapshot or none
-  fresh_line : (now : Said) (h : History) (after : List Said) → now.session ≡ j → Prints (mark s) now.reply.answer → (now.reply.at ≡ None) ⊎ (now.reply.at ≡ Some (mark s)) → IsFresh replay h after earlier now
+  fresh_line : (now : Said) (h : History) (after : List Said) → now.session ≡ j → Prints (mark s) now.reply.answer → (now.reply.at ≡ None) ⊎ (now.reply.at ≡ Some (mark s)) →
+      IsFresh replay h after earlier now
   fresh_line now h after mine p at = record {
     rising = by_snapshot (λ n. Each (λ m. m ≤ n) (known now.session earlier)) (subst (λ i. Each (λ m. m ≤ mark s) (known i earlier)) (sym mine) (known_below h));
     exact = record {
@@ -237,9 +250,16 @@ module _ (sound : Bool) (all : List Said) (s : State) (knows : Knows sound all s
 
   -- ---- a transaction begins
 
-  begin_line : (now : Said) (o : Open) → now.session ≡ j → now.transaction ≡ suc (s.begun j) → now.at ≡ mark s → now.alone ≡ false → is_end now.statement ≡ false → stored now ≡ None → committed now ≡ None → target now.statement ≡ None → now.reply ≡ inside (Begun (mark s))
+  begin_line : (now : Said) (o : Open) → now.session ≡ j → now.transaction ≡ suc (s.begun j) → now.at ≡ mark s → now.alone ≡ false → is_end now.statement ≡ false →
+      stored now ≡ None → committed now ≡ None → target now.statement ≡ None → now.reply ≡ inside (Begun (mark s))
       → IsReply replay s.history earlier now → o.at ≡ mark s → o.wrote ≡ []
-      → o ≡ record { transaction = suc (s.begun j); at = now.at; scope = now.scope; wrote = []; rest = rest_after now.statement now.reply.answer (rest_in j (suc (s.begun j)) earlier) } → Knows sound (all ++ now ∷ []) (begins s j o)
+      → o ≡ record {
+        transaction = suc (s.begun j);
+        at = now.at;
+        scope = now.scope;
+        wrote = [];
+        rest = rest_after now.statement now.reply.answer (rest_in j (suc (s.begun j)) earlier);
+      } → Knows sound (all ++ now ∷ []) (begins s j o)
   begin_line now o mine number at alone no_end writes_none none no_target says reply at_o wrote_o is =
       plain_line now (but s.begun j (suc (s.begun j))) (but s.opened j (Some o)) mine none
       (given sound (record { reply = reply; conflict = subst (λ t. IfSome t (λ r. ShowsCause replay s.history (all ++ now ∷ []) earlier now r now.reply.answer)) (sym no_target) tt; fresh = fresh }))
@@ -251,7 +271,12 @@ module _ (sound : Bool) (all : List Said) (s : State) (knows : Knows sound all s
       no_write r w = let bad : false ≡ true = sym (ap (λ ws. is_some (image_in r ws)) wrote_o) ∙ w in cc
 
       kept_o : IsKept s.sessions s.history j o
-      kept_o = record { some = some; most = most; at = subst (λ n. n ≤ mark s) (sym at_o) (omega arith); loses = subst (Each (λ w. Each (λ (other : ℕ × Image). other.0 ≤ o.at) (writes s.history w.rid))) (sym wrote_o) tt }
+      kept_o = record {
+        some = some;
+        most = most;
+        at = subst (λ n. n ≤ mark s) (sym at_o) (omega arith);
+        loses = subst (Each (λ w. Each (λ (other : ℕ × Image). other.0 ≤ o.at) (writes s.history w.rid))) (sym wrote_o) tt;
+      }
 
       shown : snapshot_of now ≡ Some (mark s)
       shown = ap (λ (x : Reply). elim x.answer [ Begun n ↦ Some n | _ ↦ x.at ]) says
@@ -264,7 +289,8 @@ module _ (sound : Bool) (all : List Said) (s : State) (knows : Knows sound all s
 
       fresh : IsFresh replay s.history (all ++ now ∷ []) earlier now
       fresh = record {
-        rising = if_some_is (λ n. Each (λ m. m ≤ n) (known now.session earlier)) (snapshot_of now) (Some (mark s)) shown (subst (λ i. Each (λ m. m ≤ mark s) (known i earlier)) (sym mine) (known_below s.history));
+        rising = if_some_is (λ n. Each (λ m. m ≤ n) (known now.session earlier)) (snapshot_of now) (Some (mark s)) shown
+            (subst (λ i. Each (λ m. m ≤ mark s) (known i earlier)) (sym mine) (known_below s.history));
         exact = record {
           snapshot = if_some_is (λ n. n ≡ greatest_commit earlier) (snapshot_of now) (Some (mark s)) shown newest_is;
           newer = if_some_is (λ c. IsTrue (list_any (λ n. n == c) (filter_map committed earlier))) (newer_of now) None newer_none tt;
@@ -275,7 +301,8 @@ module _ (sound : Bool) (all : List Said) (s : State) (knows : Knows sound all s
 
       upto : IsUpTo (mark s) now
       upto = (
-        three (λ n. n ≤ mark s) (snapshot_of now) (committed now) (newer_of now) (if_some_is (λ n. n ≤ mark s) (snapshot_of now) (Some (mark s)) shown (omega arith)) (if_some_is (λ n. n ≤ mark s) (committed now) None none tt) (if_some_is (λ n. n ≤ mark s) (newer_of now) None newer_none tt),
+        three (λ n. n ≤ mark s) (snapshot_of now) (committed now) (newer_of now) (if_some_is (λ n. n ≤ mark s) (snapshot_of now) (Some (mark s)) shown (omega arith))
+            (if_some_is (λ n. n ≤ mark s) (committed now) None none tt) (if_some_is (λ n. n ≤ mark s) (newer_of now) None newer_none tt),
         subst (λ q. IfSome q (λ sweep. sweep.mark ≤ mark s)) (sym reported) tt,
       )
 
@@ -284,7 +311,8 @@ module _ (sound : Bool) (all : List Said) (s : State) (knows : Knows sound all s
 
       begun : AreBegun (now ∷ earlier)
       begun = are_begun j earlier now mine knows.begun (λ q e.
-          subst (WasBegun j (now ∷ earlier)) (said_same now q (sym (ap open_after last ∙ ap (λ b. cond (b || is_end now.statement) None (Some now)) alone ∙ ap (λ b. cond b None (Some now)) no_end) ∙ e))
+          subst (WasBegun j (now ∷ earlier)) (said_same now q (sym (ap open_after last ∙ ap (λ b. cond (b || is_end now.statement) None (Some now)) alone ∙
+          ap (λ b. cond b None (Some now)) no_end) ∙ e))
           (begun_here j earlier now mine (shown ∙ ap Some (sym at))))
 
   -- ---- a collector's round
@@ -292,12 +320,14 @@ module _ (sound : Bool) (all : List Said) (s : State) (knows : Knows sound all s
   abbrev round : Kind → Sweep → Said
   round kind sweep = said earlier (asked (Gc kind)) (record { at = None; answer = Swept sweep; number = None })
 
-  round_line : (kind : Kind) (sweep : Sweep) → let now : Said = said earlier (asked (Gc kind)) (record { at = None; answer = Swept sweep; number = None }) in plain_sweep sweep ≡ report s kind → OnSound sound (MovesDeclared earlier now) → Knows sound (all ++ now ∷ []) s
+  round_line : (kind : Kind) (sweep : Sweep) → let now : Said = said earlier (asked (Gc kind)) (record { at = None; answer = Swept sweep; number = None }) in
+      plain_sweep sweep ≡ report s kind → OnSound sound (MovesDeclared earlier now) → Knows sound (all ++ now ∷ []) s
   round_line kind sweep is moves =
       plain_line (round kind sweep) s.begun s.opened refl refl
       (on_sound sound (λ m. record { reply = record { at = refl; number = refl; snapshot = omega arith; answer = tt }; conflict = tt; fresh = fresh m }) moves)
       (tt, subst (λ n. n ≤ mark s) (sym (ap (λ (x : Sweep). x.mark) is)) (omega arith))
-      (are_begun j earlier (round kind sweep) refl knows.begun (λ q e. begun_more j earlier (round kind sweep) q q refl refl (knows.begun j q (sym (ap open_after (last_by j earlier (round kind sweep) false refl refl)) ∙ e))))
+      (are_begun j earlier (round kind sweep) refl knows.begun (λ q e. begun_more j earlier (round kind sweep) q q refl refl
+      (knows.begun j q (sym (ap open_after (last_by j earlier (round kind sweep) false refl refl)) ∙ e))))
       (shows_beside j earlier s.begun s.opened knows.shows (round kind sweep) refl refl refl (λ rest. refl) (λ q e. last_some j earlier q (opened_last j earlier s.begun s.opened knows.shows q e)))
       knows.kept
     where
@@ -312,21 +342,26 @@ module _ (sound : Bool) (all : List Said) (s : State) (knows : Knows sound all s
       each_held : Each (λ told. IsOf s.opened told) sweep.held
       each_held = each_unmap (IsOf s.opened) plain_told sweep.held (subst (Each (IsOf s.opened)) (sym held) (held_each s.opened 1 s.sessions))
 
-      is_held : (told : Told) → IsOf s.opened told → MatchBool told.moved (IfSome (open_of told.session earlier) (λ said. IsTrue (is_declared said.scope))) ⊤ → IsHeld (all ++ round kind sweep ∷ []) told
+      is_held : (told : Told) → IsOf s.opened told → MatchBool told.moved (IfSome (open_of told.session earlier) (λ said. IsTrue (is_declared said.scope))) ⊤ →
+          IsHeld (all ++ round kind sweep ∷ []) told
       is_held told (o, e, at) moved =
           let q = opened_at told.session earlier (s.opened told.session) o (knows.shows.opened told.session) e in
           let number : q.0.at ≡ told.number = ap (λ (x : Open). x.at) (sym q.2) ∙ at in
           let begun : WasBegun told.session earlier q.0 = knows.begun told.session q.0 q.1 in
           let printed : list_any (begins_at told.session false told.number) earlier ≡ true = subst (λ n. list_any (begins_at told.session false n) earlier ≡ true) number (begun.shown false refl) in
           record {
-            printed = any_more (prints told) all (round kind sweep ∷ []) (any_of_onto (prints told) all (sym (any_same (begins_at told.session false told.number) (prints told) (λ x. and_true (prints told x)) earlier) ∙ printed));
-            declared = match_keeps told.moved (λ h. any_more (λ said. prints told said && is_declared said.scope) all (round kind sweep ∷ []) (any_of_onto (λ said. prints told said && is_declared said.scope) all (subst (λ n. list_any (begins_at told.session true n) earlier ≡ true) number (begun.shown true (declared_is (open_of told.session earlier) q.0 q.1 h))))) moved;
+            printed = any_more (prints told) all (round kind sweep ∷ [])
+                (any_of_onto (prints told) all (sym (any_same (begins_at told.session false told.number) (prints told) (λ x. and_true (prints told x)) earlier) ∙ printed));
+            declared = match_keeps told.moved (λ h. any_more (λ said. prints told said && is_declared said.scope) all (round kind sweep ∷ [])
+                (any_of_onto (λ said. prints told said && is_declared said.scope) all
+                (subst (λ n. list_any (begins_at told.session true n) earlier ≡ true) number (begun.shown true (declared_is (open_of told.session earlier) q.0 q.1 h))))) moved;
           }
         where
           declared_is : (x : Option Said) (q : Said) → x ≡ Some q → IfSome x (λ said. IsTrue (is_declared said.scope)) → is_declared q.scope ≡ true
           declared_is x q e h = subst (λ y. IfSome y (λ said. IsTrue (is_declared said.scope))) e h
 
-      all_held : (ts : List Told) → Each (λ told. IsOf s.opened told) ts → Each (λ told. MatchBool told.moved (IfSome (open_of told.session earlier) (λ said. IsTrue (is_declared said.scope))) ⊤) ts → Each (IsHeld (all ++ round kind sweep ∷ [])) ts
+      all_held : (ts : List Told) → Each (λ told. IsOf s.opened told) ts →
+          Each (λ told. MatchBool told.moved (IfSome (open_of told.session earlier) (λ said. IsTrue (is_declared said.scope))) ⊤) ts → Each (IsHeld (all ++ round kind sweep ∷ [])) ts
       all_held [] h k = tt
       all_held (t ∷ ts) h k = (is_held t h.0 k.0, all_held ts h.1 k.1)
 
@@ -481,13 +516,16 @@ module _ (sound : Bool) (all : List Said) (s : State) (knows : Knows sound all s
         go : (b : Bool) → is_written o.wrote ≡ b → Commits b
         go false f =
             let is : answer_in s o CommitIt ≡ Ended = ap (λ b. if b then Committed (suc (mark s)) else Ended) f in
-            subst (λ a. Knows sound (all ++ standing (Some q) (next_after (last_of j earlier)) (asked CommitIt) (inside a) ∷ []) (record { sessions = s.sessions; history = s.history; begun = s.begun; opened = but s.opened j None })) is (ending_line CommitIt tt tt refl (ap (λ a. committed_by CommitIt a) is))
+            subst (λ a. Knows sound (all ++ standing (Some q) (next_after (last_of j earlier)) (asked CommitIt) (inside a) ∷ [])
+            (record { sessions = s.sessions; history = s.history; begun = s.begun; opened = but s.opened j None })) is (ending_line CommitIt tt tt refl (ap (λ a. committed_by CommitIt a) is))
         go true f =
             let is : answer_in s o CommitIt ≡ Committed (suc (mark s)) = ap (λ b. if b then Committed (suc (mark s)) else Ended) f in
-            subst (λ a. Knows sound (all ++ standing (Some q) (next_after (last_of j earlier)) (asked CommitIt) (inside a) ∷ []) (record { sessions = s.sessions; history = with_group (Some (suc (mark s))) j o s.history; begun = s.begun; opened = but s.opened j None })) is
+            subst (λ a. Knows sound (all ++ standing (Some q) (next_after (last_of j earlier)) (asked CommitIt) (inside a) ∷ [])
+            (record { sessions = s.sessions; history = with_group (Some (suc (mark s))) j o s.history; begun = s.begun; opened = but s.opened j None })) is
             (commit_line (line CommitIt) o s.begun (but s.opened j None) refl (ap (λ a. committed_by CommitIt a) is) same_commit f kept_o.at kept_o.loses (line_reply CommitIt tt tt)
             (λ h. tt) (λ h. line_fresh CommitIt tt h)
-            (upto_line (line CommitIt) (suc (mark s)) (omega arith) (answer_prints s o CommitIt tt) (inl refl) (if_some_is (λ n. n ≤ suc (mark s)) (committed_by CommitIt (answer_in s o CommitIt)) (Some (suc (mark s))) (ap (λ a. committed_by CommitIt a) is) (omega arith)))
+            (upto_line (line CommitIt) (suc (mark s)) (omega arith) (answer_prints s o CommitIt tt) (inl refl)
+            (if_some_is (λ n. n ≤ suc (mark s)) (committed_by CommitIt (answer_in s o CommitIt)) (Some (suc (mark s))) (ap (λ a. committed_by CommitIt a) is) (omega arith)))
             (line_begun CommitIt) (line_shows CommitIt)
             (kept_commit s.sessions s.history (record { session = j; transaction = o.transaction; at = o.at; images = last_images o.wrote }) o.wrote s.opened j refl apart knows.kept))
           where
@@ -536,7 +574,9 @@ module _ (sound : Bool) (all : List Said) (s : State) (knows : Knows sound all s
     rest_none [] f = refl
     rest_none (x ∷ xs) f = go (is_of j (suc (s.begun j)) x) f (λ g. rest_none xs g)
       where
-        go : (b : Bool) → cond b (x ∷ filter (is_of j (suc (s.begun j))) xs) (filter (is_of j (suc (s.begun j))) xs) ≡ [] → (filter (is_of j (suc (s.begun j))) xs ≡ [] → rest_in j (suc (s.begun j)) xs ≡ None) → (if b then rest_after x.statement x.reply.answer (rest_in j (suc (s.begun j)) xs) else rest_in j (suc (s.begun j)) xs) ≡ None
+        go : (b : Bool) → cond b (x ∷ filter (is_of j (suc (s.begun j))) xs) (filter (is_of j (suc (s.begun j))) xs) ≡ [] →
+            (filter (is_of j (suc (s.begun j))) xs ≡ [] → rest_in j (suc (s.begun j)) xs ≡ None) →
+            (if b then rest_after x.statement x.reply.answer (rest_in j (suc (s.begun j)) xs) else rest_in j (suc (s.begun j)) xs) ≡ None
         go true g later = absurd (let bad : (x ∷ filter (is_of j (suc (s.begun j))) xs) ≡ [] = g in cc)
         go false g later = later g
 
@@ -545,7 +585,8 @@ module _ (sound : Bool) (all : List Said) (s : State) (knows : Knows sound all s
       at = refl;
       number = some_number x ∙ ap is_some (sym f);
       snapshot = omega arith;
-      answer = subst (λ (p : List Write × Option Rest). IsAnswer replay (seen s.history p.0 (mark s)) (is_written p.0) p.1 (single st x) st) (λ i. (sym (ap (filter_map stored) none_before) i, sym (rest_none earlier none_before) i)) (answered s (own st) st (single st x) plain may);
+      answer = subst (λ (p : List Write × Option Rest). IsAnswer replay (seen s.history p.0 (mark s)) (is_written p.0) p.1 (single st x) st)
+          (λ i. (sym (ap (filter_map stored) none_before) i, sym (rest_none earlier none_before) i)) (answered s (own st) st (single st x) plain may);
     }
       where
         some_number : (y : Option Write) → is_some (if is_some y then Some (suc (mark s)) else None) ≡ is_some y
@@ -584,7 +625,13 @@ module _ (sound : Bool) (all : List Said) (s : State) (knows : Knows sound all s
     abbrev Goal : Statement → Option Write → Type 0
     Goal st x = Knows sound (all ++ single st x ∷ []) (record {
       sessions = s.sessions;
-      history = with_group (if is_some x then Some (suc (mark s)) else None) j (record { transaction = suc (s.begun j); at = mark s; scope = only (table_of st); wrote = cons_option x []; rest = rest_after st (answer_in s (own st) st) None }) s.history;
+      history = with_group (if is_some x then Some (suc (mark s)) else None) j (record {
+        transaction = suc (s.begun j);
+        at = mark s;
+        scope = only (table_of st);
+        wrote = cons_option x [];
+        rest = rest_after st (answer_in s (own st) st) None;
+      }) s.history;
       begun = but s.begun j (suc (s.begun j));
       opened = s.opened;
     })
@@ -624,7 +671,8 @@ module _ (sound : Bool) (all : List Said) (s : State) (knows : Knows sound all s
         apart k r g h = go (same_rid w.rid r) refl
           where
             go : (b : Bool) → same_rid w.rid r ≡ b → (if b then Some w.image else None) ≡ None
-            go true i = absurd (not_none (image_in r (wrote_by (s.opened k))) (subst (λ y. image_in y (wrote_by (s.opened k)) ≡ None) (same_rid_equal w.rid r i) (nobody_writes w (same_store st w (stored_may (stored_by st (answer_in s (own st) st)) f (may_store (own st) st plain))) k)) h)
+            go true i = absurd (not_none (image_in r (wrote_by (s.opened k))) (subst (λ y. image_in y (wrote_by (s.opened k)) ≡ None) (same_rid_equal w.rid r i)
+                (nobody_writes w (same_store st w (stored_may (stored_by st (answer_in s (own st) st)) f (may_store (own st) st plain))) k)) h)
             go false i = refl
 
         same_opened : but s.opened j None ≡ s.opened
@@ -648,9 +696,11 @@ module _ (sound : Bool) (all : List Said) (s : State) (knows : Knows sound all s
   -- ---- any line
 
   abbrev Whole : Statement → Reply → Option Open → Type 0
-  Whole st reply x = MayAsk x st → plain_reply reply ≡ (stands s j x st).0 → Knows sound (all ++ standing (open_of j earlier) (next_after (last_of j earlier)) (asked st) reply ∷ []) (stands s j x st).1
+  Whole st reply x = MayAsk x st → plain_reply reply ≡ (stands s j x st).0 →
+      Knows sound (all ++ standing (open_of j earlier) (next_after (last_of j earlier)) (asked st) reply ∷ []) (stands s j x st).1
 
-  stands_line : (st : Statement) → IsPlain st → MayAsk (s.opened j) st → (reply : Reply) → plain_reply reply ≡ (stands s j (s.opened j) st).0 → Knows sound (all ++ standing (open_of j earlier) (next_after (last_of j earlier)) (asked st) reply ∷ []) (stands s j (s.opened j) st).1
+  stands_line : (st : Statement) → IsPlain st → MayAsk (s.opened j) st → (reply : Reply) → plain_reply reply ≡ (stands s j (s.opened j) st).0 →
+      Knows sound (all ++ standing (open_of j earlier) (next_after (last_of j earlier)) (asked st) reply ∷ []) (stands s j (s.opened j) st).1
   stands_line st plain may reply f = subst (Whole st reply) (sym (knows.shows.opened j)) (go (open_of j earlier) refl) may f
     where
       no_fetch : MayAsk None st → MayAsk (Some (next s j (only (table_of st)) None)) st
@@ -662,29 +712,41 @@ module _ (sound : Bool) (all : List Said) (s : State) (knows : Knows sound all s
           by_statement (CursorOpen table low high) p m = absurd p
           by_statement _ p m = tt
 
-      go : (y : Option Said) → open_of j earlier ≡ y → (let x : Option Open = option_map (open_as j earlier) y in MayAsk x st → plain_reply reply ≡ (stands s j x st).0 → Knows sound (all ++ standing y (next_after (last_of j earlier)) (asked st) reply ∷ []) (stands s j x st).1)
+      go : (y : Option Said) → open_of j earlier ≡ y → (let x : Option Open = option_map (open_as j earlier) y in MayAsk x st → plain_reply reply ≡ (stands s j x st).0 →
+          Knows sound (all ++ standing y (next_after (last_of j earlier)) (asked st) reply ∷ []) (stands s j x st).1)
       go None g m h =
           let o : Open = next s j (only (table_of st)) None in
-          let is : reply ≡ record { at = Some (mark s); answer = answer_in s o st; number = number_for s st (answer_in s o st) } = same_reply reply (record { at = Some (mark s); answer = answer_in s o st; number = number_for s st (answer_in s o st) }) h (swept_not (answer_in s o st) (mark s) (answer_prints s o st plain)) in
-          subst (λ (p : ℕ × Reply). Knows sound (all ++ standing None p.0 (asked st) p.1 ∷ []) (alone s j o st (answer_in s o st))) (λ i. (sym (knows.shows.begun j) i, sym is i)) (alone_line g st plain (no_fetch m))
+          let is : reply ≡ record { at = Some (mark s); answer = answer_in s o st; number = number_for s st (answer_in s o st) } = same_reply reply
+          (record { at = Some (mark s); answer = answer_in s o st; number = number_for s st (answer_in s o st) }) h (swept_not (answer_in s o st) (mark s) (answer_prints s o st plain)) in
+          subst (λ (p : ℕ × Reply). Knows sound (all ++ standing None p.0 (asked st) p.1 ∷ []) (alone s j o st (answer_in s o st))) (λ i. (sym (knows.shows.begun j) i, sym is i))
+          (alone_line g st plain (no_fetch m))
       go (Some q) g m h =
           let o : Open = open_as j earlier q in
           let is : reply ≡ inside (answer_in s o st) = same_reply reply (inside (answer_in s o st)) h (swept_not (answer_in s o st) (mark s) (answer_prints s o st plain)) in
           subst (λ (x : Reply). Knows sound (all ++ standing (Some q) (next_after (last_of j earlier)) (asked st) x ∷ []) (within s j o st (answer_in s o st))) (sym is) (within_line q g st plain m)
 
-  round_any : (kind : Kind) (at : Option ℕ) (answer : Answer) (number : Option ℕ) → at ≡ None → plain_answer answer ≡ Swept (report s kind) → number ≡ None → OnSound sound (MovesDeclared earlier (said earlier (asked (Gc kind)) (record { at = at; answer = answer; number = number }))) → Knows sound (all ++ said earlier (asked (Gc kind)) (record { at = at; answer = answer; number = number }) ∷ []) s
-  round_any kind at (Swept sweep) number f g h moves = subst (λ (p : Option ℕ × Option ℕ). Knows sound (all ++ said earlier (asked (Gc kind)) (record { at = p.0; answer = Swept sweep; number = p.1 }) ∷ []) s) (λ i. (sym f i, sym h i)) (round_line kind sweep (same_sweep (plain_sweep sweep) (report s kind) g) moves)
+  round_any : (kind : Kind) (at : Option ℕ) (answer : Answer) (number : Option ℕ) → at ≡ None → plain_answer answer ≡ Swept (report s kind) → number ≡ None →
+      OnSound sound (MovesDeclared earlier (said earlier (asked (Gc kind)) (record { at = at; answer = answer; number = number }))) →
+      Knows sound (all ++ said earlier (asked (Gc kind)) (record { at = at; answer = answer; number = number }) ∷ []) s
+  round_any kind at (Swept sweep) number f g h moves = subst (λ (p : Option ℕ × Option ℕ). Knows sound
+      (all ++ said earlier (asked (Gc kind)) (record { at = p.0; answer = Swept sweep; number = p.1 }) ∷ []) s) (λ i. (sym f i, sym h i))
+      (round_line kind sweep (same_sweep (plain_sweep sweep) (report s kind) g) moves)
     where
       same_sweep : (x y : Sweep) → Swept x ≡ Swept y → x ≡ y
       same_sweep x y k = cc
   round_any kind at answer number f g h moves = absurd (let bad : false ≡ true = ap is_swept g in cc)
 
-  pub step_line : (st : Statement) → MayAsk (s.opened j) st → (reply : Reply) → plain_reply reply ≡ (step s j st).0 → OnSound sound (MovesDeclared earlier (said earlier (asked st) reply)) → Knows sound (all ++ said earlier (asked st) reply ∷ []) (step s j st).1
+  pub step_line : (st : Statement) → MayAsk (s.opened j) st → (reply : Reply) → plain_reply reply ≡ (step s j st).0 →
+      OnSound sound (MovesDeclared earlier (said earlier (asked st) reply)) → Knows sound (all ++ said earlier (asked st) reply ∷ []) (step s j st).1
   step_line (Begin scope) may reply f moves =
       subst (λ (x : Reply). Knows sound (all ++ said earlier (asked (Begin scope)) x ∷ []) (begins s j (next s j scope None))) (sym (same_reply reply (inside (Begun (mark s))) f refl))
-      (begin_line (said earlier (asked (Begin scope)) (inside (Begun (mark s)))) (next s j scope None) refl (knows.shows.begun j) refl refl refl refl refl refl refl (record { at = refl; number = refl; snapshot = omega arith; answer = tt }) refl refl refl)
+      (begin_line (said earlier (asked (Begin scope)) (inside (Begun (mark s)))) (next s j scope None) refl (knows.shows.begun j) refl refl refl refl refl refl refl
+      (record { at = refl; number = refl; snapshot = omega arith; answer = tt }) refl refl refl)
   step_line (CursorOpen table low high) may reply f moves =
-      subst (λ (x : Reply). Knows sound (all ++ said earlier (asked (CursorOpen table low high)) x ∷ []) (begins s j (next s j (only (Some table)) (Some (record { table = table; low = low; high = high }))))) (sym (same_reply reply (inside (Begun (mark s))) f refl))
-      (begin_line (said earlier (asked (CursorOpen table low high)) (inside (Begun (mark s)))) (next s j (only (Some table)) (Some (record { table = table; low = low; high = high }))) refl (knows.shows.begun j) refl refl refl refl refl refl refl (record { at = refl; number = refl; snapshot = omega arith; answer = tt }) refl refl refl)
+      subst (λ (x : Reply). Knows sound (all ++ said earlier (asked (CursorOpen table low high)) x ∷ [])
+      (begins s j (next s j (only (Some table)) (Some (record { table = table; low = low; high = high }))))) (sym (same_reply reply (inside (Begun (mark s))) f refl))
+      (begin_line (said earlier (asked (CursorOpen table low high)) (inside (Begun (mark s))))
+      (next s j (only (Some table)) (Some (record { table = table; low = low; high = high }))) refl (knows.shows.begun j) refl refl refl refl refl refl refl
+      (record { at = refl; number = refl; snapshot = omega arith; answer = tt }) refl refl refl)
   step_line (Gc kind) may reply f moves = round_any kind reply.at reply.answer reply.number (ap (λ (x : Reply). x.at) f) (ap (λ (x : Reply). x.answer) f) (ap (λ (x : Reply). x.number) f) moves
   step_line st may reply f moves = stands_line st tt may reply f

@@ -16,7 +16,8 @@ use Rattle.hg_base.specs.History.{Write, image_in}
 use Rattle.hg_base.specs.Counts.{AreTotals, first_writes_from, is_committed, live}
 use Rattle.hg_base.specs.Script.{Script, replay}
 use Rattle.hg_base.specs.Sound.{all_said}
-use Rattle.hg_base.specs.Transcript.{Said, begun, commit_by, commits_from, committed, committed_by, ends, group_of, history_of, is_of, last_images, last_of, next_after, only, open_after, said, said_after, said_from, standing, stored, stored_by, stored_in}
+use Rattle.hg_base.specs.Transcript.{Said, begun, commit_by, commits_from, committed, committed_by, ends, group_of, history_of, is_of, last_images, last_of, next_after, only, open_after}
+use Rattle.hg_base.specs.Transcript.{said, said_after, said_from, standing, stored, stored_by, stored_in}
 use Rattle.hg_exact.specs.Replayed.{plain, plain_answer, plain_reply}
 
 -- a line, read beside its record, without what its report says was removed and moved
@@ -75,7 +76,8 @@ stored_in_plain j x xs = ap (filter_map stored) (filter_same plain_said (is_of j
 commits_plain : (earlier xs : List Said) → commits_from (map plain_said earlier) (map plain_said xs) ≡ commits_from earlier xs
 commits_plain earlier [] = refl
 commits_plain earlier (x ∷ xs) =
-    let by : commit_by (map plain_said earlier) (plain_said x) ≡ commit_by earlier x = (λ i. record { session = x.session; transaction = x.transaction; at = x.at; images = last_images (stored_in_plain x.session x.transaction (x ∷ earlier) i) }) in
+    let by : commit_by (map plain_said earlier) (plain_said x) ≡ commit_by earlier x =
+    (λ i. record { session = x.session; transaction = x.transaction; at = x.at; images = last_images (stored_in_plain x.session x.transaction (x ∷ earlier) i) }) in
     λ i. cons_option (option_map (λ c. (c, by i)) (committed_plain x i)) (commits_plain (x ∷ earlier) xs i)
 
 pub history_plain : (all : List Said) → history_of (map plain_said all) ≡ history_of all
@@ -84,13 +86,15 @@ history_plain all = λ i. map (group_of (commits_plain [] all i)) (numbers_from 
 firsts_plain : (earlier xs : List Said) → first_writes_from (map plain_said earlier) (map plain_said xs) ≡ map plain_said (first_writes_from earlier xs)
 firsts_plain earlier [] = refl
 firsts_plain earlier (x ∷ xs) =
-    let test : option_map_or (λ (w : Write). is_none (image_in w.rid (stored_in x.session x.transaction (map plain_said earlier)))) (stored (plain_said x)) false ≡ option_map_or (λ (w : Write). is_none (image_in w.rid (stored_in x.session x.transaction earlier))) (stored x) false =
+    let test : option_map_or (λ (w : Write). is_none (image_in w.rid (stored_in x.session x.transaction (map plain_said earlier)))) (stored (plain_said x)) false ≡ option_map_or
+    (λ (w : Write). is_none (image_in w.rid (stored_in x.session x.transaction earlier))) (stored x) false =
     (λ i. option_map_or (λ (w : Write). is_none (image_in w.rid (stored_in_plain x.session x.transaction earlier i))) (stored_plain x i) false) in
     ap (λ b. cons_option (if b then Some (plain_said x) else None) (first_writes_from (map plain_said (x ∷ earlier)) (map plain_said xs))) test
     ∙ go (option_map_or (λ (w : Write). is_none (image_in w.rid (stored_in x.session x.transaction earlier))) (stored x) false) (firsts_plain (x ∷ earlier) xs)
   where
     go : (b : Bool) → first_writes_from (map plain_said (x ∷ earlier)) (map plain_said xs) ≡ map plain_said (first_writes_from (x ∷ earlier) xs)
-        → cons_option (if b then Some (plain_said x) else None) (first_writes_from (map plain_said (x ∷ earlier)) (map plain_said xs)) ≡ map plain_said (cons_option (if b then Some x else None) (first_writes_from (x ∷ earlier) xs))
+        → cons_option (if b then Some (plain_said x) else None) (first_writes_from (map plain_said (x ∷ earlier)) (map plain_said xs)) ≡ map plain_said
+        (cons_option (if b then Some x else None) (first_writes_from (x ∷ earlier) xs))
     go true q = ap (λ l. plain_said x ∷ l) q
     go false q = q
 
@@ -102,11 +106,13 @@ committed_among all s =
 undone_plain : (all xs : List Said) → length (filter (λ s. not (is_committed (map plain_said all) s)) (map plain_said xs)) ≡ length (filter (λ s. not (is_committed all s)) xs)
 undone_plain all [] = refl
 undone_plain all (x ∷ xs) =
-    ap (λ b. length (cond (not b) (plain_said x ∷ filter (λ s. not (is_committed (map plain_said all) s)) (map plain_said xs)) (filter (λ s. not (is_committed (map plain_said all) s)) (map plain_said xs)))) (committed_among all x)
+    ap (λ b. length (cond (not b) (plain_said x ∷ filter (λ s. not (is_committed (map plain_said all) s)) (map plain_said xs))
+    (filter (λ s. not (is_committed (map plain_said all) s)) (map plain_said xs)))) (committed_among all x)
     ∙ go (not (is_committed all x)) (undone_plain all xs)
   where
     go : (b : Bool) → length (filter (λ s. not (is_committed (map plain_said all) s)) (map plain_said xs)) ≡ length (filter (λ s. not (is_committed all s)) xs)
-        → length (cond b (plain_said x ∷ filter (λ s. not (is_committed (map plain_said all) s)) (map plain_said xs)) (filter (λ s. not (is_committed (map plain_said all) s)) (map plain_said xs))) ≡ length (cond b (x ∷ filter (λ s. not (is_committed all s)) xs) (filter (λ s. not (is_committed all s)) xs))
+        → length (cond b (plain_said x ∷ filter (λ s. not (is_committed (map plain_said all) s)) (map plain_said xs))
+        (filter (λ s. not (is_committed (map plain_said all) s)) (map plain_said xs))) ≡ length (cond b (x ∷ filter (λ s. not (is_committed all s)) xs) (filter (λ s. not (is_committed all s)) xs))
     go true q = ap suc q
     go false q = q
 
@@ -116,11 +122,13 @@ last_plain : (j : ℕ) (xs : List Said) → last_of j (map plain_said xs) ≡ op
 last_plain j [] = refl
 last_plain j (x ∷ xs) = go ((x.session == j) && nat_lt 0 x.transaction) (last_plain j xs)
   where
-    go : (b : Bool) → last_of j (map plain_said xs) ≡ option_map plain_said (last_of j xs) → cond b (Some (plain_said x)) (last_of j (map plain_said xs)) ≡ option_map plain_said (cond b (Some x) (last_of j xs))
+    go : (b : Bool) → last_of j (map plain_said xs) ≡ option_map plain_said (last_of j xs) → cond b (Some (plain_said x)) (last_of j (map plain_said xs)) ≡ option_map plain_said
+        (cond b (Some x) (last_of j xs))
     go true q = refl
     go false q = q
 
-stands_plain : (last : Option Said) (n : ℕ) (r : Record) (reply : Reply) → standing (open_after (option_map plain_said last)) (next_after (option_map plain_said last)) r (plain_reply reply) ≡ plain_said (standing (open_after last) (next_after last) r reply)
+stands_plain : (last : Option Said) (n : ℕ) (r : Record) (reply : Reply) → standing (open_after (option_map plain_said last)) (next_after (option_map plain_said last)) r
+    (plain_reply reply) ≡ plain_said (standing (open_after last) (next_after last) r reply)
 stands_plain None n r reply = refl
 stands_plain (Some q) n r reply = go (ends q)
   where
@@ -133,8 +141,26 @@ next_plain None = refl
 next_plain (Some q) = refl
 
 after_plain : (last : Option Said) (r : Record) (reply : Reply) (st : Statement) → said_after (option_map plain_said last) r (plain_reply reply) st ≡ plain_said (said_after last r reply st)
-after_plain last r reply (Begin scope) = λ i. record { session = r.session; place = r.place; transaction = next_plain last i; at = begun_plain reply i; scope = scope; alone = false; statement = r.statement; reply = plain_reply reply }
-after_plain last r reply (CursorOpen table low high) = λ i. record { session = r.session; place = r.place; transaction = next_plain last i; at = begun_plain reply i; scope = only (Some table); alone = false; statement = r.statement; reply = plain_reply reply }
+after_plain last r reply (Begin scope) = λ i. record {
+  session = r.session;
+  place = r.place;
+  transaction = next_plain last i;
+  at = begun_plain reply i;
+  scope = scope;
+  alone = false;
+  statement = r.statement;
+  reply = plain_reply reply;
+}
+after_plain last r reply (CursorOpen table low high) = λ i. record {
+  session = r.session;
+  place = r.place;
+  transaction = next_plain last i;
+  at = begun_plain reply i;
+  scope = only (Some table);
+  alone = false;
+  statement = r.statement;
+  reply = plain_reply reply;
+}
 after_plain last r reply (Gc kind) = refl
 after_plain last r reply _ = stands_plain last 0 r reply
 
@@ -143,7 +169,8 @@ said_plain earlier [] lines = refl
 said_plain earlier (r ∷ rs) [] = refl
 said_plain earlier (r ∷ rs) (line ∷ lines) =
     let now : Said = said earlier r line.reply in
-    let here : said (map plain_said earlier) r (plain_reply line.reply) ≡ plain_said now = ap (λ o. said_after o r (plain_reply line.reply) r.statement) (last_plain r.session earlier) ∙ after_plain (last_of r.session earlier) r line.reply r.statement in
+    let here : said (map plain_said earlier) r (plain_reply line.reply) ≡ plain_said now = ap (λ o. said_after o r (plain_reply line.reply) r.statement)
+    (last_plain r.session earlier) ∙ after_plain (last_of r.session earlier) r line.reply r.statement in
     ap (λ x. x ∷ said_from (x ∷ map plain_said earlier) rs (map plain lines)) here ∙ ap (λ l. plain_said now ∷ l) (said_plain (now ∷ earlier) rs lines)
 
 as_many : (xs : List Said) → length (map plain_said xs) ≡ length xs
@@ -152,7 +179,9 @@ as_many (x ∷ xs) = ap suc (as_many xs)
 
 -- ---- the totals
 
-pub totals_same : (script : Script) (xs ys : List Line) (t u : Totals) → map plain xs ≡ map plain ys → AreTotals (all_said replay script xs) (history_of (all_said replay script xs)) t → AreTotals (all_said replay script ys) (history_of (all_said replay script ys)) u → (t.made ≡ u.made) × (t.undone ≡ u.undone) × (t.left ≡ u.left)
+pub totals_same : (script : Script) (xs ys : List Line) (t u : Totals) → map plain xs ≡ map plain ys →
+    AreTotals (all_said replay script xs) (history_of (all_said replay script xs)) t → AreTotals (all_said replay script ys) (history_of (all_said replay script ys)) u →
+    (t.made ≡ u.made) × (t.undone ≡ u.undone) × (t.left ≡ u.left)
 totals_same script xs ys t u e a b = (
   a.made ∙ sym (made_of all) ∙ ap (λ l. length (first_writes_from [] l)) same ∙ made_of other ∙ sym b.made,
   a.undone ∙ sym (undone_of all) ∙ ap (λ l. length (filter (λ s. not (is_committed l s)) (first_writes_from [] l))) same ∙ undone_of other ∙ sym b.undone,
@@ -171,5 +200,6 @@ totals_same script xs ys t u e a b = (
     made_of : (l : List Said) → length (first_writes_from [] (map plain_said l)) ≡ length (first_writes_from [] l)
     made_of l = ap length (firsts_plain [] l) ∙ as_many (first_writes_from [] l)
 
-    undone_of : (l : List Said) → length (filter (λ s. not (is_committed (map plain_said l) s)) (first_writes_from [] (map plain_said l))) ≡ length (filter (λ s. not (is_committed l s)) (first_writes_from [] l))
+    undone_of : (l : List Said) → length (filter (λ s. not (is_committed (map plain_said l) s)) (first_writes_from [] (map plain_said l))) ≡ length
+        (filter (λ s. not (is_committed l s)) (first_writes_from [] l))
     undone_of l = ap (λ f. length (filter (λ s. not (is_committed (map plain_said l) s)) f)) (firsts_plain [] l) ∙ undone_plain l (first_writes_from [] l)

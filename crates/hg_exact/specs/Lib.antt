@@ -6,6 +6,5 @@ pub mod Replayed
 pub mod Worked
 -- What is asked of a script.
 pub mod Lawful
--- What makes a sound text the one that is replayed, by its lines, and by the logs of its sessions.
+-- What makes a sound text the one that is replayed. `Shown` of `hg_core` says it of the logs of its sessions.
 pub mod First
-pub mod Shown

@@ -20,7 +20,7 @@ ghost use Rattle.hg_headline.specs.Timely.{Rises};
 ghost use Rattle.hg_exact.specs.First.{IsFirst};
 ghost use Rattle.hg_exact.specs.Lawful.{AreAnswered, MovesDeclared};
 ghost use Rattle.hg_exact.specs.Replayed.{plain, replayed};
-ghost use Rattle.hg_exact.specs.Shown.{IsNewestIn, ShowsFirsts};
+ghost use Rattle.hg_core.specs.Shown.{IsNewestIn, ShowsFirsts};
 ghost use Rattle.hg_exact.specs.State.{start};
 ghost use Rattle.hg_script.specs.Lawful.{IsLawful};
 

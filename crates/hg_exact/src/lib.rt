@@ -2,7 +2,7 @@
 //!
 //! The definitions of `hg_base` say what may be printed, for every command. A replay has one thread, so one text is enough for it, but for
 //! what its reports say was removed and moved. `replayed` (`specs/Replayed.antt`) is that text: one step a record, from a state of the
-//! committed groups and of what each session has open. No clause of `serve` says yet that a replay prints it.
+//! committed groups and of what each session has open. `serve` of `hg_run` prints it (`exact`).
 //!
 //!     record                      known before                          reply
 //!     1, put, t, 5, 20            group 1 wrote t 5, nothing is open    at, 1, stored, committed, 2
@@ -12,9 +12,9 @@
 //! Nothing of the server is in it, so a person can say what is printed by reading these pages and the script.
 //!
 //! Its laws are that this text is sound, and that a sound text is this one if its commit numbers ascend and each write is refused for
-//! the first conflict (`IsFirst`). So what a driver has to show of a line besides is small. `ShowsFirsts` (`specs/Shown.antt`) says it of
-//! logs, which a driver knows: before a write is stored, no other session has the record open, and no newer group wrote it. No driver
-//! shows it yet. The worked examples of `hg_decide` are evaluated, and four sound texts that are not replayed.
+//! the first conflict (`IsFirst`). So what a driver has to show of a line besides is small. `ShowsFirsts` (`Shown` of `hg_core`) says it of
+//! logs, which a driver knows: before a write is stored, no other session has the record open, and no newer group wrote it. The driver of
+//! a replay shows it (`hg_drivers`). The worked examples of `hg_decide` are evaluated, and four sound texts that are not replayed.
 #![tactic(auto)]
 
 mod laws;
@@ -26,5 +26,6 @@ pub use laws::{
     three_totals_are_replayed, what_is_replayed_is_sound,
 };
 pub use worked::{
-    first_causes_can_be_shown, sound_texts_that_are_not_exact, worked_examples_are_replayed,
+    examples_with_collectors_are_replayed, examples_without_collectors_are_replayed,
+    first_causes_can_be_shown, sound_texts_that_are_not_exact,
 };
