@@ -82,7 +82,8 @@ are_letters : (kinds : List Column) → list_all is_letter (map letter_of kinds)
 are_letters [] = refl
 are_letters (k ∷ ks) = rw (is_a_letter k, are_letters ks) refl
 
-pub columns_read : (version : ℕ) (kinds : List Column) → 1 ≤ length kinds → length kinds ≤ MOST_COLUMNS → (version ≡ 1 → AreNumbers kinds) → columns_by version (columns_field version kinds) ≡ columns.Are kinds
+pub columns_read : (version : ℕ) (kinds : List Column) → 1 ≤ length kinds → length kinds ≤ MOST_COLUMNS → (version ≡ 1 → AreNumbers kinds) →
+    columns_by version (columns_field version kinds) ≡ columns.Are kinds
 columns_read version kinds some most numbers = cases (version == 1)
     (λ e.
     let one : version ≡ 1 = eqb-true version 1 e in

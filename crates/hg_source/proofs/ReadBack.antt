@@ -1,5 +1,6 @@
 -- The records of a dump give its script.
-use Rattle.std.proofs.Common.{◌≡◌, ◌<◌, ◌≤◌, ◌+◌, ◌⊎◌, ◌∙◌, ℕ, zero, suc, List, [], ◌∷◌, ◌++◌, length, length-append, map, true, false, Some, None, refl, sym, ap, subst, arith, append_assoc, inl, inr, codes, decimal}
+use Rattle.std.proofs.Common.{◌≡◌, ◌<◌, ◌≤◌, ◌+◌, ◌⊎◌, ◌∙◌, ℕ, zero, suc, List, [], ◌∷◌, ◌++◌, length, length-append, map, true, false, Some, None, refl, sym, ap, subst, arith, append_assoc}
+use Rattle.std.proofs.Common.{inl, inr, codes, decimal}
 use Rattle.std.specs.Fmt.{digits}
 use Rattle.std.proofs.lemmas.Bool.Decides.{nat_tests}
 use Rattle.std.proofs.lemmas.List.{length-map}
@@ -60,7 +61,8 @@ reads_none records place kept h = fold-one (reading_by 1) false records (put_at 
 many_kinds : (kept : Kept) (kinds : List Column) → map kind_of kept.row ≡ kinds → length kinds ≡ length kept.row
 many_kinds kept kinds e = ap length (sym e) ∙ length-map kept.row kind_of
 
-few_columns : (tables : List Declaration) (i : ℕ) → Each IsTable tables → i < length tables → (1 ≤ length (kinds_of tables (record { 0 = i }))) × (length (kinds_of tables (record { 0 = i })) ≤ MOST_COLUMNS)
+few_columns : (tables : List Declaration) (i : ℕ) → Each IsTable tables → i < length tables → (1 ≤ length (kinds_of tables (record { 0 = i }))) ×
+    (length (kinds_of tables (record { 0 = i })) ≤ MOST_COLUMNS)
 few_columns [] i h less = absurd (omega (arith, less))
 few_columns (d ∷ ds) zero h less = (h.0.some, h.0.most)
 few_columns (d ∷ ds) (suc i) h less = few_columns ds i h.1 (omega (arith, less))
@@ -99,7 +101,8 @@ module _ (s : Script) (distinct : AreDistinct s.tables) (tables : Each IsTable s
 abbrev so_far : ℕ → List Declaration → Script
 so_far version tables = record { version = version; tables = tables; records = [] }
 
-table_none : (place version : ℕ) (done more : List Declaration) (d : Declaration) → place ≤ MOST_RECORDS → length done < MOST_TABLES → AreDistinct (done ++ d ∷ more) → IsTable d → (version ≡ 1 → HasNumbers d)
+table_none : (place version : ℕ) (done more : List Declaration) (d : Declaration) → place ≤ MOST_RECORDS → length done < MOST_TABLES → AreDistinct (done ++ d ∷ more) → IsTable d →
+    (version ≡ 1 → HasNumbers d)
     → BreaksNone place (so_far version done) (table_fields version d) word.Table (Table true (columns.Are d.kinds))
 table_none place version done more d room few distinct is numbers = record {
   word = table_word place version d;
@@ -114,7 +117,8 @@ table_none place version done more d room few distinct is numbers = record {
   order = refl;
 }
 
-tables_give : (todo done : List Declaration) (place version : ℕ) (rows : List Fields) (t : Script) → place + length todo ≤ MOST_RECORDS + 1 → length done + length todo ≤ MOST_TABLES → AreDistinct (done ++ todo) → Each IsTable todo
+tables_give : (todo done : List Declaration) (place version : ℕ) (rows : List Fields) (t : Script) → place + length todo ≤ MOST_RECORDS + 1 →
+    length done + length todo ≤ MOST_TABLES → AreDistinct (done ++ todo) → Each IsTable todo
     → (version ≡ 1 → Each HasNumbers todo) → Gives (place + length todo) (so_far version (done ++ todo)) rows t → Gives place (so_far version done) (map (table_fields version) todo ++ rows) t
 tables_give [] done place version rows t room few distinct is numbers rest =
     let here : place + 0 ≡ place = omega arith in
@@ -124,9 +128,11 @@ tables_give (d ∷ ds) done place version rows t room few distinct is numbers re
     let added = row_added place (so_far version done) (table_fields version d) word.Table _ none in
     let split = append_assoc done (d ∷ []) ds in
     let later : (place + 1) + length ds ≡ place + suc (length ds) = omega arith in
-    let more = tables_give ds (done ++ d ∷ []) (place + 1) version rows t (omega (arith, room)) (omega (arith, few, length-append done (d ∷ []))) (subst AreDistinct (sym split) distinct) is.1 (λ one. (numbers one).1)
+    let more = tables_give ds (done ++ d ∷ []) (place + 1) version rows t (omega (arith, room)) (omega (arith, few, length-append done (d ∷ [])))
+    (subst AreDistinct (sym split) distinct) is.1 (λ one. (numbers one).1)
     (rw (later, split) rest) in
-    gives_one place (so_far version done) t (table_fields version d) (map (table_fields version) ds ++ rows) (no_code place (so_far version done) (table_fields version d) word.Table _ none) (rw added more)
+    gives_one place (so_far version done) t (table_fields version d) (map (table_fields version) ds ++ rows)
+    (no_code place (so_far version done) (table_fields version d) word.Table _ none) (rw added more)
 
 -- ---- the version
 
@@ -137,7 +143,8 @@ two_is : decimal 2 ≡ codes "2"
 unfolding digits
 two_is = refl
 
-version_gives : (version : ℕ) (rows : List Fields) (t : Script) → (version ≡ 1) ⊎ (version ≡ 2) → Gives (1 + many_before version 0) (so_far version []) rows t → Gives 1 nothing (version_records version ++ rows) t
+version_gives : (version : ℕ) (rows : List Fields) (t : Script) → (version ≡ 1) ⊎ (version ≡ 2) → Gives (1 + many_before version 0) (so_far version []) rows t →
+    Gives 1 nothing (version_records version ++ rows) t
 version_gives version rows t (inl one) rest = rw one (rw one at rest)
 version_gives version rows t (inr two) rest =
     rw (two, two_is) (gives_one 1 nothing t (codes "version" ∷ codes "2" ∷ []) rows (no_code 1 nothing _ word.Version _ two_read) (rw (row_added 1 nothing _ word.Version _ two_read) (rw two at rest)))
@@ -152,7 +159,8 @@ all_give script rows lawful readable =
     let puts = puts_give (so_far version tables) lawful.names lawful.tables lawful.numbers rows (records_before script + 1) [] (omega (arith, readable.most)) refl readable.fit in
     rw (append_assoc (version_records version) (map (table_fields version) tables) (map (put_fields tables) rows))
     (version_gives version (map (table_fields version) tables ++ map (put_fields tables) rows) (putting script rows) lawful.version
-    (tables_give tables [] (1 + many_before version 0) version (map (put_fields tables) rows) (putting script rows) (omega (arith, before, readable.most)) (omega (arith, lawful.most)) lawful.names lawful.tables lawful.numbers
+    (tables_give tables [] (1 + many_before version 0) version (map (put_fields tables) rows) (putting script rows) (omega (arith, before, readable.most))
+    (omega (arith, lawful.most)) lawful.names lawful.tables lawful.numbers
     (rw before puts)))
 
 pub accepted : (script : Script) (rows : List Kept) → IsLawful script → IsReadable script rows → refusal_of (rows_of (dump_text script rows)) ≡ None

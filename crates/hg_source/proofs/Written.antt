@@ -102,4 +102,5 @@ all_have_two version ds tables rows =
 pub records_read : (script : Script) (rows : List Kept) → rows_of (dump_text script rows) ≡ dump_records script rows
 records_read script rows =
     let two = all_have_two script.version script.tables script.tables rows in
-    rw (all_plain script.version script.tables script.tables rows) (all_read (length (dump_text script rows) + 1) (dump_records script rows) two (omega (arith, long_enough (dump_records script rows) two)))
+    rw (all_plain script.version script.tables script.tables rows)
+    (all_read (length (dump_text script rows) + 1) (dump_records script rows) two (omega (arith, long_enough (dump_records script rows) two)))

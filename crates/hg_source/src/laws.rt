@@ -13,12 +13,14 @@ ghost use Rattle.hg_source.specs.Dumps.{IsReadable, dump_of, putting};
 /// `read_script` returns a script whose text was written, unless memory runs out: no record of the text breaks a rule, and the
 /// script that its records give is the one that was written.
 pub fn a_dump_is_read_back()
-    ensures accepted { (script : Script) (rows : List Kept) → IsLawful script → IsReadable script rows →
+    ensures accepted { (script : Script) (rows : List Kept) → IsLawful script →
+        IsReadable script rows →
         refusal_of (rows_of (dump_text script rows)) ≡ None }
     ensures same { (script : Script) (rows : List Kept) → IsLawful script → IsReadable script rows →
         script_of (rows_of (dump_text script rows)) ≡ putting script rows }
     // so of a snapshot its dump
-    ensures dump { (script : Script) (h : History) (s : ℕ) → IsLawful script → IsReadable script (rows_at script.tables h s) →
+    ensures dump { (script : Script) (h : History) (s : ℕ) → IsLawful script →
+        IsReadable script (rows_at script.tables h s) →
         script_of (rows_of (dump_text script (rows_at script.tables h s))) ≡ dump_of script h s }
 {}
 

@@ -17,10 +17,10 @@
 #![tactic(auto)]
 
 mod digits;
-mod heading;
+mod header;
 mod laws;
 mod puts;
 
-pub use heading::heading_text;
+pub use header::heading_text;
 pub use laws::{a_dump_is_read_back, a_snapshot_has_one_dump};
 pub use puts::puts_text;

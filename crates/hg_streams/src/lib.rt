@@ -9,12 +9,12 @@
 //! prefix of what the source had (`HasGiven`), and what a sink took is a prefix of the text: the whole text, unless the sink failed.
 #![tactic(auto)]
 
-mod parting;
+mod parts;
 mod sink;
 mod source;
 mod status;
 
-pub use parting::part;
+pub use parts::part;
 pub use sink::write_all;
 pub use source::{ReadError, read_all};
 pub use status::Status;

@@ -88,7 +88,8 @@ module _ (old : Command) (m : ArgMatches) (app : app_of old ≡ command_line) (p
     one : (d : Arg) (j : ℕ) (e : Arg) → j < length (args_of old) → bytes_eq (slice_index_or (args_of old) j e).id.now (slice_index_or (args_of old) k d).id.now ≡ true → j ≡ k
     one d j e lt same =
         let id : (slice_index_or (args_of old) j e).id.now ≡ (slice_index_or rules j (rule_of e)).id = ap (λ (r : Rule). r.id) (rule_at j e) in
-        stands.alone j (rule_of e) (omega (arith, lt, six)) (subst (λ (t : Text). bytes_eq t name ≡ true) id (subst (λ (t : Text). bytes_eq (slice_index_or (args_of old) j e).id.now t ≡ true) (id_at d) same))
+        stands.alone j (rule_of e) (omega (arith, lt, six)) (subst (λ (t : Text). bytes_eq t name ≡ true) id
+        (subst (λ (t : Text). bytes_eq (slice_index_or (args_of old) j e).id.now t ≡ true) (id_at d) same))
 
     none_auto : (d : Arg) → IsAuto (slice_index_or (args_of old) k d) → ⊥
     none_auto d (inl h) = stands.own.0 (sym (id_at d) ∙ h)
@@ -106,7 +107,8 @@ module _ (old : Command) (m : ArgMatches) (app : app_of old ≡ command_line) (p
     as_written : (r : Reading) → HasReading p.built name r → r ≡ reading.AsWritten
     as_written r any = sym any.4.1 ∙ ap reading_of (has_parser any.0 any.1 any.2 any.3 any.4.0)
 
-    first_of_all : (how : Reading) (vs : List (Bor (List ℕ))) (t : Text) → how ≡ reading.AsWritten → All (λ v. PassesArg p.built name v.now) vs → option_map (λ s. read_as how s.now) (slice_get vs 0) ≡ Some t → IsUnsignedIn low high t
+    first_of_all : (how : Reading) (vs : List (Bor (List ℕ))) (t : Text) → how ≡ reading.AsWritten → All (λ v. PassesArg p.built name v.now) vs →
+        option_map (λ s. read_as how s.now) (slice_get vs 0) ≡ Some t → IsUnsignedIn low high t
     first_of_all how [] t is all e = absurd (none_some t e)
     first_of_all how (v ∷ vs) t is all e =
         let same : Some v.now ≡ Some t = sym (ap (λ (r : Reading). Some (read_as r v.now)) is) ∙ e in
@@ -120,7 +122,8 @@ module _ (old : Command) (m : ArgMatches) (app : app_of old ≡ command_line) (p
     passed : (t : Text) → one_text (found_of m) name ≡ Some t → IsUnsignedIn low high t
     passed t e = go (matched_of (found_of m) name) refl e
       where
-        go : (o : Option MatchedArg) → matched_of (found_of m) name ≡ o → option_and_then (λ (a : MatchedArg). option_map (λ s. read_as a.reading s.now) (slice_get a.vals.items 0)) o ≡ Some t → IsUnsignedIn low high t
+        go : (o : Option MatchedArg) → matched_of (found_of m) name ≡ o →
+            option_and_then (λ (a : MatchedArg). option_map (λ s. read_as a.reading s.now) (slice_get a.vals.items 0)) o ≡ Some t → IsUnsignedIn low high t
         go None is e = absurd (none_some t e)
         go (Some x) is e =
             let parsed = p.parsed (p.from.globals ∙ (plain_fields old (ap (λ (a : App). a.top.is_plain) app)).globals) in
@@ -251,7 +254,8 @@ record HasNumbers (buckets long rounds sweepers : Option ℕ) (options : Options
   rounds_are : rounds ≡ Some options.rounds
   sweepers_are : sweepers ≡ Some options.sweepers
 
-all_there : (command : Option Asked) (buckets long rounds sweepers : Option ℕ) (options : Options) → options_of_all command buckets long rounds sweepers ≡ Some options → HasNumbers buckets long rounds sweepers options
+all_there : (command : Option Asked) (buckets long rounds sweepers : Option ℕ) (options : Options) → options_of_all command buckets long rounds sweepers ≡ Some options →
+    HasNumbers buckets long rounds sweepers options
 all_there (Some c) (Some b) (Some l) (Some r) (Some w) options e = record {
   buckets_are = ap (λ o. option_map (λ (x : Options). x.buckets) o) e;
   long_is = ap (λ o. option_map (λ (x : Options). x.long) o) e;
@@ -267,7 +271,8 @@ all_there (Some c) (Some b) (Some l) (Some r) None options e = absurd (none_some
 pub are_within : (old : Command) (m : ArgMatches) → app_of old ≡ command_line → IsParsedFrom old m → (options : Options) → options_in (rows_of (found_of m)) ≡ Some options → AreWithin options
 are_within old m app p options e =
     let rows = rows_of (found_of m) in
-    let all = all_there (command_in rows) (named_number 32 (codes "buckets") rows) (named_number 64 (codes "long") rows) (named_number 32 (codes "rounds") rows) (named_number 32 (codes "sweepers") rows) options e in
+    let all = all_there (command_in rows) (named_number 32 (codes "buckets") rows) (named_number 64 (codes "long") rows) (named_number 32 (codes "rounds") rows)
+    (named_number 32 (codes "sweepers") rows) options e in
     let buckets = in_range old m app p 2 (codes "buckets") 1 1024 buckets_stand 32 options.buckets all.buckets_are in
     let long = in_range old m app p 3 (codes "long") 1 1048576 long_stands 64 options.long all.long_is in
     let rounds = in_range old m app p 4 (codes "rounds") 0 1000 rounds_stand 32 options.rounds all.rounds_are in

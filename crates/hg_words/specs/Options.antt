@@ -17,7 +17,8 @@ number_of bits text = let digits = without_leading_plus text in
 
 -- what is to be done: `load` has a seed, and the four others have none
 abbrev pub command_of : Text → Option ℕ → Option Command
-command_of mode None = if bytes_eq mode (codes "replay") then Some Replay else (if bytes_eq mode (codes "run") then Some Run else (if bytes_eq mode (codes "audit") then Some Audit else (if bytes_eq mode (codes "dump") then Some Dump else None)))
+command_of mode None = if bytes_eq mode (codes "replay") then Some Replay else
+    (if bytes_eq mode (codes "run") then Some Run else (if bytes_eq mode (codes "audit") then Some Audit else (if bytes_eq mode (codes "dump") then Some Dump else None)))
 command_of mode (Some seed) = if bytes_eq mode (codes "load") then Some (Load seed) else None
 
 -- the number that stands for a name among what `clap` found
@@ -33,7 +34,8 @@ options_of_all _ _ _ _ _ = None
 
 -- the options among what `clap` found
 abbrev pub options_in : List Row → Option Options
-options_in rows = options_of_all (command_in rows) (named_number 32 (codes "buckets") rows) (named_number 64 (codes "long") rows) (named_number 32 (codes "rounds") rows) (named_number 32 (codes "sweepers") rows)
+options_in rows = options_of_all (command_in rows) (named_number 32 (codes "buckets") rows) (named_number 64 (codes "long") rows) (named_number 32 (codes "rounds") rows)
+    (named_number 32 (codes "sweepers") rows)
 
 abbrev pub options_unless : Kinds → List Row → Option Options
 options_unless [] rows = options_in rows

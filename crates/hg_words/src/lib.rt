@@ -17,8 +17,8 @@
 #![tactic(auto)]
 
 mod line;
+mod matches;
 mod options;
-mod reading;
 
+pub use matches::read_words;
 pub use options::{Command, Options, WordsRefusal};
-pub use reading::read_words;

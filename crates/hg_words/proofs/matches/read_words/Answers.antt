@@ -7,7 +7,7 @@ use Rattle.clap.proofs.OnLiterals.{clap_on_literals}
 use Rattle.hg_words.specs.Line.{command_line}
 use Rattle.hg_words.specs.Options.{options_unless}
 use Rattle.hg_words.proofs.Bounds.{are_within}
-use Rattle.hg_words.proofs.reading.read_words.Goals as goal
+use Rattle.hg_words.proofs.matches.read_words.Goals as goal
 
 free : is_simple_and_free command_line ≡ true
 unfolding clap_on_literals

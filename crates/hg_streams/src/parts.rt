@@ -1,4 +1,4 @@
-//! A script and a text in one source.
+//! The parts of a source: a script, and a text after it.
 
 ghost use Rattle.std.specs.Prelude.{ℕ, ◌+◌, ◌≤◌, length, Decides, IfSome, IsTrue};
 ghost use Rattle.std.specs.Option.{MatchOption};

@@ -1,4 +1,4 @@
-//! From words to options.
+//! From what `clap` matched of the words to options.
 
 ghost use Rattle.std.specs.Prelude.{◌≡◌, Some, None, map, codes, IfOk, IsErrOf, string_bytes, option_and_then, option_map};
 ghost use Rattle.clap.specs.Words.{one_of, first_of, found_of, rows_of};
