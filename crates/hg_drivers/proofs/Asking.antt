@@ -1,5 +1,5 @@
 -- Whether a statement asks for a collector.
-use Rattle.std.proofs.Common.{◌≡◌, ℕ, suc, ◌≤◌, List, Bool, Option, Some, None, ap}
+use Rattle.std.proofs.Common.{◌≡◌, ℕ, suc, List, Bool, Option, Some, None, ap}
 use Rattle.std.specs.Prelude.{Result, Ok, Err, OnOk}
 use Rattle.std.specs.Option.{option_map_or}
 use Rattle.hg_base.specs.declared.report.Kind.{Kind}
@@ -39,10 +39,13 @@ gc_is CommitIt kind e = absurd (let z : None ≡ Some kind = e in cc)
 gc_is Rollback kind e = absurd (let z : None ≡ Some kind = e in cc)
 
 -- the reply to another tells nothing
-pub none_reported : (e : Engine) (seen : ℕ) (reads : ℕ → Bool) (rest : ℕ → Option Rest) (old : List Session) (i : ℕ) (s : Statement) (reply : Reply) (new : List Session) → collector_asked s ≡ None → HasReplied e seen reads rest old i s reply new → report_of reply ≡ None
-none_reported e seen reads rest old i s reply new other h = no_report (engine_sizes e).buckets h.replied.u (own_writes (logs_of old (suc i))) s reply.answer (leaves_gc s reply.answer other) h.replied.fits.answer
+pub none_reported : (e : Engine) (seen : ℕ) (reads : ℕ → Bool) (rest : ℕ → Option Rest) (old : List Session) (i : ℕ) (s : Statement) (reply : Reply) (new : List Session) →
+    collector_asked s ≡ None → HasReplied e seen reads rest old i s reply new → report_of reply ≡ None
+none_reported e seen reads rest old i s reply new other h = no_report (engine_sizes e).buckets h.replied.u (own_writes (logs_of old (suc i))) s reply.answer
+    (leaves_gc s reply.answer other) h.replied.fits.answer
 
-pub none_told : (e : Engine) (seen : ℕ) (reads : ℕ → Bool) (rest : ℕ → Option Rest) (old : List Session) (i : ℕ) (s : Statement) (reply : Reply) (new : List Session) → collector_asked s ≡ None → HasReplied e seen reads rest old i s reply new → (k : Kind) → told_of k reply ≡ 0
+pub none_told : (e : Engine) (seen : ℕ) (reads : ℕ → Bool) (rest : ℕ → Option Rest) (old : List Session) (i : ℕ) (s : Statement) (reply : Reply) (new : List Session) →
+    collector_asked s ≡ None → HasReplied e seen reads rest old i s reply new → (k : Kind) → told_of k reply ≡ 0
 none_told e seen reads rest old i s reply new other h k = ap (λ (o : Option Sweep). option_map_or (swept_by k) o 0) (none_reported e seen reads rest old i s reply new other h)
 
 pub ready_fewer : (e : Engine) (i : ℕ) (left : ℕ → ℕ) (list : List Session) → AreReady e i (one_more (suc i) left) list → AreReady e i left list

@@ -32,7 +32,9 @@ done_stand : (s : CoreState) (v : View) (events : List Event) → IsTrueOf s v �
 done_stand s v events t d = each_among (Stands s) events (λ x i. of_among (Known s) (Did x) v.sights t.sights (d x i))
 
 -- Two passes go to a third, and then what else knows of them comes there.
-pub all_come : (group table interval u w x : View) → AreAmong group.sights u.sights × AreAmong table.sights u.sights × AreAmong interval.sights u.sights → AreDone group.events u.sights × AreDone interval.events u.sights → u.events ≡ table.events → StartsWith w.sights u.sights → w.events ≡ u.events → x ≡ w → HasCome group x × HasCome table x × HasCome interval x
+pub all_come : (group table interval u w x : View) → AreAmong group.sights u.sights × AreAmong table.sights u.sights × AreAmong interval.sights u.sights →
+    AreDone group.events u.sights × AreDone interval.events u.sights → u.events ≡ table.events → StartsWith w.sights u.sights → w.events ≡ u.events → x ≡ w → HasCome group x ×
+    HasCome table x × HasCome interval x
 all_come group table interval u w x seen did same kept stays is = (
   record { seen = λ t i. on t (seen.0 t i); did = λ s k. done_stand s x group.events k (λ t i. on (Did t) (did.0 t i)) },
   record { seen = λ t i. on t (seen.1 t i); did = λ s k. subst (Each (Stands s)) (ap (λ (v : View). v.events) is ∙ (stays ∙ same)) k.events },

@@ -34,7 +34,7 @@ use Rattle.hg_session.specs.Engines.{engine_board_id, engine_sizes}
 use Rattle.hg_session.specs.Sessions.{IsOf, view_of, number_of, log_of, open_of, seen_by, cursor_of}
 use Rattle.hg_session.proofs.Cursors.{no_cursor, reads_at, some_cursor}
 use Rattle.hg_session.specs.Opened.{IsNewOf}
-use Rattle.hg_session.specs.declared.opening.Passes.{Passes}
+use Rattle.hg_session.specs.declared.new_engine.Passes.{Passes}
 use Rattle.hg_session.specs.Ended.{logs_in, visits_in}
 use Rattle.hg_session.specs.Passing.{visits_of}
 use Rattle.hg_session.specs.Settled.{RemovesForTables}
@@ -91,7 +91,8 @@ new_ready e quota list many some row = record {
 }
 
 -- the passes of a new engine removed nothing
-pub new_removed : (e : Engine) (passes : Passes) (k : Kind) → IsNewPass (engine_board_id e) 0 passes.group × IsNewPass (engine_board_id e) 1 passes.table × IsNewPass (engine_board_id e) 2 passes.interval → removed_in k passes ≡ 0
+pub new_removed : (e : Engine) (passes : Passes) (k : Kind) → IsNewPass (engine_board_id e) 0 passes.group × IsNewPass (engine_board_id e) 1 passes.table ×
+    IsNewPass (engine_board_id e) 2 passes.interval → removed_in k passes ≡ 0
 new_removed e passes k h =
     let a = none (engine_board_id e) 0 passes.group h.0 in
     let b = none (engine_board_id e) 1 passes.table h.1 in
@@ -135,7 +136,8 @@ pub record HasClosed (e : Engine) (i : ℕ) (old new : List Session) : Type 0 wh
   pub rest : (d : Session) (k : ℕ) → k ≢ i → get_or new k d ≡ get_or old k d
   pub own : (d : Session) → IsOf e (get_or new i d)
 
-pub partly_more : (e : Engine) (i n : ℕ) (old now new : List Session) → n ≡ i + 1 → i < length old → ((d : Session) (k : ℕ) → k < length old → IsPlaced e k (get_or old k d)) → HasClosed e i now new → ArePartlyClosed e old now i → ArePartlyClosed e old new n
+pub partly_more : (e : Engine) (i n : ℕ) (old now new : List Session) → n ≡ i + 1 → i < length old → ((d : Session) (k : ℕ) → k < length old → IsPlaced e k (get_or old k d)) →
+    HasClosed e i now new → ArePartlyClosed e old now i → ArePartlyClosed e old new n
 partly_more e i n old now new is within placed c p = record {
   many = c.many ∙ p.many;
   below = λ d k less inside. by_two i i k (λ k. k < n → k < length old → IsClosed e (suc k) (get_or new k d) × Closes (log_of (get_or old k d)) (log_of (get_or new k d))) (here d) (here d)
@@ -202,7 +204,8 @@ pub record HasSettled (passes : Passes) (v : View) : Type 0 where
 three_of : (n : ℕ) (f : ℕ → ℕ) → n ≡ 3 → sum_below n f ≡ f 0 + f 1 + f 2
 three_of n f e = ap (λ n. sum_below n f) e ∙ (let s : sum_below 3 f ≡ 0 + f 0 + f 1 + f 2 = refl in omega (arith, s))
 
-pub closed_totals : (z : Sizes) (v : View) (passes : Passes) (totals : Totals) (a : AreTotals z v totals) → ((b : ℕ) → b < z.buckets → WasLeftCut z.buckets (newest_of z.sessions (logs_in v)) (passes_in v.parts) (visits_in v) b) →
+pub closed_totals : (z : Sizes) (v : View) (passes : Passes) (totals : Totals) (a : AreTotals z v totals) →
+    ((b : ℕ) → b < z.buckets → WasLeftCut z.buckets (newest_of z.sessions (logs_in v)) (passes_in v.parts) (visits_in v) b) →
     HasSettled passes v → AreTotalsBy z.sessions a.history (logs_in v) (λ kind. removed_in kind passes) totals
 closed_totals z v passes totals a settled s =
     let zero_is = s.removed 0 in
@@ -211,9 +214,12 @@ closed_totals z v passes totals a settled s =
     record {
       made = a.tells.made;
       undone = a.tells.undone;
-      group = (let t = a.tells.group in let k = three_of (passes_in v.parts) (λ p. removed_all Group (visits_in v p)) s.three in let x = zero_is.group in let y = one_is.group in let w = two_is.group in omega (arith, t, k, x, y, w));
-      table = (let t = a.tells.table in let k = three_of (passes_in v.parts) (λ p. removed_all Table (visits_in v p)) s.three in let x = zero_is.table in let y = one_is.table in let w = two_is.table in omega (arith, t, k, x, y, w));
-      interval = (let t = a.tells.interval in let k = three_of (passes_in v.parts) (λ p. removed_all Interval (visits_in v p)) s.three in let x = zero_is.interval in let y = one_is.interval in let w = two_is.interval in omega (arith, t, k, x, y, w));
+      group = (let t = a.tells.group in let k = three_of (passes_in v.parts) (λ p. removed_all Group (visits_in v p)) s.three in let x = zero_is.group in let y = one_is.group in
+          let w = two_is.group in omega (arith, t, k, x, y, w));
+      table = (let t = a.tells.table in let k = three_of (passes_in v.parts) (λ p. removed_all Table (visits_in v p)) s.three in let x = zero_is.table in let y = one_is.table in
+          let w = two_is.table in omega (arith, t, k, x, y, w));
+      interval = (let t = a.tells.interval in let k = three_of (passes_in v.parts) (λ p. removed_all Interval (visits_in v p)) s.three in let x = zero_is.interval in
+          let y = one_is.interval in let w = two_is.interval in omega (arith, t, k, x, y, w));
       left = a.tells.left (λ b below. subst (λ n. WasLeftCut z.buckets n (passes_in v.parts) (visits_in v) b) (sym a.newest) (settled b below));
       balance = a.tells.balance;
     }

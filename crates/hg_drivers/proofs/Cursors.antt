@@ -1,7 +1,8 @@
 -- What becomes of the cursors of a list of sessions.
 use Rattle.std.proofs.Common.{◌≡◌, ℕ, zero, suc, ◌<◌, ◌≤◌, ◌≢◌, List, [], ◌∷◌, ◌++◌, length, Bool, true, false, Option, Some, None, refl, sym, ap, ◌∙◌, subst, arith}
-use Rattle.std.specs.Prelude.{get_or, nat_le, if◌then◌else◌, is_some, IsSome, IfSome, ◌==◌}
+use Rattle.std.specs.Prelude.{get_or, nat_le, if◌then◌else◌, is_some, IsSome, IfSome}
 use Rattle.std.proofs.lemmas.Bool.Decides.{nat_tests}
+use Rattle.hg_base.specs.declared.rid.Rid.{Rid}
 use Rattle.hg_base.specs.declared.statement.Statement.{Statement}
 use Rattle.hg_base.specs.declared.statement.Statement.TheVariants.{Begin, Get, Put, Del, Scan, CursorOpen, Fetch, CursorClose, Commit as CommitIt, Rollback, Gc}
 use Rattle.hg_base.specs.declared.statement.Record.{Record}
@@ -10,6 +11,9 @@ use Rattle.hg_base.specs.declared.value.Value.{Value}
 use Rattle.hg_base.specs.declared.line.Line.{Line}
 use Rattle.hg_base.specs.declared.line.Reply.{Reply}
 use Rattle.hg_base.specs.Shape.{HasShape}
+use Rattle.hg_base.specs.Conflicts.{target}
+use Rattle.hg_base.proofs.ListFacts.{if_some_keeps}
+use Rattle.hg_core.specs.Shown.{reads_at}
 use Rattle.hg_base.specs.Transcript.{Rest, rest_after}
 use Rattle.hg_base.proofs.ListFacts.{false_true}
 use Rattle.hg_core.specs.Events.{put}
@@ -23,6 +27,7 @@ use Rattle.hg_script.specs.Lawful.{MayStand}
 use Rattle.hg_script.specs.Rules.{is_reading, reading}
 use Rattle.hg_session.specs.declared.session.Session.{Session}
 use Rattle.hg_session.specs.Cursors.{FitsRest, HasLeft}
+use Rattle.hg_session.specs.Firsts.{AnswersWrite, HasFirst}
 use Rattle.hg_session.specs.Replies.{Answers, AnswersFrom, inside}
 use Rattle.hg_session.specs.Sessions.{view_of, open_of, cursor_of}
 use Rattle.hg_drivers.specs.Asked.{IsAnswered, MayAsk, collector_asked}
@@ -75,21 +80,31 @@ nothing_left s rest none = subst (λ c. FitsRest c rest) (sym none) tt
 pub kept_left : (s t : Session) (rest : Option Rest) → cursor_of t ≡ cursor_of s → HasLeft s rest → HasLeft t rest
 kept_left s t rest same left = subst (λ c. FitsRest c rest) (sym same) left
 
-pub answered_plain : (z : Sizes) (old new : Session) (s : Statement) (reply : Reply) → is_plain s ≡ true → cursor_of old ≡ None → cursor_of new ≡ None → Answers z (view_of old) s reply (view_of new) → IsAnswered z old s reply new
-answered_plain z old new s reply plain before after a = record {
+pub answered_plain : (z : Sizes) (old new : Session) (s : Statement) (reply : Reply) → is_plain s ≡ true → cursor_of old ≡ None → cursor_of new ≡ None →
+    Answers z (view_of old) s reply (view_of new) → IfSome (target s) (λ r. HasFirst (view_of old) r (reads_at (open_of old) reply) reply.answer (view_of new)) → IsAnswered z old s reply new
+answered_plain z old new s reply plain before after a first = record {
   answers = λ rest left. record { answers = a; rest_is = no_rest s a.u.rest rest plain };
   moved = λ rest left. nothing_left new (rest_after s reply.answer rest) after;
   reads = ap is_some after ∙ sym (keeps_reading (is_some (cursor_of old)) s plain ∙ ap is_some before);
+  first = first;
 }
 
-pub answered_fetch : (z : Sizes) (old new : Session) (n : ℕ) (rows : List (ℕ × List Value)) → IsSome (cursor_of old) → IsSome (cursor_of new) → ((rest : Option Rest) → HasLeft old rest → AnswersFrom rest z (view_of old) (Fetch n) (inside (Rows rows)) (view_of new)) →
+pub answered_fetch : (z : Sizes) (old new : Session) (n : ℕ) (rows : List (ℕ × List Value)) → IsSome (cursor_of old) → IsSome (cursor_of new) →
+    ((rest : Option Rest) → HasLeft old rest → AnswersFrom rest z (view_of old) (Fetch n) (inside (Rows rows)) (view_of new)) →
     ((rest : Option Rest) → HasLeft old rest → HasLeft new (rest_after (Fetch n) (Rows rows) rest)) → IsAnswered z old (Fetch n) (inside (Rows rows)) new
-answered_fetch z old new n rows before after a moved = record { answers = a; moved = moved; reads = after ∙ sym before }
+answered_fetch z old new n rows before after a moved = record { answers = a; moved = moved; reads = after ∙ sym before; first = tt }
 
--- the same of the reply of a call, if there is one
-pub some_plain : (z : Sizes) (old new : Session) (s : Statement) (o : Option Reply) → is_plain s ≡ true → cursor_of old ≡ None → cursor_of new ≡ None → IfSome o (λ reply. Answers z (view_of old) s reply (view_of new)) → IfSome o (λ reply. IsAnswered z old s reply new)
-some_plain z old new s (Some reply) plain before after a = answered_plain z old new s reply plain before after a
-some_plain z old new s None plain before after a = tt
+-- the same of the reply of a call, if there is one, and of that of a write
+pub some_plain : (z : Sizes) (old new : Session) (s : Statement) (o : Option Reply) → is_plain s ≡ true → target s ≡ None → cursor_of old ≡ None → cursor_of new ≡ None →
+    IfSome o (λ reply. Answers z (view_of old) s reply (view_of new)) → IfSome o (λ reply. IsAnswered z old s reply new)
+some_plain z old new s o plain none before after a = if_some_keeps o _ _
+    (λ reply a. answered_plain z old new s reply plain before after a (subst (λ o. IfSome o (λ r. HasFirst (view_of old) r (reads_at (open_of old) reply) reply.answer (view_of new))) (sym none) tt)) a
+
+pub some_write : (z : Sizes) (old new : Session) (s : Statement) (r : Rid) (o : Option Reply) → is_plain s ≡ true → target s ≡ Some r → cursor_of old ≡ None →
+    cursor_of new ≡ None → IfSome o (λ reply. AnswersWrite z (view_of old) s r reply (view_of new)) → IfSome o (λ reply. IsAnswered z old s reply new)
+some_write z old new s r o plain some before after a = if_some_keeps o _ _
+    (λ reply a. answered_plain z old new s reply plain before after a.answers
+    (subst (λ o. IfSome o (λ r. HasFirst (view_of old) r (reads_at (open_of old) reply) reply.answer (view_of new))) (sym some) a.first)) a
 
 -- whatever cursor is open, something is what it has left
 pub any_rest : (s : Session) → (rest : Option Rest) × HasLeft s rest
@@ -152,9 +167,11 @@ pub put_still : {A : Type 0} (f : ℕ → A) (j k : ℕ) → f k ≡ put f j (f 
 put_still f j k = at_index j (λ k. f k ≡ put f j (f j) k) (sym (put_here f j (f j))) (λ k z. sym (put_else f j k (f j) z)) k
 
 -- the session at i answered a statement
-pub cursors_moved : (z : Sizes) (reads : ℕ → Bool) (rest : ℕ → Option Rest) (old new : List Session) (i : ℕ) (s : Statement) (reply : Reply) → length new ≡ length old → i < length old → ((d : Session) → IsAnswered z (get_or old i d) s reply (get_or new i d)) → ((d : Session) (k : ℕ) → k ≢ i → get_or new k d ≡ get_or old k d) →
+pub cursors_moved : (z : Sizes) (reads : ℕ → Bool) (rest : ℕ → Option Rest) (old new : List Session) (i : ℕ) (s : Statement) (reply : Reply) → length new ≡ length old →
+    i < length old → ((d : Session) → IsAnswered z (get_or old i d) s reply (get_or new i d)) → ((d : Session) (k : ℕ) → k ≢ i → get_or new k d ≡ get_or old k d) →
     HaveCursors reads rest old → HaveCursors (put reads (suc i) (reading (reads (suc i)) s)) (put rest (suc i) (rest_after s reply.answer (rest (suc i)))) new
-cursors_moved z reads rest old new i s reply many first answered others have d = at_index i (λ k. k < length new → HasCursor (put reads (suc i) after (suc k)) (put rest (suc i) left (suc k)) (get_or new k d)) here there
+cursors_moved z reads rest old new i s reply many first answered others have d = at_index i (λ k. k < length new →
+    HasCursor (put reads (suc i) after (suc k)) (put rest (suc i) left (suc k)) (get_or new k d)) here there
   where
     after : Bool
     after = reading (reads (suc i)) s
@@ -183,7 +200,8 @@ cursors_moved z reads rest old new i s reply many first answered others have d =
 -- ---- by the records so far
 
 -- one record more, of any session
-pub left_more : (left : ℕ → Option Rest) (rs : List Record) (lines : List Line) (r : Record) (line : Line) → HasShape rs lines → left_after left (rs ++ r ∷ []) (lines ++ line ∷ []) ≡ put (left_after left rs lines) r.session (rest_after r.statement line.reply.answer (left_after left rs lines r.session))
+pub left_more : (left : ℕ → Option Rest) (rs : List Record) (lines : List Line) (r : Record) (line : Line) → HasShape rs lines →
+    left_after left (rs ++ r ∷ []) (lines ++ line ∷ []) ≡ put (left_after left rs lines) r.session (rest_after r.statement line.reply.answer (left_after left rs lines r.session))
 left_more left [] [] r line shape = refl
 left_more left [] (e ∷ es) r line shape = absurd shape
 left_more left (q ∷ qs) [] r line shape = absurd shape

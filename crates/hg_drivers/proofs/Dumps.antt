@@ -17,7 +17,8 @@ use Rattle.hg_tracker.specs.Begun.{AtMost}
 use Rattle.hg_drivers.specs.Reader.{HasDumped}
 
 pub dumped_of : (e : Engine) (buckets : ℕ) (script : Script) (r : Result ℕ NoMemory) (old new : View) (before after : List ℕ) → buckets ≡ (engine_sizes e).buckets
-    → IfOk r (λ s. (h : History) (logs : ℕ → List LogEntry) → GoesOn buckets new h logs → after ≡ before ++ dump_text script (rows_at script.tables h s)) → IfOk r (λ s. Each (AtMost s) old.sights) → HasRead old r new
+    → IfOk r (λ s. (h : History) (logs : ℕ → List LogEntry) → GoesOn buckets new h logs → after ≡ before ++ dump_text script (rows_at script.tables h s)) →
+    IfOk r (λ s. Each (AtMost s) old.sights) → HasRead old r new
     → IfOk r (λ at. HasDumped e script at old new before after)
 dumped_of e buckets script (Ok s) old new before after is text fresh read = record {
   text = subst (λ n. (h : History) (logs : ℕ → List LogEntry) → GoesOn n new h logs → after ≡ before ++ dump_text script (rows_at script.tables h s)) is text;

@@ -42,7 +42,8 @@ leaves_gc CommitIt a h = tt
 leaves_gc Rollback a h = tt
 
 pub no_mark : (buckets : ℕ) (u : Unprinted) (log : List LogEntry) (s : Statement) (reply : Reply) → collector_asked s ≡ None → Fits buckets u log s reply → mark_in reply ≡ None
-no_mark buckets u log s reply other fits = ap (λ (r : Option Sweep). option_map (λ sweep. sweep.mark) r) (no_report buckets u (own_writes log) s reply.answer (leaves_gc s reply.answer other) fits.answer)
+no_mark buckets u log s reply other fits = ap (λ (r : Option Sweep). option_map (λ sweep. sweep.mark) r)
+    (no_report buckets u (own_writes log) s reply.answer (leaves_gc s reply.answer other) fits.answer)
 
 -- a reply with a commit number names no newer one
 pub stored_is_not_newer : (s : Statement) (c : ℕ) → stored_by s (Newer c) ≡ None
@@ -60,7 +61,9 @@ newer_no_commit false s (Some n) c e = absurd (let k : true ≡ false = e in cc)
 newer_no_commit true s (Some n) c e = absurd (let k : true ≡ false = e ∙ ap is_some (stored_is_not_newer s c) in cc)
 
 -- what a reply with a commit number has read is its snapshot alone
-pub reads_snapshot : (n : ℕ) (s : Statement) (alone : Bool) (at : Option ℕ) (a : Answer) (number : Option ℕ) (c : ℕ) → is_some number ≡ (alone && is_some (stored_by s a)) → option_or number (committed_by s a) ≡ Some c → mark_in (record { at = at; answer = a; number = number }) ≡ None → IfSome (snapshot_in (record { at = at; answer = a; number = number })) (λ m. m ≤ n) → Each (λ m. m ≤ n) (reads_in (record { at = at; answer = a; number = number }))
+pub reads_snapshot : (n : ℕ) (s : Statement) (alone : Bool) (at : Option ℕ) (a : Answer) (number : Option ℕ) (c : ℕ) → is_some number ≡ (alone && is_some (stored_by s a)) →
+    option_or number (committed_by s a) ≡ Some c → mark_in (record { at = at; answer = a; number = number }) ≡ None →
+    IfSome (snapshot_in (record { at = at; answer = a; number = number })) (λ m. m ≤ n) → Each (λ m. m ≤ n) (reads_in (record { at = at; answer = a; number = number }))
 reads_snapshot n s alone at (Newer m) number c e some mark below = absurd (let k : None ≡ Some c = sym (newer_no_commit alone s number m e) ∙ some in cc)
 reads_snapshot n s alone at a number c e some mark below = go (snapshot_in (record { at = at; answer = a; number = number })) (mark_in (record { at = at; answer = a; number = number })) mark below
   where
@@ -71,7 +74,9 @@ reads_snapshot n s alone at a number c e some mark below = go (snapshot_in (reco
 
 -- ---- its numbers are fresh
 
-pub fresh_heard : (buckets : ℕ) (u : Unprinted) (logs : ℕ → List LogEntry) (log : List LogEntry) (seen : ℕ) (v : View) (s : Statement) (reply : Reply) → collector_asked s ≡ None → Fits buckets u log s reply → HasHeard logs v → HasSeen seen v.sights → IfSome (snapshot_in reply) (λ at. Each (AtMost at) v.sights) → IfSome (commit_in s reply) (IsNext v.sights (snapshot_in reply)) →
+pub fresh_heard : (buckets : ℕ) (u : Unprinted) (logs : ℕ → List LogEntry) (log : List LogEntry) (seen : ℕ) (v : View) (s : Statement) (reply : Reply) → collector_asked s ≡ None →
+    Fits buckets u log s reply → HasHeard logs v → HasSeen seen v.sights → IfSome (snapshot_in reply) (λ at. Each (AtMost at) v.sights) →
+    IfSome (commit_in s reply) (IsNext v.sights (snapshot_in reply)) →
     IfSome (newer_in reply) (λ c. 0 < c) → IsFreshIn logs seen seen s reply
 fresh_heard buckets u logs log seen v s reply other fits heard saw snapshot commit newer =
     let mark : mark_in reply ≡ None = no_mark buckets u log s reply other fits in
@@ -85,4 +90,10 @@ fresh_heard buckets u logs log seen v s reply other fits heard saw snapshot comm
   where
     go : (c : Option ℕ) → commit_in s reply ≡ c → IfSome c (IsNext v.sights (snapshot_in reply)) → IfSome c (λ c. (n : ℕ) × (c ≡ suc n) × IsOver logs seen n × Each (λ m. m ≤ n) (reads_in reply))
     go None e k = tt
-    go (Some c) e k = (k.before, k.next, over_at_most logs seen v k.before heard saw k.over, reads_snapshot k.before s (is_alone (current log) s) reply.at reply.answer reply.number c fits.number e (no_mark buckets u log s reply other fits) k.begun)
+    go (Some c) e k = (
+      k.before,
+      k.next,
+      over_at_most logs seen v k.before heard saw k.over,
+      reads_snapshot k.before s
+          (is_alone (current log) s) reply.at reply.answer reply.number c fits.number e (no_mark buckets u log s reply other fits) k.begun,
+    )

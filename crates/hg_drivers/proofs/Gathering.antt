@@ -65,7 +65,8 @@ at_rest (Some snapshot) h = h
 abbrev pub ShowLogs : (ℕ → List LogEntry) → List (ℕ × Loaded) → Type 0
 ShowLogs logs loaded = Each (λ (e : ℕ × Loaded). ShowsLog e.1.register (logs e.0)) loaded
 
-pub all_show : (logs : ℕ → List LogEntry) (n : ℕ) (loaded : List (ℕ × Loaded)) → map (λ e. e.0) loaded ≡ down_from n → ((j : ℕ) → 0 < j → j ≤ n → IfSome (found j loaded) (λ r. ShowsLog r.register (logs j))) → ShowLogs logs loaded
+pub all_show : (logs : ℕ → List LogEntry) (n : ℕ) (loaded : List (ℕ × Loaded)) → map (λ e. e.0) loaded ≡ down_from n →
+    ((j : ℕ) → 0 < j → j ≤ n → IfSome (found j loaded) (λ r. ShowsLog r.register (logs j))) → ShowLogs logs loaded
 all_show logs n [] keys h = tt
 all_show logs zero (e ∷ loaded) keys h = absurd (let m : suc (length (map (λ (e : ℕ × Loaded). e.0) loaded)) ≡ 0 = ap length keys in omega (arith, m))
 all_show logs (suc n) (e ∷ loaded) keys h =

@@ -1,6 +1,6 @@
 -- A replay amid a script that breaks no rule.
-use Rattle.std.proofs.Common.{◌≡◌, ℕ, suc, ◌+◌, ◌<◌, ◌≤◌, inl, List, [], ◌∷◌, ◌++◌, length, Bool, true, false, Option, None, refl, sym, ap, ◌∙◌, subst, arith, append_assoc}
-use Rattle.std.specs.Prelude.{cond, get_or, map, max, is_some, ⊤, ◌==◌}
+use Rattle.std.proofs.Common.{◌≡◌, ℕ, suc, ◌+◌, ◌<◌, ◌≤◌, ◌≢◌, inl, List, [], ◌∷◌, ◌++◌, length, Bool, true, false, Option, None, refl, sym, ap, ◌∙◌, subst, arith, append_assoc}
+use Rattle.std.specs.Prelude.{cond, get_or, map, max, is_some, IfSome, ⊤, ◌==◌}
 use Rattle.std.proofs.lemmas.List.Sums.{sum_by-cons, sum_by-append}
 use Rattle.hg_base.specs.declared.statement.Statement.{Statement}
 use Rattle.hg_base.specs.declared.statement.Statement.TheVariants.{Begin, Get, Put, Del, Scan, CursorOpen, Fetch, CursorClose, Commit, Rollback, Gc}
@@ -11,12 +11,14 @@ use Rattle.hg_base.specs.declared.statement.Record.{Record}
 use Rattle.hg_base.specs.declared.line.Line.{Line}
 use Rattle.hg_base.specs.Lists.{Each, greatest}
 use Rattle.hg_base.specs.Script.{Declaration, Script}
+use Rattle.hg_base.specs.Conflicts.{target}
 use Rattle.hg_base.specs.Transcript.{Rest, of_session, rest_after}
 use Rattle.hg_base.proofs.ListFacts.{append_nil}
 use Rattle.hg_core.specs.declared.log.LogEntry.{LogEntry}
 use Rattle.hg_core.specs.Logs.{current}
 use Rattle.hg_core.specs.Events.{put}
 use Rattle.hg_core.specs.Reading.{Follows, left_after}
+use Rattle.hg_core.specs.Shown.{ShowsFirst, ShowsFirsts, reads_at}
 use Rattle.hg_core.specs.Words.{IsBelow}
 use Rattle.hg_script.specs.Lawful.{AreInOrder, FitsTables, HasWidths, IsScope, IsLawful, IsStatement, MayStand}
 use Rattle.hg_script.specs.Rules.{is_open, is_reading, reading}
@@ -24,6 +26,7 @@ use Rattle.hg_headline.specs.Counted.{Closes}
 use Rattle.hg_headline.specs.Met.{IsMet}
 use Rattle.hg_headline.specs.Following.{IsFollowing, top_after, told_by, told_removed}
 use Rattle.hg_headline.proofs.Following.{following_opened, following_more}
+use Rattle.hg_headline.proofs.Loops.{follows_snoc}
 use Rattle.hg_session.specs.declared.engine.Engine.{Engine}
 use Rattle.hg_session.specs.declared.session.Session.{Session}
 use Rattle.hg_session.specs.Engines.{engine_sizes}
@@ -31,6 +34,7 @@ use Rattle.hg_session.specs.Finished.{logs_of}
 use Rattle.hg_session.specs.Sessions.{cursor_of, open_of}
 use Rattle.hg_session.proofs.Cursors.{no_cursor}
 use Rattle.hg_fit.specs.Opening.{AreOpen}
+use Rattle.hg_drivers.specs.Caught.{HasCaughtUp, HasOwn, SeesAll}
 use Rattle.hg_drivers.specs.Listed.{ArePlaced, AreReady, HaveCursors, KeepCursors, SawAt, none_left, one_more}
 use Rattle.hg_drivers.specs.Asked.{IsOnTables, IsReplied, HasReplied, MayAsk}
 use Rattle.hg_collectors.specs.Swept.{told_of}
@@ -41,6 +45,7 @@ use Rattle.hg_drivers.specs.Driven.{HasDrivenOne}
 use Rattle.hg_collectors.specs.Telling.{sweeps_in, sweeps_of}
 use Rattle.hg_drivers.proofs.Cursors.{cursors_kept, cursors_same, left_more, no_cursors, reading_more}
 use Rattle.hg_collectors.proofs.Driving.{made_first, made_more}
+use Rattle.hg_drivers.proofs.Caught.{caught_before}
 use Rattle.hg_drivers.proofs.Listing.{log_at}
 use Rattle.hg_fit.proofs.OpenAfter.{opened_more}
 
@@ -49,13 +54,15 @@ pub record IsToCome (script : Script) (sessions : ℕ) (r : Record) : Type 0 whe
   pub stands : IsStatement script.tables r
   pub most : r.session ≤ sessions
 
--- the records that were answered, and those that are left; and what the collectors have made of what they were
+-- The records that were answered, and those that are left; and what the collectors have made of what they were. Each write's line shows
+-- its first cause, once the session that ran last has heard no log further than it stands.
 pub record Going (e : Engine) (long : ℕ) (before now : Collectors) (list : List Session) (last : ℕ) (lines : List Line) (rest : List Record) (script : Script) : Type 0 where
   pub done : List Record
   pub seen : ℕ
   pub top : ℕ
   pub all : script.records ≡ done ++ rest
   pub following : IsFollowing (engine_sizes e).buckets (engine_sizes e).sessions (logs_of list) seen top done lines
+  pub firsts : HasCaughtUp last list → Follows (engine_sizes e).buckets ShowsFirsts (λ j. []) (λ j. None) done lines (logs_of list)
   pub opened : (j : ℕ) → AreOpen (is_open j done) (is_reading j done) (is_some (current (logs_of list j)))
   pub cursors : HaveCursors (λ j. is_reading j done) (left_after (λ j. None) done lines) list
   pub ready : AreReady e last (λ j. length (of_session j rest)) list
@@ -89,7 +96,8 @@ ready_less e last left more list less r = record {
 }
 
 -- the session of the next record may run one statement more than it has to run then
-more_left : (e : Engine) (i : ℕ) (list : List Session) (r : Record) (rest : List Record) → suc i ≡ r.session → AreReady e i (λ j. length (of_session j (r ∷ rest))) list → AreReady e i (one_more (suc i) (λ j. length (of_session j rest))) list
+more_left : (e : Engine) (i : ℕ) (list : List Session) (r : Record) (rest : List Record) → suc i ≡ r.session → AreReady e i (λ j. length (of_session j (r ∷ rest))) list →
+    AreReady e i (one_more (suc i) (λ j. length (of_session j rest))) list
 more_left e i list r rest is ready =
     ready_less e i (one_more (suc i) (λ j. length (of_session j rest))) (λ j. length (of_session j (r ∷ rest))) list
     (subst (λ s. (j : ℕ) → one_more s (λ j. length (of_session j rest)) j ≤ length (of_session j (r ∷ rest))) (sym is) (λ j. go j (r.session == j))) ready
@@ -99,7 +107,8 @@ more_left e i list r rest is ready =
     go j false = omega arith
 
 -- which is one at least
-pub ready_one_more : (e : Engine) (i : ℕ) (list : List Session) (r : Record) (rest : List Record) → suc i ≡ r.session → AreReady e i (λ j. length (of_session j (r ∷ rest))) list → AreReady e i (one_more (suc i) none_left) list
+pub ready_one_more : (e : Engine) (i : ℕ) (list : List Session) (r : Record) (rest : List Record) → suc i ≡ r.session → AreReady e i (λ j. length (of_session j (r ∷ rest))) list →
+    AreReady e i (one_more (suc i) none_left) list
 ready_one_more e i list r rest is ready =
     ready_less e i (one_more (suc i) none_left) (one_more (suc i) (λ j. length (of_session j rest))) list (λ j. go j (suc i == j)) (more_left e i list r rest is ready)
   where
@@ -109,7 +118,9 @@ ready_one_more e i list r rest is ready =
 
 -- ---- one turn
 
-pub going_first : (e : Engine) (long : ℕ) (c : Collectors) (list : List Session) (script : Script) → (engine_sizes e).sessions ≡ max 1 (greatest (map (λ r. r.session) script.records)) → IsLawful script → AreReady e 0 (λ j. length (of_session j script.records)) list → ((j : ℕ) → logs_of list j ≡ []) → Going e long c c list 0 [] script.records script
+pub going_first : (e : Engine) (long : ℕ) (c : Collectors) (list : List Session) (script : Script) →
+    (engine_sizes e).sessions ≡ max 1 (greatest (map (λ r. r.session) script.records)) → IsLawful script → AreReady e 0 (λ j. length (of_session j script.records)) list →
+    ((j : ℕ) → logs_of list j ≡ []) → Going e long c c list 0 [] script.records script
 going_first e long c list script sessions h ready none =
     let most : greatest (map (λ (r : Record). r.session) script.records) ≤ (engine_sizes e).sessions = omega (arith, sessions) in
     let same : (λ j. []) ≡ logs_of list = (λ p j. sym (none j) p) in
@@ -119,6 +130,7 @@ going_first e long c list script sessions h ready none =
       top = 0;
       all = refl;
       following = subst (λ logs. IsFollowing (engine_sizes e).buckets (engine_sizes e).sessions logs 0 0 [] []) same (following_opened (engine_sizes e).buckets (engine_sizes e).sessions);
+      firsts = λ caught. none;
       opened = λ j. ap (λ l. is_some (current l)) (none j);
       cursors = no_cursors list (λ j. None) (λ d k within. no_cursor e (get_or list k d) (ready.placed d k within).own (ap current (sym (log_at d list k within) ∙ none (suc k))));
       ready = ready;
@@ -130,15 +142,20 @@ going_first e long c list script sessions h ready none =
     }
 
 -- the session of the next record has met the one that ran last
-pub going_turned : (e : Engine) (long : ℕ) (before now : Collectors) (old mid : List Session) (last i : ℕ) (lines : List Line) (rest : List Record) (script : Script) → Going e long before now old last lines rest script → logs_of mid ≡ logs_of old → KeepCursors old mid → ((seen : ℕ) → SawAt seen last old → SawAt seen i mid) → ((left : ℕ → ℕ) → AreReady e last left old → AreReady e i left mid) → Going e long before now mid i lines rest script
-going_turned e long before now old mid last i lines rest script g same kept saw ready = record {
+pub going_turned : (e : Engine) (long : ℕ) (before now : Collectors) (old mid : List Session) (last i : ℕ) (lines : List Line) (rest : List Record) (script : Script) →
+    Going e long before now old last lines rest script → logs_of mid ≡ logs_of old → KeepCursors old mid → ((seen : ℕ) → SawAt seen last old → SawAt seen i mid) →
+    ((left : ℕ → ℕ) → AreReady e last left old → AreReady e i left mid) → SeesAll last old i mid → (i ≢ last → HasOwn i mid) → Going e long before now mid i lines rest script
+going_turned e long before now old mid last i lines rest script g same kept saw ready sees own = record {
   done = g.done;
   seen = g.seen;
   top = g.top;
   all = g.all;
   following = subst (λ logs. IsFollowing (engine_sizes e).buckets (engine_sizes e).sessions logs g.seen g.top g.done lines) (sym same) g.following;
+  firsts = λ caught. subst (λ logs. Follows (engine_sizes e).buckets ShowsFirsts (λ j. []) (λ j. None) g.done lines logs) (sym same)
+      (g.firsts (caught_before i last old mid (let a = g.ready.many in let b = (ready (λ j. length (of_session j rest)) g.ready).many in omega (arith, a, b)) same sees own caught));
   opened = λ j. subst (λ (l : ℕ → List LogEntry). AreOpen (is_open j g.done) (is_reading j g.done) (is_some (current (l j)))) (sym same) (g.opened j);
-  cursors = cursors_kept (λ j. is_reading j g.done) (left_after (λ j. None) g.done lines) old mid (let a = g.ready.many in let b = (ready (λ j. length (of_session j rest)) g.ready).many in omega (arith, a, b)) kept g.cursors;
+  cursors = cursors_kept (λ j. is_reading j g.done) (left_after (λ j. None) g.done lines) old mid (let a = g.ready.many in
+      let b = (ready (λ j. length (of_session j rest)) g.ready).many in omega (arith, a, b)) kept g.cursors;
   ready = ready (λ j. length (of_session j rest)) g.ready;
   saw = saw g.seen g.saw;
   told = g.told;
@@ -155,14 +172,18 @@ told_more k lines line =
     let same : told_by k line ≡ told_of k line.reply = refl in
     omega (arith, all, one, none, same)
 
-pub going_on : (e : Engine) (long : ℕ) (before now later : Collectors) (old new : List Session) (i : ℕ) (lines : List Line) (r : Record) (rest : List Record) (script : Script) (line : Line) → (g : Going e long before now old i lines (r ∷ rest) script) → suc i ≡ r.session → line.session ≡ r.session → line.place ≡ r.place →
-    HasReplied e g.seen (λ j. is_reading j g.done) (left_after (λ j. None) g.done lines) old i r.statement line.reply new → ((left : ℕ → ℕ) → AreReady e i (one_more (suc i) left) old → AreReady e i left new) → ((k : Kind) → removed_of k later ≡ removed_of k now + told_of k line.reply) → HaveMade (engine_sizes e) long now (λ k. sweeps_in k line.reply) later →
+pub going_on : (e : Engine) (long : ℕ) (before now later : Collectors) (old new : List Session) (i : ℕ) (lines : List Line) (r : Record) (rest : List Record) (script : Script)
+    (line : Line) → (g : Going e long before now old i lines (r ∷ rest) script) → suc i ≡ r.session → line.session ≡ r.session → line.place ≡ r.place →
+    HasReplied e g.seen (λ j. is_reading j g.done) (left_after (λ j. None) g.done lines) old i r.statement line.reply new →
+    ((left : ℕ → ℕ) → AreReady e i (one_more (suc i) left) old → AreReady e i left new) → ((k : Kind) → removed_of k later ≡ removed_of k now + told_of k line.reply) →
+    HaveMade (engine_sizes e) long now (λ k. sweeps_in k line.reply) later →
     Going e long before later new i (lines ++ line ∷ []) rest script
 going_on e long before now later old new i lines r rest script line g is session place h ready gone made =
     let z = engine_sizes e in
     let reads : ℕ → Bool = λ j. is_reading j g.done in
     let left : ℕ → Option Rest = left_after (λ j. None) g.done lines in
-    let a : IsReplied z.buckets z.sessions (logs_of old) g.seen h.later r.session (left r.session) r.statement line.reply (logs_of new) = subst (λ j. IsReplied z.buckets z.sessions (logs_of old) g.seen h.later j (left j) r.statement line.reply (logs_of new)) is h.replied in
+    let a : IsReplied z.buckets z.sessions (logs_of old) g.seen h.later r.session (left r.session) r.statement line.reply (logs_of new) = subst
+    (λ j. IsReplied z.buckets z.sessions (logs_of old) g.seen h.later j (left j) r.statement line.reply (logs_of new)) is h.replied in
     let cursors : HaveCursors (put reads r.session (reading (reads r.session) r.statement)) (put left r.session (rest_after r.statement line.reply.answer (left r.session))) new =
     subst (λ j. HaveCursors (put reads j (reading (reads j) r.statement)) (put left j (rest_after r.statement line.reply.answer (left j))) new) is h.cursors in
     let top : ℕ = top_after g.top r.statement line.reply in
@@ -172,7 +193,11 @@ going_on e long before now later old new i lines r rest script line g is session
       top = top;
       all = g.all ∙ sym (append_assoc g.done (r ∷ []) rest);
       following = subst (λ logs. IsFollowing z.buckets z.sessions logs h.later top (g.done ++ r ∷ []) (lines ++ line ∷ [])) (sym a.logs)
-          (following_more z.buckets z.sessions (logs_of old) g.seen h.later g.top g.done lines r line a.u g.following g.coming.0.stands.some g.coming.0.most session place a.fits a.rest_is a.met a.fresh);
+          (following_more z.buckets z.sessions (logs_of old) g.seen h.later g.top g.done lines r line a.u g.following g.coming.0.stands.some g.coming.0.most session place a.fits
+          a.rest_is a.met a.fresh);
+      firsts = λ caught. subst (λ logs. Follows z.buckets ShowsFirsts (λ j. []) (λ j. None) (g.done ++ r ∷ []) (lines ++ line ∷ []) logs) (sym a.logs)
+          (follows_snoc z.buckets ShowsFirsts (λ j. []) (logs_of old) (λ j. None) g.done lines r line a.u (g.firsts (h.caught caught))
+          (subst (λ j. IfSome (target r.statement) (λ rid. ShowsFirst (logs_of old) j (reads_at (current (logs_of old j)) line.reply) rid line.reply.answer)) is (h.first caught)) a.fits a.rest_is);
       opened = opened_more z.buckets (logs_of old) (logs_of new) g.done r a.u line.reply a.logs a.fits g.order.0 g.opened;
       cursors = cursors_same _ (λ j. is_reading j (g.done ++ r ∷ [])) _ (left_after (λ j. None) (g.done ++ r ∷ []) (lines ++ line ∷ [])) new (reading_more g.done r)
           (λ j. ap (λ f. f j) (sym (left_more (λ j. None) g.done lines r line g.following.shape))) cursors;
@@ -184,33 +209,42 @@ going_on e long before now later old new i lines r rest script line g is session
       coming = g.coming.1;
     }
 
-pub going_last : (e : Engine) (long : ℕ) (before now : Collectors) (list : List Session) (last : ℕ) (lines : List Line) (script : Script) → Going e long before now list last lines [] script → HasPlayed e long before now list script lines
-going_last e long before now list last lines script g = record {
-  seen = g.seen;
-  top = g.top;
-  following = subst (λ rs. IsFollowing (engine_sizes e).buckets (engine_sizes e).sessions (logs_of list) g.seen g.top rs lines) (sym (g.all ∙ append_nil g.done)) g.following;
-  last = last;
-  ready = g.ready;
-  saw = g.saw;
-  told = g.told;
-  rounds = g.rounds;
-}
+-- all records are answered, and each session has met in turn the one that ran last
+pub going_last : (e : Engine) (long : ℕ) (before now : Collectors) (old list : List Session) (first last : ℕ) (lines : List Line) (script : Script) →
+    Going e long before now old first lines [] script → logs_of list ≡ logs_of old → ((seen : ℕ) → SawAt seen first old → SawAt seen last list) → AreReady e last none_left list →
+    HasCaughtUp first old → HasPlayed e long before now list script lines
+going_last e long before now old list first last lines script g same saw ready caught =
+    let done : g.done ≡ script.records = sym (g.all ∙ append_nil g.done) in
+    record {
+      seen = g.seen;
+      top = g.top;
+      following = (subst (λ p. p) (λ i. IsFollowing (engine_sizes e).buckets (engine_sizes e).sessions (sym same i) g.seen g.top (done i) lines) g.following);
+      firsts = (subst (λ p. p) (λ i. Follows (engine_sizes e).buckets ShowsFirsts (λ j. []) (λ j. None) (done i) lines (sym same i)) (g.firsts caught));
+      last = last;
+      ready = ready;
+      saw = saw g.seen g.saw;
+      told = g.told;
+      rounds = g.rounds;
+    }
 
 -- ---- what is known at the end
 
 -- whatever holds of each record besides
-follows_any : (buckets : ℕ) (P : (ℕ → List LogEntry) → Record → Line → Type 0) (final : ℕ → List LogEntry) (rs : List Record) (lines : List Line) (logs : ℕ → List LogEntry) (left : ℕ → Option Rest) → Follows buckets P logs left rs lines final → Follows buckets (λ _ _ _. ⊤) logs left rs lines final
+follows_any : (buckets : ℕ) (P : (ℕ → List LogEntry) → Record → Line → Type 0) (final : ℕ → List LogEntry) (rs : List Record) (lines : List Line) (logs : ℕ → List LogEntry)
+    (left : ℕ → Option Rest) → Follows buckets P logs left rs lines final → Follows buckets (λ _ _ _. ⊤) logs left rs lines final
 follows_any buckets P final [] [] logs left h = h
 follows_any buckets P final [] (line ∷ lines) logs left h = absurd h
 follows_any buckets P final (r ∷ rs) [] logs left h = absurd h
 follows_any buckets P final (r ∷ rs) (line ∷ lines) logs left h = (tt, (h.1.0, h.1.1, follows_any buckets P final rs lines _ _ h.1.2, h.1.3))
 
-pub driven_one : (e : Engine) (long : ℕ) (before after : Collectors) (old played closed : List Session) (script : Script) (lines : List Line) → ((j : ℕ) → logs_of old j ≡ []) → HasPlayed e long before after played script lines → ((j : ℕ) → Closes (logs_of played j) (logs_of closed j)) →
+pub driven_one : (e : Engine) (long : ℕ) (before after : Collectors) (old played closed : List Session) (script : Script) (lines : List Line) → ((j : ℕ) → logs_of old j ≡ []) →
+    HasPlayed e long before after played script lines → ((j : ℕ) → Closes (logs_of played j) (logs_of closed j)) →
     HasDrivenOne (engine_sizes e) long script.records old before lines closed after
 driven_one e long before after old played closed script lines none p closes = record {
   logs = logs_of played;
   shape = p.following.shape;
-  follows = subst (λ logs. Follows (engine_sizes e).buckets (λ _ _ _. ⊤) logs (λ j. None) script.records lines (logs_of played)) same (follows_any (engine_sizes e).buckets (IsMet (engine_sizes e).sessions) (logs_of played) script.records lines (λ j. []) (λ j. None) p.following.follows);
+  follows = subst (λ logs. Follows (engine_sizes e).buckets (λ _ _ _. ⊤) logs (λ j. None) script.records lines (logs_of played)) same
+      (follows_any (engine_sizes e).buckets (IsMet (engine_sizes e).sessions) (logs_of played) script.records lines (λ j. []) (λ j. None) p.following.follows);
   closes = closes;
   rounds = p.rounds;
 }
@@ -218,7 +252,8 @@ driven_one e long before after old played closed script lines none p closes = re
     same : (λ j. []) ≡ logs_of old
     same = λ i j. sym (none j) i
 
-pub played_out : (e : Engine) (long : ℕ) (before after : Collectors) (played closed : List Session) (script : Script) (lines : List Line) (p : HasPlayed e long before after played script lines) → ((j : ℕ) → Closes (logs_of played j) (logs_of closed j)) → length closed ≡ length played →
+pub played_out : (e : Engine) (long : ℕ) (before after : Collectors) (played closed : List Session) (script : Script) (lines : List Line)
+    (p : HasPlayed e long before after played script lines) → ((j : ℕ) → Closes (logs_of played j) (logs_of closed j)) → length closed ≡ length played →
     ((seen : ℕ) → SawAt seen p.last played → SawAt seen p.last closed) → HasPlayedOut e before after closed script lines
 played_out e long before after played closed script lines p closes many saw = record {
   logs = logs_of played;
@@ -226,6 +261,7 @@ played_out e long before after played closed script lines p closes many saw = re
   seen = p.seen;
   top = p.top;
   following = p.following;
+  firsts = p.firsts;
   last = p.last;
   within = (let within = p.ready.within in omega (arith, within, many));
   saw = saw p.seen p.saw;
@@ -234,10 +270,12 @@ played_out e long before after played closed script lines p closes many saw = re
 
 -- ---- what the next record asks for
 
-pub may_ask : (e : Engine) (long : ℕ) (before now : Collectors) (list : List Session) (last i : ℕ) (lines : List Line) (r : Record) (rest : List Record) (script : Script) → Going e long before now list last lines (r ∷ rest) script → suc i ≡ r.session → i < length list → (d : Session) → MayAsk (get_or list i d) r.statement
+pub may_ask : (e : Engine) (long : ℕ) (before now : Collectors) (list : List Session) (last i : ℕ) (lines : List Line) (r : Record) (rest : List Record) (script : Script) →
+    Going e long before now list last lines (r ∷ rest) script → suc i ≡ r.session → i < length list → (d : Session) → MayAsk (get_or list i d) r.statement
 may_ask e long before now list last i lines r rest script g is within d =
     let reads : is_reading r.session g.done ≡ is_some (cursor_of (get_or list i d)) = ap (λ j. is_reading j g.done) (sym is) ∙ sym (g.cursors d i within).reads_is in
-    let log : is_some (current (logs_of list r.session)) ≡ is_some (open_of (get_or list i d)) = ap (λ j. is_some (current (logs_of list j))) (sym is) ∙ ap (λ l. is_some (current l)) (log_at d list i within) in
+    let log : is_some (current (logs_of list r.session)) ≡ is_some (open_of (get_or list i d)) = ap (λ j. is_some (current (logs_of list j))) (sym is) ∙
+    ap (λ l. is_some (current l)) (log_at d list i within) in
     record {
       within = is_open r.session g.done;
       opens = subst (λ p. p) (λ k. AreOpen (is_open r.session g.done) (reads k) (log k)) (g.opened r.session);

@@ -11,7 +11,7 @@ use Rattle.hg_rule.specs.declared.view.Sight.{Sight}
 use Rattle.hg_rule.specs.declared.view.Sight.TheVariants.{Saw, Heard}
 use Rattle.hg_rule.specs.declared.view.View.{View}
 use Rattle.hg_rule.specs.declared.view.Sizes.{Sizes}
-use Rattle.hg_rule.specs.Facts.{IsAmong, StartsWith, Shown, groups}
+use Rattle.hg_rule.specs.Facts.{IsAmong, StartsWith, Shown, groups, IsHeard}
 use Rattle.hg_rule.specs.Moves.{joined, meeting, put_in}
 use Rattle.hg_rule.specs.Agreed.{IsMet}
 use Rattle.hg_rule.specs.Views.{number, session, HasOnlySession}
@@ -22,7 +22,6 @@ use Rattle.hg_core.specs.Logs.{has_end}
 use Rattle.hg_headline.specs.Following.{AreUpTo, IsOver, KnowsOpen}
 use Rattle.hg_headline.proofs.OpenWrites.{knows_open}
 use Rattle.hg_headline.proofs.OverBuckets.{state_logged}
-use Rattle.hg_session.specs.Ties.{IsHeard}
 use Rattle.hg_session.specs.Finished.{AreAmong}
 use Rattle.hg_collectors.proofs.Among.{of_among, among_left, among_right}
 use Rattle.hg_drivers.specs.Heard.{HasLog, HasHeard, HasSeen}
@@ -91,7 +90,8 @@ heard_more logs v w j l h kept now = at_index j (λ k. IsHeard k (put logs j l k
 -- ---- what a meeting tells of a refused write
 
 -- Session j, after a write that was refused for another's, meets the other's session, whose log is as it was.
-pub met_open : (z : Sizes) (logs : ℕ → List LogEntry) (v w : View) (after : List LogEntry) (o : Writer) → 0 < z.buckets → IsMet z (joined v w) → HasOnlySession v → (session v).log ≡ after → HasLog logs w → number w ≡ o.session → has_end o.transaction (logs o.session) ≡ false →
+pub met_open : (z : Sizes) (logs : ℕ → List LogEntry) (v w : View) (after : List LogEntry) (o : Writer) → 0 < z.buckets → IsMet z (joined v w) → HasOnlySession v →
+    (session v).log ≡ after → HasLog logs w → number w ≡ o.session → has_end o.transaction (logs o.session) ≡ false →
     KnowsOpen z.buckets logs (number v) after o
 met_open z logs v w after o some met only own other same goes =
     let s : CoreState = met.backed.state in

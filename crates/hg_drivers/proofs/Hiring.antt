@@ -32,13 +32,13 @@ use Rattle.hg_collectors.specs.declared.collectors.Collectors.{Collectors}
 use Rattle.hg_drivers.specs.declared.work.Worker.{Worker}
 use Rattle.hg_drivers.specs.Asked.{IsOnTables}
 use Rattle.hg_collectors.specs.Collecting.{view_in, HaveMadeAll, told_in}
-use Rattle.hg_drivers.specs.Driven.{HasDrivenAll}
+use Rattle.hg_drivers.specs.Driven.{AreBack, HasDrivenAll}
 use Rattle.hg_fit.specs.Opening.{AreOpen}
 use Rattle.hg_collectors.specs.Rounding.{IsRoundBy, AreRounds}
 use Rattle.hg_collectors.specs.Telling.{sweep_lines}
 use Rattle.hg_drivers.specs.Working.{AreEnded, AreWilling, HasEnded, HasWorked, IsAskedOf, IsHired, MayFollow, hired, lines_in, sessions_in}
 use Rattle.hg_collectors.proofs.Among.{by_kind}
-use Rattle.hg_drivers.proofs.Closes.{by_place}
+use Rattle.hg_drivers.proofs.Closes.{by_place, closed_cursors}
 use Rattle.hg_drivers.proofs.Going.{on_tables}
 use Rattle.hg_fit.proofs.OpenAfter.{open_other, open_own}
 
@@ -114,7 +114,8 @@ follow : (j : ℕ) (before rs : List Record) → AreInOrder before rs → MayFol
 follow j before [] h = tt
 follow j before (r ∷ rs) h = go (follow j (before ++ r ∷ []) rs h.1) (r.session == j) refl
   where
-    go : MayFollow (is_open j (before ++ r ∷ [])) (is_reading j (before ++ r ∷ [])) (of_session j rs) → (b : Bool) → (r.session == j) ≡ b → MayFollow (is_open j before) (is_reading j before) (cond b (r ∷ of_session j rs) (of_session j rs))
+    go : MayFollow (is_open j (before ++ r ∷ [])) (is_reading j (before ++ r ∷ [])) (of_session j rs) → (b : Bool) → (r.session == j) ≡ b →
+        MayFollow (is_open j before) (is_reading j before) (cond b (r ∷ of_session j rs) (of_session j rs))
     go later true e =
         let same : r.session ≡ j = grind (arith, nat_tests, e) in
         let own = open_own j before r same in (
@@ -123,13 +124,15 @@ follow j before (r ∷ rs) h = go (follow j (before ++ r ∷ []) rs h.1) (r.sess
         )
     go later false e = let other = open_other j before r e in subst (λ p. p) (λ i. MayFollow (other.0 i) (other.1 i) (of_session j rs)) later
 
-module _ (e : Engine) (quota : ℕ) (script : Script) (lawful : IsLawful script) (tables : (engine_sizes e).tables ≡ length script.tables) (room : (j : ℕ) → length (of_session j script.records) ≤ quota) where
+module _ (e : Engine) (quota : ℕ) (script : Script) (lawful : IsLawful script) (tables : (engine_sizes e).tables ≡ length script.tables) (room : (j : ℕ) →
+    length (of_session j script.records) ≤ quota) where
   hired_one : (j : ℕ) (s : Session) → IsNewOf e quota j s → IsHired e (worker_of script j s)
   hired_one j s n = record {
     ready = record {
       own = n.own;
       asked = each_filter (IsAskedOf (engine_sizes e).tables) (λ (r : Record). r.session == j) script.records
-          (each_keeps (IsStatement script.tables) (IsAskedOf (engine_sizes e).tables) (λ r is. record { some = is.some; on = subst (λ m. IsOnTables m r.statement) (sym tables) (on_tables script.tables r.statement is.fits is.widths) }) script.records lawful.statements);
+          (each_keeps (IsStatement script.tables) (IsAskedOf (engine_sizes e).tables)
+          (λ r is. record { some = is.some; on = subst (λ m. IsOnTables m r.statement) (sym tables) (on_tables script.tables r.statement is.fits is.widths) }) script.records lawful.statements);
       within = false;
       opens = subst (λ p. p) (λ i. AreOpen false (sym none i) (sym closed i)) refl;
       may = subst (λ b. MayFollow false b (of_session j script.records)) (sym none) (follow j [] script.records lawful.order);
@@ -161,13 +164,20 @@ pub new_closed : (e : Engine) (quota j : ℕ) (list : List Session) → EachFrom
 new_closed e quota j [] r = tt
 new_closed e quota j (s ∷ ss) r = (record { own = r.0.own; number_is = r.0.number_is; closed = ap current r.0.log }, new_closed e quota (suc j) ss r.1)
 
+-- they are back as they were
+pub new_back : (e : Engine) (quota : ℕ) (old now : List Session) → now ≡ old → EachFrom (IsNewOf e quota) 1 old → AreBack e old now
+new_back e quota old now same new =
+    let closed : EachFrom (IsClosed e) 1 now = subst (EachFrom (IsClosed e) 1) (sym same) (new_closed e quota 1 old new) in
+    record { many = ap (λ (l : List Session). length l) same; closed = closed; cursors = closed_cursors e 1 now closed }
+
 pub ended_each : (e : Engine) (vs ws : List Worker) → length ws ≡ length vs → ((k : ℕ) (d : Worker) → k < length vs → HasEnded e (get_or vs k d) (get_or ws k d)) → AreEnded e vs ws
 ended_each e [] [] m f = tt
 ended_each e [] (w ∷ ws) m f = absurd (omega (arith, m))
 ended_each e (v ∷ vs) [] m f = absurd (omega (arith, m))
 ended_each e (v ∷ vs) (w ∷ ws) m f = (f zero v (omega arith), ended_each e vs ws (omega (arith, m)) (λ k d h. f (suc k) d (omega (arith, h))))
 
-pub closed_from : (e : Engine) (quota : ℕ) (script : Script) (j : ℕ) (list : List Session) (ws : List Worker) → EachFrom (IsNewOf e quota) j list → AreEnded e (hired script j list) ws → EachFrom (IsClosed e) j (sessions_in ws)
+pub closed_from : (e : Engine) (quota : ℕ) (script : Script) (j : ℕ) (list : List Session) (ws : List Worker) → EachFrom (IsNewOf e quota) j list →
+    AreEnded e (hired script j list) ws → EachFrom (IsClosed e) j (sessions_in ws)
 closed_from e quota script j [] [] r a = tt
 closed_from e quota script j [] (w ∷ ws) r a = absurd a
 closed_from e quota script j (s ∷ ss) [] r a = absurd a
@@ -215,7 +225,8 @@ pub flat_lines : (ws : List Worker) → flat_map (lines_at ws) (numbers_from 1 (
 flat_lines ws = flat_from (lines_at ws) 1 ws (λ k n e h. let same : n ≡ suc k = omega (arith, e) in ap (lines_at ws) same)
 
 -- what is gathered, where nobody was refused memory
-pub on_gathered : (all : List Line) (W : Type 0) (Q : List Line → Type 0) (r : Result Shown NoMemory) → IfOk r (λ (t : Shown). t.lines ≡ all) → OnOk r W → ((lines : List Line) → lines ≡ all → W → Q lines) → IfOk r (λ (t : Shown). Q t.lines)
+pub on_gathered : (all : List Line) (W : Type 0) (Q : List Line → Type 0) (r : Result Shown NoMemory) → IfOk r (λ (t : Shown). t.lines ≡ all) → OnOk r W →
+    ((lines : List Line) → lines ≡ all → W → Q lines) → IfOk r (λ (t : Shown). Q t.lines)
 on_gathered all W Q (Ok t) is w f = f t.lines is w
 on_gathered all W Q (Err e) is w f = tt
 
@@ -231,7 +242,8 @@ none_worked buckets old rs lines new a b c d =
     (subst (λ (l : List Line). HasWorked buckets [] [] l new) (sym c)
     (subst (λ (l : List LogEntry). HasWorked buckets [] [] [] l) (sym d) (nothing_worked buckets))))
 
-worked_from : (e : Engine) (script : Script) (j : ℕ) (list : List Session) (ws : List Worker) → AreEnded e (hired script j list) ws → Each (λ (w : Worker). w.refused ≡ false) ws → (k n : ℕ) → n ≡ j + k → k < length list →
+worked_from : (e : Engine) (script : Script) (j : ℕ) (list : List Session) (ws : List Worker) → AreEnded e (hired script j list) ws → Each (λ (w : Worker). w.refused ≡ false) ws →
+    (k n : ℕ) → n ≡ j + k → k < length list →
     HasWorked (engine_sizes e).buckets (get_or (map log_of list) k []) (of_session n script.records) (get_or (map text_of ws) k []) (get_or (map log_of (sessions_in ws)) k [])
 worked_from e script j [] ws a w k n is h = absurd (omega (arith, h))
 worked_from e script j (s ∷ ss) [] a w k n is h = absurd a
@@ -240,9 +252,11 @@ worked_from e script j (s ∷ ss) (x ∷ ws) a w zero n is h =
     subst (λ m. HasWorked (engine_sizes e).buckets (log_of s) (of_session m script.records) x.transcript.lines (log_of x.session)) same (a.0.worked w.0)
 worked_from e script j (s ∷ ss) (x ∷ ws) a w (suc k) n is h = worked_from e script (suc j) ss ws a.1 w.1 k n (omega (arith, is)) (omega (arith, h))
 
-pub driven_all : (e : Engine) (long rounds : ℕ) (script : Script) (list : List Session) (ws : List Worker) (before after : Collectors) (told : RoundLists) (all : List Line) → IsLawful script → length list ≡ max 1 (greatest (map (λ (r : Record). r.session) script.records)) →
+pub driven_all : (e : Engine) (long rounds : ℕ) (script : Script) (list : List Session) (ws : List Worker) (before after : Collectors) (told : RoundLists) (all : List Line) →
+    IsLawful script → length list ≡ max 1 (greatest (map (λ (r : Record). r.session) script.records)) →
     length ws ≡ length list → AreEnded e (hired script 1 list) ws → HaveMadeAll (engine_sizes e) long rounds before told after → AreWilling ws told →
-    all ≡ lines_in ws ++ (sweep_lines 1 told.group.sweeps.items ++ (sweep_lines 1 told.table.sweeps.items ++ sweep_lines 1 told.interval.sweeps.items)) → HasDrivenAll (engine_sizes e) long rounds script.records list before all (sessions_in ws) after
+    all ≡ lines_in ws ++ (sweep_lines 1 told.group.sweeps.items ++ (sweep_lines 1 told.table.sweeps.items ++ sweep_lines 1 told.interval.sweeps.items)) →
+    HasDrivenAll (engine_sizes e) long rounds script.records list before all (sessions_in ws) after
 driven_all e long rounds script list ws before after told all lawful sessions same ended made willing is = record {
   lines = lines_at ws;
   sweeps = λ kind. (told_in kind told).sweeps.items;
@@ -263,7 +277,8 @@ driven_all e long rounds script list ws before after told all lawful sessions sa
 
     worked : (j : ℕ) → HasWorked (engine_sizes e).buckets (logs_of list j) (of_session j script.records) (lines_at ws j) (logs_of (sessions_in ws) j)
     worked = by_place (λ j. HasWorked (engine_sizes e).buckets (logs_of list j) (of_session j script.records) (lines_at ws j) (logs_of (sessions_in ws) j)) list
-        (none_worked (engine_sizes e).buckets [] (of_session 0 script.records) [] [] refl (none_at_zero script.records (each_keeps (IsStatement script.tables) (λ (r : Record). 1 ≤ r.session) (λ r s. s.some) script.records lawful.statements)) refl refl)
+        (none_worked (engine_sizes e).buckets [] (of_session 0 script.records) [] [] refl
+        (none_at_zero script.records (each_keeps (IsStatement script.tables) (λ (r : Record). 1 ≤ r.session) (λ r s. s.some) script.records lawful.statements)) refl refl)
         (λ k h. worked_from e script 1 list ws ended willing.each k (suc k) (omega arith) h)
         (λ k h. let few_sessions : greatest (map (λ (r : Record). r.session) script.records) < suc k = beyond k h in
         none_worked (engine_sizes e).buckets (logs_of list (suc k)) (of_session (suc k) script.records) (lines_at ws (suc k)) (logs_of (sessions_in ws) (suc k))

@@ -6,6 +6,9 @@ pub mod Told
 pub mod Listing
 pub mod Turns
 pub mod Refused
+-- Each write shows its first cause.
+pub mod Firsts
+pub mod Caught
 -- A round of a collector: what it found, and what meetings with its pass leave.
 pub mod Gathering
 pub mod Alone

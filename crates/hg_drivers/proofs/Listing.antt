@@ -33,23 +33,28 @@ pub logs_same : (d : Session) (xs ys : List Session) → length ys ≡ length xs
 logs_same d xs ys many same = λ p j. at j p
   where
     go : (k : ℕ) (b : Bool) → nat_lt k (length xs) ≡ b → logs_of ys (suc k) ≡ logs_of xs (suc k)
-    go k true e = let below : k < length xs = grind (arith, nat_tests, e) in let too : k < length ys = omega (arith, below, many) in map_get log_of d ys k too ∙ same k below ∙ sym (map_get log_of d xs k below)
-    go k false e = map_over log_of ys k (λ q. let below : k < length xs = omega (arith, q, many) in grind (arith, nat_tests, e, below)) ∙ sym (map_over log_of xs k (λ q. grind (arith, nat_tests, e, q)))
+    go k true e = let below : k < length xs = grind (arith, nat_tests, e) in let too : k < length ys = omega (arith, below, many) in map_get log_of d ys k too ∙ same k below ∙
+        sym (map_get log_of d xs k below)
+    go k false e = map_over log_of ys k (λ q. let below : k < length xs = omega (arith, q, many) in grind (arith, nat_tests, e, below)) ∙
+        sym (map_over log_of xs k (λ q. grind (arith, nat_tests, e, q)))
 
     at : (j : ℕ) → logs_of ys j ≡ logs_of xs j
     at zero = refl
     at (suc k) = go k (nat_lt k (length xs)) refl
 
 -- where one session has the log l, and each other is as it was
-pub logs_put : (d : Session) (xs ys : List Session) (i : ℕ) (l : List LogEntry) → length ys ≡ length xs → i < length xs → log_of (get_or ys i d) ≡ l → ((k : ℕ) → k ≢ i → get_or ys k d ≡ get_or xs k d) → logs_of ys ≡ put (logs_of xs) (suc i) l
+pub logs_put : (d : Session) (xs ys : List Session) (i : ℕ) (l : List LogEntry) → length ys ≡ length xs → i < length xs → log_of (get_or ys i d) ≡ l →
+    ((k : ℕ) → k ≢ i → get_or ys k d ≡ get_or xs k d) → logs_of ys ≡ put (logs_of xs) (suc i) l
 logs_put d xs ys i l many within here rest = λ p j. by_number (suc i) (λ j b. logs_of ys j ≡ (if b then l else logs_of xs j)) now others j p
   where
     now : logs_of ys (suc i) ≡ l
     now = let too : i < length ys = omega (arith, within, many) in map_get log_of d ys i too ∙ here
 
     at : (k : ℕ) (b : Bool) → nat_lt k (length xs) ≡ b → k ≢ i → get_or (map log_of ys) k [] ≡ get_or (map log_of xs) k []
-    at k true e z = let below : k < length xs = grind (arith, nat_tests, e) in let too : k < length ys = omega (arith, below, many) in map_get log_of d ys k too ∙ ap log_of (rest k z) ∙ sym (map_get log_of d xs k below)
-    at k false e z = map_over log_of ys k (λ q. let below : k < length xs = omega (arith, q, many) in grind (arith, nat_tests, e, below)) ∙ sym (map_over log_of xs k (λ q. grind (arith, nat_tests, e, q)))
+    at k true e z = let below : k < length xs = grind (arith, nat_tests, e) in let too : k < length ys = omega (arith, below, many) in
+        map_get log_of d ys k too ∙ ap log_of (rest k z) ∙ sym (map_get log_of d xs k below)
+    at k false e z = map_over log_of ys k (λ q. let below : k < length xs = omega (arith, q, many) in grind (arith, nat_tests, e, below)) ∙
+        sym (map_over log_of xs k (λ q. grind (arith, nat_tests, e, q)))
 
     others : (j : ℕ) → (j ≡ suc i → ⊥) → logs_of ys j ≡ logs_of xs j
     others zero z = refl

@@ -1,5 +1,5 @@
 -- What meetings and rounds make of the collectors of a replay.
-use Rattle.std.proofs.Common.{◌≡◌, ℕ, [], ◌∷◌, sym, ap, ◌∙◌, subst}
+use Rattle.std.proofs.Common.{◌≡◌, ℕ, [], ◌∷◌, sym, ap, subst}
 use Rattle.hg_base.specs.Lists.{Each}
 use Rattle.hg_rule.specs.declared.view.Part.TheVariants.{OfPass}
 use Rattle.hg_rule.specs.declared.view.View.{View}
@@ -16,11 +16,13 @@ use Rattle.hg_collectors.proofs.Among.{among_left, among_right}
 
 -- ---- a session meets a pass
 
-pub met_pass : (p : ℕ) (v w : View) (s t : Session) → v.parts ≡ OfPass p (pass v) ∷ [] → AgreesWith v (number_of s) (session (view_of s)) → w ≡ meeting v (view_of s) → view_of t ≡ meeting (view_of s) w → left_of t ≡ left_of s → cursor_of t ≡ cursor_of s → HasMetPass v s t
+pub met_pass : (p : ℕ) (v w : View) (s t : Session) → v.parts ≡ OfPass p (pass v) ∷ [] → AgreesWith v (number_of s) (session (view_of s)) → w ≡ meeting v (view_of s) →
+    view_of t ≡ meeting (view_of s) w → left_of t ≡ left_of s → cursor_of t ≡ cursor_of s → HasMetPass v s t
 met_pass p v w s t only agrees this other left cursor = record {
   parts = ap (λ (x : View). x.parts) other;
   kept = (w.sights, ap (λ (x : View). x.sights) other);
-  seen = λ a i. subst (IsAmong a) (sym (ap (λ (x : View). x.sights) other)) (among_right a (view_of s).sights w.sights (subst (IsAmong a) (sym (ap (λ (x : View). x.sights) this)) (among_left a v.sights (view_of s).sights i)));
+  seen = λ a i. subst (IsAmong a) (sym (ap (λ (x : View). x.sights) other))
+      (among_right a (view_of s).sights w.sights (subst (IsAmong a) (sym (ap (λ (x : View). x.sights) this)) (among_left a v.sights (view_of s).sights i)));
   left = left;
   cursor = cursor;
   agrees = (subst (Each (PartAgrees (number_of s) (session (view_of s)))) only agrees.parts).0;

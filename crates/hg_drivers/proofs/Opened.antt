@@ -1,5 +1,5 @@
 -- An engine that was opened with one session more than the script has.
-use Rattle.std.proofs.Common.{◌≡◌, ℕ, zero, suc, ◌+◌, List, [], ◌∷◌, ◌++◌, length, refl, sym, ap, ◌∙◌, arith}
+use Rattle.std.proofs.Common.{◌≡◌, ℕ, zero, suc, List, [], ◌∷◌, ◌++◌, length, refl, sym, ap, ◌∙◌, arith}
 use Rattle.hg_backup.specs.Reader.{reader_of}
 use Rattle.hg_base.specs.Script.{Script}
 use Rattle.hg_rule.specs.New.{EachFrom}
@@ -32,7 +32,8 @@ row_first : (e : Engine) (q i : ℕ) (list : List Session) (s : Session) → Eac
 row_first e q i [] s r = tt
 row_first e q i (x ∷ list) s r = (r.0, row_first e q (suc i) list s r.1)
 
-module _ (script : Script) (buckets : ℕ) (e : Engine) (list : List Session) (last : Session) (collectors : Collectors) (o : IsOpenedWith (reader_of script) script buckets e (list ++ last ∷ []) collectors) where
+module _ (script : Script) (buckets : ℕ) (e : Engine) (list : List Session) (last : Session) (collectors : Collectors)
+    (o : IsOpenedWith (reader_of script) script buckets e (list ++ last ∷ []) collectors) where
   pub more_is : (engine_sizes e).sessions ≡ suc (length list)
   more_is = sym o.all ∙ length_more list last
 

@@ -18,7 +18,7 @@ use Rattle.hg_rule.specs.declared.view.Sight.{Sight}
 use Rattle.hg_rule.specs.declared.view.Sight.TheVariants.{Heard}
 use Rattle.hg_rule.specs.declared.view.View.{View}
 use Rattle.hg_rule.specs.Agreed.{IsMet}
-use Rattle.hg_rule.specs.Facts.{IsAmong, StartsWith}
+use Rattle.hg_rule.specs.Facts.{IsAmong, StartsWith, IsHeard}
 use Rattle.hg_rule.specs.Moves.{joined, meeting, merged, put_in}
 use Rattle.hg_rule.specs.New.{EachFrom}
 use Rattle.hg_rule.specs.Seats.{session_view, IsSessionOf}
@@ -32,7 +32,6 @@ use Rattle.hg_session.specs.Engines.{engine_board_id, engine_sizes}
 use Rattle.hg_session.specs.Finished.{logs_of, parts_of, AreAmong, HaveGone, IsClosed}
 use Rattle.hg_session.specs.Opened.{seated}
 use Rattle.hg_session.specs.Sessions.{view_of, seen_by}
-use Rattle.hg_session.specs.Ties.{IsHeard}
 use Rattle.hg_session.proofs.Bringing.{heard_finished, one_finishes}
 use Rattle.hg_session.proofs.Meetings.{among_first}
 use Rattle.hg_session.proofs.Quiet.{logs_shown}
@@ -111,7 +110,8 @@ began_within m n (Published q ∷ es) log l u = absurd l.0
 began_within m n (Over ∷ es) log l u = absurd l.0
 
 -- the session of a pass that read, after it: no transaction is open
-pub read_is_closed : (e : Engine) (alloc : Global) (j at : ℕ) (p q : SessionPass) → IsClosed e j (seated alloc 0 p) → begans (log_in p) < (engine_sizes e).quota → HasReadAt at (session_view p) (session_view q) → IsSessionOf (engine_board_id e) (engine_sizes e) q → IsClosed e j (seated alloc 0 q)
+pub read_is_closed : (e : Engine) (alloc : Global) (j at : ℕ) (p q : SessionPass) → IsClosed e j (seated alloc 0 p) → begans (log_in p) < (engine_sizes e).quota →
+    HasReadAt at (session_view p) (session_view q) → IsSessionOf (engine_board_id e) (engine_sizes e) q → IsClosed e j (seated alloc 0 q)
 read_is_closed e alloc j at p q c begins r own = record {
   own = record {
     pass = own;
@@ -142,7 +142,8 @@ resting_same v w e r = record {
   unstamped = ap (λ (ps : List Part). (session_there (first_in ps)).stamped) e ∙ r.unstamped;
 }
 
-pub may_still : (e : Engine) (p q : SessionPass) → (session_view q).parts ≡ (session_view p).parts → MayExport (engine_board_id e) (engine_sizes e) p → IsSessionOf (engine_board_id e) (engine_sizes e) q → MayExport (engine_board_id e) (engine_sizes e) q
+pub may_still : (e : Engine) (p q : SessionPass) → (session_view q).parts ≡ (session_view p).parts → MayExport (engine_board_id e) (engine_sizes e) p →
+    IsSessionOf (engine_board_id e) (engine_sizes e) q → MayExport (engine_board_id e) (engine_sizes e) q
 may_still e p q same may own = record {
   own = own;
   rests = resting_same (session_view p) (session_view q) same may.rests;
@@ -203,7 +204,8 @@ heard_up n j log sights (inr among) each = of_among (AtMost n) (Heard j log) sig
 
 -- p is the reader's pass before the meeting, q after it, and r after the read
 module _ (e : Engine) (script : Script) (alloc : Global) (list : List Session) (collectors : Collectors) (w w1 w2 : View) (p q r : SessionPass) (at : ℕ) (before after : List ℕ)
-    (b : HasBrought e list collectors w) (row : EachFrom (IsClosed e) 1 list) (many : suc (length list) ≡ (engine_sizes e).sessions) (may : MayExport (engine_board_id e) (engine_sizes e) p) (last : IsClosed e (suc (length list)) (seated alloc 0 p))
+    (b : HasBrought e list collectors w) (row : EachFrom (IsClosed e) 1 list) (many : suc (length list) ≡ (engine_sizes e).sessions)
+    (may : MayExport (engine_board_id e) (engine_sizes e) p) (last : IsClosed e (suc (length list)) (seated alloc 0 p))
     (lent : w1 ≡ meeting w (session_view p)) (met : IsMet (engine_sizes e) (joined w (session_view p))) (back : session_view q ≡ meeting (session_view p) w1)
     (dumped : HasDumped e script at (session_view q) (session_view r) before after) (own : IsSessionOf (engine_board_id e) (engine_sizes e) r) (gone : w2 ≡ merged w1 (session_view r)) where
   abbrev same : (session_view q).parts ≡ (session_view p).parts
@@ -230,7 +232,8 @@ module _ (e : Engine) (script : Script) (alloc : Global) (list : List Session) (
     brought = record {
       joined = b.joined;
       passes = b.passes;
-      went = one_finishes b.joined w1 w2 list (seated alloc 0 r) (gone_seen list b.joined w w1 (session_view p).sights b.went (ap (λ (x : View). x.parts) lent) (ap (λ (x : View). x.sights) lent) (ap (λ (x : View). x.events) lent)) gone;
+      went = one_finishes b.joined w1 w2 list (seated alloc 0 r) (gone_seen list b.joined w w1 (session_view p).sights b.went (ap (λ (x : View). x.parts) lent)
+          (ap (λ (x : View). x.sights) lent) (ap (λ (x : View). x.events) lent)) gone;
     };
     closed = row_with e list (seated alloc 0 r) row closed;
     many = length_more list (seated alloc 0 r) ∙ many;
@@ -251,7 +254,8 @@ module _ (e : Engine) (script : Script) (alloc : Global) (list : List Session) (
   pub began_then : (kind : Kind) → Each (BeganIn (logs_of (list_with alloc list p))) (view_in kind collectors).events
   began_then kind =
       began met.backed.state (logs_of (list_with alloc list p)) (view_in kind collectors).events
-      ((λ i j. logs_shown (engine_sizes e) met.mark u met.backed (there_ended e (list_with alloc list p) collectors u there) (number u) (pass u) (others u) (gone_pass (list_with alloc list p) there.brought.joined u there.brought.went) j i) ∙ there_logs e (list_with alloc list p) collectors u there)
+      ((λ i j. logs_shown (engine_sizes e) met.mark u met.backed (there_ended e (list_with alloc list p) collectors u there) (number u) (pass u) (others u)
+      (gone_pass (list_with alloc list p) there.brought.joined u there.brought.went) j i) ∙ there_logs e (list_with alloc list p) collectors u there)
       ((brought_come e (list_with alloc list p) collectors u there.brought kind).did met.backed.state met.backed.true_of)
 
   -- ---- its snapshot
@@ -260,7 +264,8 @@ module _ (e : Engine) (script : Script) (alloc : Global) (list : List Session) (
   heard k = heard_in k (logs_of list k) w.sights (session_view q).sights all (heard_finished e b.joined w list b.passes.own row b.passes.none b.went k)
     where
       all : AreAmong w.sights (session_view q).sights
-      all x i = subst (IsAmong x) (sym kept.1) (among_later x (session_view p).sights w1.sights (subst (IsAmong x) (sym (ap (λ (v : View). v.sights) lent)) (among_first x w.sights (session_view p).sights i)))
+      all x i = subst (IsAmong x) (sym kept.1) (among_later x (session_view p).sights w1.sights
+          (subst (IsAmong x) (sym (ap (λ (v : View). v.sights) lent)) (among_first x w.sights (session_view p).sights i)))
 
   own_up : UpTo at (log_in p)
   own_up = heard_up at (number (session_view p)) (log_in p) (session_view p).sights last.own.heard dumped_then.fresh

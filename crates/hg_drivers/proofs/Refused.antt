@@ -30,24 +30,28 @@ module _ (z : Sizes) (s : Statement) (v w : View) where
   unwritten None rid image (inr h) = h.gains.number_is
   unwritten (Some snapshot) rid image h = h.gains.number_is
 
-  pub number_got : (o : Option Snapshot) (table : TableId) (low high : ℕ) (alone : Bool) (result : Result Read GetRefusal) → IfSome (get_reply alone result) (λ reply. Answers z v s reply w) → (result ≡ Err get.NoMemory → LeavesLooks o table low high v w) → number w ≡ number v
+  pub number_got : (o : Option Snapshot) (table : TableId) (low high : ℕ) (alone : Bool) (result : Result Read GetRefusal) →
+      IfSome (get_reply alone result) (λ reply. Answers z v s reply w) → (result ≡ Err get.NoMemory → LeavesLooks o table low high v w) → number w ≡ number v
   number_got o table low high alone (Ok read) a refused = a.number_is
   number_got o table low high alone (Err (get.Undeclared t)) a refused = a.number_is
   number_got o table low high alone (Err get.NoMemory) a refused = looked o table low high (refused refl)
 
-  pub number_scanned : (o : Option Snapshot) (table : TableId) (low high : ℕ) (alone : Bool) (result : Result Scanned GetRefusal) → IfSome (scan_reply alone result) (λ reply. Answers z v s reply w) → (result ≡ Err get.NoMemory → LeavesLooks o table low high v w) → number w ≡ number v
+  pub number_scanned : (o : Option Snapshot) (table : TableId) (low high : ℕ) (alone : Bool) (result : Result Scanned GetRefusal) →
+      IfSome (scan_reply alone result) (λ reply. Answers z v s reply w) → (result ≡ Err get.NoMemory → LeavesLooks o table low high v w) → number w ≡ number v
   number_scanned o table low high alone (Ok scanned) a refused = a.number_is
   number_scanned o table low high alone (Err (get.Undeclared t)) a refused = a.number_is
   number_scanned o table low high alone (Err get.NoMemory) a refused = looked o table low high (refused refl)
 
-  pub number_put : (o : Option Snapshot) (rid : Rid) (image : Image) (alone : Bool) (result : Result Written PutRefusal) → IfSome (put_reply alone result) (λ reply. Answers z v s reply w) → (result ≡ Err put.NoMemory → LeavesNoWrite o rid image v w) → number w ≡ number v
+  pub number_put : (o : Option Snapshot) (rid : Rid) (image : Image) (alone : Bool) (result : Result Written PutRefusal) →
+      IfSome (put_reply alone result) (λ reply. Answers z v s reply w) → (result ≡ Err put.NoMemory → LeavesNoWrite o rid image v w) → number w ≡ number v
   number_put o rid image alone (Ok written) a refused = a.number_is
   number_put o rid image alone (Err (put.Undeclared t)) a refused = a.number_is
   number_put o rid image alone (Err (put.Open at session transaction)) a refused = a.number_is
   number_put o rid image alone (Err (put.Newer at n)) a refused = a.number_is
   number_put o rid image alone (Err put.NoMemory) a refused = unwritten o rid image (refused refl)
 
-  pub number_deleted : (o : Option Snapshot) (rid : Rid) (image : Image) (alone : Bool) (result : Result Deleted PutRefusal) → IfSome (del_reply alone result) (λ reply. Answers z v s reply w) → (result ≡ Err put.NoMemory → LeavesNoWrite o rid image v w) → number w ≡ number v
+  pub number_deleted : (o : Option Snapshot) (rid : Rid) (image : Image) (alone : Bool) (result : Result Deleted PutRefusal) →
+      IfSome (del_reply alone result) (λ reply. Answers z v s reply w) → (result ≡ Err put.NoMemory → LeavesNoWrite o rid image v w) → number w ≡ number v
   number_deleted o rid image alone (Ok deleted) a refused = a.number_is
   number_deleted o rid image alone (Err (put.Undeclared t)) a refused = a.number_is
   number_deleted o rid image alone (Err (put.Open at session transaction)) a refused = a.number_is

@@ -20,7 +20,7 @@ use Rattle.hg_core.specs.Reading.{Unprinted, Fits, FitsIn, FitsScope, is_alone, 
 use Rattle.hg_rule.specs.declared.view.Part.{Part}
 use Rattle.hg_rule.specs.declared.view.View.{View}
 use Rattle.hg_rule.specs.Agreed.{RecordAgrees}
-use Rattle.hg_rule.specs.Facts.{IsAmong, heard}
+use Rattle.hg_rule.specs.Facts.{IsAmong, heard, IsHeard}
 use Rattle.hg_rule.specs.Rounds.{round_record, round_told}
 use Rattle.hg_rule.specs.Views.{part_number, session, session_there, first_in, pass, pass_there}
 use Rattle.hg_tracker.specs.Entries.{down_from}
@@ -33,10 +33,10 @@ use Rattle.hg_session.specs.Engines.{engine_sizes}
 use Rattle.hg_session.specs.Finished.{logs_of, AreAmong}
 use Rattle.hg_session.specs.Replies.{inside}
 use Rattle.hg_session.specs.Sessions.{IsOf, view_of, number_of, log_of, left_of, cursor_of, opened_of}
-use Rattle.hg_session.specs.Ties.{IsHeard}
 use Rattle.hg_session.proofs.Quiet.{heard_whole}
 use Rattle.hg_drivers.specs.Asked.{HasReplied}
 use Rattle.hg_drivers.specs.Heard.{HasHeard, HasSeen}
+use Rattle.hg_drivers.specs.Caught.{SeesAll}
 use Rattle.hg_drivers.specs.Listed.{IsPlaced, AreReady, HaveCursors, KeepCursors, SawAt, none_left}
 use Rattle.hg_collectors.specs.Swept.{HasSwept, HasMetSessions}
 use Rattle.hg_drivers.specs.Meeting.{HasMetPass}
@@ -46,6 +46,7 @@ use Rattle.hg_drivers.proofs.Hearing.{heard_kept, over_at_most, seen_among}
 use Rattle.hg_collectors.proofs.Among.{among_left}
 use Rattle.hg_drivers.proofs.Listing.{by_two, log_at, logs_same}
 use Rattle.hg_collectors.proofs.Meetings.{met_none, met_more}
+use Rattle.hg_drivers.proofs.Caught.{caught_kept}
 use Rattle.hg_drivers.proofs.Turns.{some_of}
 
 kind_is_itself : (k : Kind) → same_kind k k ≡ true
@@ -85,7 +86,8 @@ partly_none e v old = record {
   above = λ d k more. refl;
 }
 
-pub partly_own : (e : Engine) (v u : View) (i : ℕ) (old now : List Session) → HavePartlyMet e v u old now i → i < length old → ((d : Session) (k : ℕ) → k < length old → IsOf e (get_or old k d)) → (d : Session) → IsOf e (get_or now i d)
+pub partly_own : (e : Engine) (v u : View) (i : ℕ) (old now : List Session) → HavePartlyMet e v u old now i → i < length old →
+    ((d : Session) (k : ℕ) → k < length old → IsOf e (get_or old k d)) → (d : Session) → IsOf e (get_or now i d)
 partly_own e v u i old now p within own d = let same : i ≤ i = omega arith in subst (IsOf e) (sym (p.above d i same)) (own d i within)
 
 -- what is met of a pass that has met others meanwhile
@@ -99,7 +101,8 @@ met_back v u s t h m = record {
   agrees = subst (λ (ps : List Part). RecordAgrees (number_of s) (session (view_of s)) (pass_there (first_in ps))) h.parts m.agrees;
 }
 
-pub partly_next : (e : Engine) (v u w : View) (i n : ℕ) (old now new : List Session) → n ≡ i + 1 → i < length old → HasOneMet e u w i now new → HavePartlyMet e v u old now i → HavePartlyMet e v w old new n
+pub partly_next : (e : Engine) (v u w : View) (i n : ℕ) (old now new : List Session) → n ≡ i + 1 → i < length old → HasOneMet e u w i now new → HavePartlyMet e v u old now i →
+    HavePartlyMet e v w old new n
 partly_next e v u w i n old now new is within h p = record {
   many = h.many ∙ p.many;
   pass = met_more v u w p.pass h.pass;
@@ -114,7 +117,8 @@ partly_next e v u w i n old now new is within h p = record {
         let same : i ≤ i = omega arith in
         (subst (λ s. HasMetPass v s (get_or new i d)) (p.above d i same) (met_back v u (get_or now i d) (get_or new i d) p.pass (h.met d)), h.own d)
 
-pub partly_all : (e : Engine) (v u : View) (n : ℕ) (old now : List Session) → length old ≤ n → HavePartlyMet e v u old now n → (d : Session) (k : ℕ) → k < length old → HasMetPass v (get_or old k d) (get_or now k d) × IsOf e (get_or now k d)
+pub partly_all : (e : Engine) (v u : View) (n : ℕ) (old now : List Session) → length old ≤ n → HavePartlyMet e v u old now n → (d : Session) (k : ℕ) → k < length old →
+    HasMetPass v (get_or old k d) (get_or now k d) × IsOf e (get_or now k d)
 partly_all e v u n old now most p d k within = let less : k < n = omega (arith, most, within) in p.below d k less within
 
 log_met : (w : View) (s t : Session) → HasMetPass w s t → log_of t ≡ log_of s
@@ -172,7 +176,8 @@ heard_there logs v w all h k = go (h k)
     go (inl e) = inl e
     go (inr i) = inr (all _ i)
 
-module _ (e : Engine) (kind : Kind) (i : ℕ) (v v1 w : View) (sweep : Sweep) (old mid new : List Session) (one : HasOneMet e v v1 i old mid) (round : HasSwept kind (engine_sizes e).sessions v1 sweep w) (all : HaveAllMet e w mid new) (ready : AreReady e i none_left old) where
+module _ (e : Engine) (kind : Kind) (i : ℕ) (v v1 w : View) (sweep : Sweep) (old mid new : List Session) (one : HasOneMet e v v1 i old mid)
+    (round : HasSwept kind (engine_sizes e).sessions v1 sweep w) (all : HaveAllMet e w mid new) (ready : AreReady e i none_left old) where
   abbrev sessions : ℕ
   sessions = (engine_sizes e).sessions
 
@@ -203,7 +208,8 @@ module _ (e : Engine) (kind : Kind) (i : ℕ) (v v1 w : View) (sweep : Sweep) (o
       let agrees : RecordAgrees (suc k) (session (view_of s)) (pass w) = subst (λ j. RecordAgrees j (session (view_of s)) (pass w)) placed.number_is (all.met d k below).agrees in
       go (found (suc k) (pass w).loaded) s log (λ p. at_rest (opened_of s) (subst IsEntering placed.own.ties.phase p)) agrees.reaches
     where
-      go : (o : Option Loaded) (s : Session) → log_of s ≡ logs (suc k) → (IsEntering (session (view_of s)).phase → ⊥) → IfSome o (λ r. StandsIn (heard (suc k) (pass w).seen) r.register (session (view_of s)).log (session (view_of s)).phase) → IfSome o (λ r. ShowsLog r.register (logs (suc k)))
+      go : (o : Option Loaded) (s : Session) → log_of s ≡ logs (suc k) → (IsEntering (session (view_of s)).phase → ⊥) →
+          IfSome o (λ r. StandsIn (heard (suc k) (pass w).seen) r.register (session (view_of s)).log (session (view_of s)).phase) → IfSome o (λ r. ShowsLog r.register (logs (suc k)))
       go None s log rests h = tt
       go (Some r) s log rests h =
           let long : length (log_of s) ≤ heard (suc k) (pass w).seen = subst (λ l. length l ≤ heard (suc k) (pass w).seen) (sym log) (whole (suc k)) in
@@ -216,7 +222,8 @@ module _ (e : Engine) (kind : Kind) (i : ℕ) (v v1 w : View) (sweep : Sweep) (o
   report =
       let is : (pass w).loaded ≡ (round_record round.steps).loaded = round.round.loaded_is in
       let shown : ShowLogs logs (round_record round.steps).loaded = subst (ShowLogs logs) is all_shown in
-      let keys : map (λ (x : ℕ × Loaded). x.0) (round_record round.steps).loaded ≡ down_from sessions = subst (λ (l : List (ℕ × Loaded)). map (λ (x : ℕ × Loaded). x.0) l ≡ down_from sessions) is round.keys in
+      let keys : map (λ (x : ℕ × Loaded). x.0) (round_record round.steps).loaded ≡ down_from sessions = subst
+      (λ (l : List (ℕ × Loaded)). map (λ (x : ℕ × Loaded). x.0) l ≡ down_from sessions) is round.keys in
       record {
         same = kind_is_itself kind;
         horizon = none_enters logs (round_record round.steps).mark (round_record round.steps).loaded shown;
@@ -259,6 +266,17 @@ module _ (e : Engine) (kind : Kind) (i : ℕ) (v v1 w : View) (sweep : Sweep) (o
       logs_all e w i mid new there.within all ∙ (logs_one e v v1 i old mid ready.within one
       ∙ (sym (put_same logs (suc i)) ∙ ap (put logs (suc i)) (sym log_stays)))
 
+  bare_logs : logs_of new ≡ logs_of old
+  bare_logs = logs_all e w i mid new there.within all ∙ logs_one e v v1 i old mid ready.within one
+
+  -- the session keeps all that it had seen
+  still_sees : SeesAll i old i new
+  still_sees d x seen =
+      let first = (one.met d).kept in
+      let later = (all.met d i there.within).kept in
+      let at_mid : IsAmong x (view_of (get_or mid i d)).sights = subst (IsAmong x) (sym first.1) (among_left x (view_of (get_or old i d)).sights first.0 seen) in
+      subst (IsAmong x) (sym later.1) (among_left x (view_of (get_or mid i d)).sights later.0 at_mid)
+
   -- each session keeps its cursor
   kept_one : KeepCursors old mid
   kept_one d k within = by_two i i k (λ k. cursor_of (get_or mid k d) ≡ cursor_of (get_or old k d)) (one.met d).cursor (one.met d).cursor (λ p q. ap cursor_of (one.rest d k p))
@@ -287,6 +305,8 @@ module _ (e : Engine) (kind : Kind) (i : ℕ) (v v1 w : View) (sweep : Sweep) (o
         };
         cursors = cursors reads rest have;
         saw = λ d. seen_among sweep.mark w.sights (view_of (get_or new i d)).sights (all.met d i there.within).seen (inr round.saw);
+        caught = caught_kept i old new (let a = one.many in let b = all.many in omega (arith, a, b)) (λ k apart. ap (λ (ls : ℕ → List LogEntry). ls (suc k)) bare_logs) still_sees;
+        first = λ caught. tt;
       }
 
   pub swept_ready : (left : ℕ → ℕ) → AreReady e i left old → AreReady e i left new

@@ -1,5 +1,5 @@
 -- A session's worker: statement by statement.
-use Rattle.std.proofs.Common.{◌≡◌, ℕ, suc, ◌<◌, List, [], ◌∷◌, ◌++◌, length, Bool, true, false, Option, Some, None, refl, sym, ap, ◌∙◌, subst, arith, append_assoc}
+use Rattle.std.proofs.Common.{◌≡◌, ℕ, suc, List, [], ◌∷◌, ◌++◌, length, Bool, true, false, Option, Some, None, refl, sym, ap, ◌∙◌, subst, arith, append_assoc}
 use Rattle.std.specs.Prelude.{◌&&◌, is_some, Result, Ok, Err, IfOk, IfSome}
 use Rattle.hg_base.specs.declared.fault.NoMemory.{NoMemory}
 use Rattle.hg_base.specs.declared.report.Kind.{Kind}
@@ -78,7 +78,8 @@ leaves_none : (s : Statement) (a : Answer) → collector_asked s ≡ None → Le
 leaves_none (Gc kind) a h = absurd (let z : Some kind ≡ None = h in cc)
 leaves_none _ a h = tt
 
-pub asked_taken : (z : Sizes) (old new : Session) (s : Statement) (result : Result Reply NoMemory) → collector_asked s ≡ None → IfOk result (λ reply. IsAnswered z old s reply new) → IfOk result (λ reply. HasTaken z.buckets old s reply new)
+pub asked_taken : (z : Sizes) (old new : Session) (s : Statement) (result : Result Reply NoMemory) → collector_asked s ≡ None → IfOk result (λ reply. IsAnswered z old s reply new)
+    → IfOk result (λ reply. HasTaken z.buckets old s reply new)
 asked_taken z old new s (Ok reply) none h = record {
   step = λ rest left. (let a = h.answers rest left in record { u = a.answers.u; fits = a.answers.fits; rest_is = a.rest_is; leaves = leaves_none s reply.answer none; log = a.answers.log });
   moved = h.moved;
@@ -116,19 +117,22 @@ running_first e w h = record {
     none : (more : List Line) → w.transcript.lines ++ more ≡ more
     none more = ap (λ lines. lines ++ more) h.none
 
-pub running_more : (e : Engine) (r : Record) (first old new : Worker) → HasStepped e r old new → IsOf e new.session → number_of new.session ≡ number_of old.session → new.transcript.tables ≡ old.transcript.tables → new.refused ≡ old.refused → IsRunning e first old → IsRunning e first new
+pub running_more : (e : Engine) (r : Record) (first old new : Worker) → HasStepped e r old new → IsOf e new.session → number_of new.session ≡ number_of old.session →
+    new.transcript.tables ≡ old.transcript.tables → new.refused ≡ old.refused → IsRunning e first old → IsRunning e first new
 running_more e r first old new h own number tables refused g =
     let asked : Each (IsAskedOf (engine_sizes e).tables) (r ∷ new.records) = subst (Each (IsAskedOf (engine_sizes e).tables)) h.records g.ready.asked in
     let reads : Bool = is_some (cursor_of old.session) in
     let may : MayFollow g.ready.within reads (r ∷ new.records) = subst (MayFollow g.ready.within reads) h.records g.ready.may in
     let many : length old.records ≡ suc (length new.records) = ap (λ rs. length rs) h.records in
-    let now : is_some (open_of new.session) ≡ held (is_some (open_of old.session)) r.statement = ap (λ log. is_some (current log)) step.log ∙ open_after (engine_sizes e).buckets step.u r.statement line.reply (log_of old.session) step.fits in
+    let now : is_some (open_of new.session) ≡ held (is_some (open_of old.session)) r.statement = ap (λ log. is_some (current log)) step.log ∙
+    open_after (engine_sizes e).buckets step.u r.statement line.reply (log_of old.session) step.fits in
     record {
       ready = record {
         own = own;
         asked = asked.1;
         within = opened g.ready.within r.statement;
-        opens = subst (λ p. p) (λ i. AreOpen (opened g.ready.within r.statement) (sym h.answered.taken.reads i) (sym now i)) (open_step r.statement g.ready.within reads (is_some (open_of old.session)) g.ready.opens may.0);
+        opens = subst (λ p. p) (λ i. AreOpen (opened g.ready.within r.statement) (sym h.answered.taken.reads i) (sym now i))
+            (open_step r.statement g.ready.within reads (is_some (open_of old.session)) g.ready.opens may.0);
         may = subst (λ b. MayFollow (opened g.ready.within r.statement) b new.records) (sym h.answered.taken.reads) may.1;
         left = (let a = g.ready.left in let b = h.left in omega (arith, a, b, many));
       };

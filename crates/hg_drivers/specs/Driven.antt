@@ -24,7 +24,6 @@ use Rattle.hg_script.specs.Lawful.{IsLawful}
 use Rattle.hg_session.specs.Finished.{logs_of, IsClosed}
 use Rattle.hg_session.specs.Opened.{IsNewOf}
 use Rattle.hg_session.specs.Sessions.{cursor_of}
-use Rattle.hg_words.specs.declared.options.Options.{Options}
 use Rattle.hg_collectors.specs.declared.collectors.Collectors.{Collectors}
 use Rattle.hg_drivers.specs.Collecting.{AreCollectors}
 use Rattle.hg_collectors.specs.Collecting.{removed_of, view_in}
@@ -35,6 +34,13 @@ use Rattle.hg_drivers.specs.Working.{HasWorked}
 -- how many sessions a script has: those up to the greatest number, and at least one
 abbrev pub sessions_in : Script → ℕ
 sessions_in script = max 1 (greatest (map (λ (r : Record). r.session) script.records))
+
+-- an engine for a lawful script: it has the script's sessions and tables, and some bucket
+pub record IsEngineFor (script : Script) (e : Engine) : Type 0 where
+  pub lawful : IsLawful script
+  pub sessions_are : (engine_sizes e).sessions ≡ sessions_in script
+  pub tables : (engine_sizes e).tables ≡ length script.tables
+  pub some : 0 < (engine_sizes e).buckets
 
 -- an engine of so many sessions for the tables of a script; its sessions and collectors have done nothing yet
 pub record IsOpenedWith (sessions : ℕ) (script : Script) (buckets : ℕ) (e : Engine) (list : List Session) (collectors : Collectors) : Type 0 where
@@ -72,9 +78,10 @@ pub record HasDrivenAll (z : Sizes) (long rounds : ℕ) (records : List Record) 
   pub count : (kind : Kind) → length (sweeps kind) ≡ rounds
   pub made : (kind : Kind) → AreRounds (IsRoundBy kind z long) (view_in kind before) (sweeps kind) (view_in kind after)
 
--- ---- one driver next to other work
+-- ---- what every driver needs, and what it leaves
 
--- what the driver of `run` needs
+-- A lawful script, and an engine with its tables and at least its sessions. The list has as many sessions as the script, which have
+-- done nothing and may run as many statements as the script has of theirs, and the collectors are the engine's.
 pub record MayDrive (e : Engine) (script : Script) (list : List Session) (collectors : Collectors) : Type 0 where
   pub lawful : IsLawful script
   pub sessions : length list ≡ max 1 (greatest (map (λ (r : Record). r.session) script.records))
@@ -85,11 +92,16 @@ pub record MayDrive (e : Engine) (script : Script) (list : List Session) (collec
   pub new : EachFrom (IsNewOf e (engine_sizes e).quota) 1 list
   pub collectors_are : AreCollectors e collectors
 
--- and what it says
-pub record HasDriven (e : Engine) (options : Options) (script : Script) (old : List Session) (before : Collectors) (result : Result Shown NoMemory) (new : List Session) (after : Collectors) : Type 0 where
-  pub driven : IfOk result (λ (t : Shown). HasDrivenAll (engine_sizes e) options.long options.rounds script.records old before t.lines new after)
-  pub tables : IfOk result (λ (t : Shown). t.tables ≡ script.tables)
+-- all sessions are back, and none has a transaction or a cursor open
+pub record AreBack (e : Engine) (old new : List Session) : Type 0 where
   pub many : length new ≡ length old
   pub closed : EachFrom (IsClosed e) 1 new
   pub cursors : Each (λ s. cursor_of s ≡ None) new
+
+-- what the driver of `run` says, where it drives next to other work
+pub record HasDriven (e : Engine) (long rounds : ℕ) (script : Script) (old : List Session) (before : Collectors) (result : Result Shown NoMemory) (new : List Session)
+    (after : Collectors) : Type 0 where
+  pub driven : IfOk result (λ (t : Shown). HasDrivenAll (engine_sizes e) long rounds script.records old before t.lines new after)
+  pub tables : IfOk result (λ (t : Shown). t.tables ≡ script.tables)
+  pub back : AreBack e old new
   pub collectors_are : AreCollectors e after

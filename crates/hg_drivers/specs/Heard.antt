@@ -5,7 +5,7 @@ use Rattle.hg_rule.specs.declared.view.View.{View}
 use Rattle.hg_rule.specs.declared.view.Sight.{Sight}
 use Rattle.hg_rule.specs.Views.{number, session, HasOnlySession}
 use Rattle.hg_tracker.specs.Begun.{SawGroups}
-use Rattle.hg_session.specs.Ties.{IsHeard}
+use Rattle.hg_rule.specs.Facts.{IsHeard}
 
 -- these are the logs, as far as one session's own goes
 pub record HasLog (logs : ℕ → List LogEntry) (v : View) : Type 0 where

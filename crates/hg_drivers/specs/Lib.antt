@@ -1,6 +1,7 @@
 -- What the drivers know of sessions and collectors, and what they leave. A reader meets the definitions in this order.
 pub mod Heard
 pub mod Listed
+pub mod Caught
 pub mod Asked
 pub mod Meeting
 pub mod Collecting

@@ -1,5 +1,5 @@
 -- The sessions of a replay in the order of their numbers: session j stands at j - 1.
-use Rattle.std.specs.Prelude.{◌≡◌, ℕ, suc, ◌≤◌, ◌<◌, List, length, get_or, Bool, cond, ◌==◌, Option, is_some}
+use Rattle.std.specs.Prelude.{◌≡◌, ℕ, suc, ◌+◌, ◌≤◌, ◌<◌, ◌≢◌, List, length, get_or, Bool, cond, ◌==◌, Option, is_some}
 use Rattle.hg_base.specs.Transcript.{Rest}
 use Rattle.hg_session.specs.declared.engine.Engine.{Engine}
 use Rattle.hg_session.specs.declared.session.Session.{Session}
@@ -38,6 +38,19 @@ pub record AreReady (e : Engine) (last : ℕ) (left : ℕ → ℕ) (list : List 
 -- the one at a place has seen so many groups
 abbrev pub SawAt : ℕ → ℕ → List Session → Type 0
 SawAt n i list = (d : Session) → HasSeen n (view_of (get_or list i d)).sights
+
+-- ---- one of them
+
+-- only the one at a place may have changed
+pub record HasChangedAt (i : ℕ) (old new : List Session) : Type 0 where
+  pub many : length new ≡ length old
+  pub rest : (d : Session) (k : ℕ) → k ≢ i → get_or new k d ≡ get_or old k d
+
+-- It is the engine's, has the number that it had, and may run as many statements more as before, or one less.
+pub record HasRunOne (e : Engine) (old new : Session) : Type 0 where
+  pub number_is : number_of new ≡ number_of old
+  pub left : left_of old ≤ left_of new + 1
+  pub own : IsOf e new
 
 -- ---- cursors
 

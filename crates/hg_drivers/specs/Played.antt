@@ -1,9 +1,11 @@
 -- What is known once all records of a script are answered.
-use Rattle.std.specs.Prelude.{◌≡◌, ℕ, ◌+◌, ◌<◌, List, length}
+use Rattle.std.specs.Prelude.{◌≡◌, ℕ, ◌+◌, ◌<◌, List, [], None, length}
 use Rattle.hg_base.specs.declared.report.Kind.{Kind}
 use Rattle.hg_base.specs.declared.line.Line.{Line}
 use Rattle.hg_base.specs.Script.{Script}
 use Rattle.hg_core.specs.declared.log.LogEntry.{LogEntry}
+use Rattle.hg_core.specs.Reading.{Follows}
+use Rattle.hg_core.specs.Shown.{ShowsFirsts}
 use Rattle.hg_headline.specs.Counted.{Closes}
 use Rattle.hg_headline.specs.Following.{IsFollowing, told_removed}
 use Rattle.hg_session.specs.declared.engine.Engine.{Engine}
@@ -15,12 +17,13 @@ use Rattle.hg_collectors.specs.Collecting.{HaveMade, removed_of}
 use Rattle.hg_collectors.specs.Telling.{sweeps_of}
 use Rattle.hg_drivers.specs.Listed.{AreReady, SawAt, none_left}
 
--- The lines follow the logs, where so many groups were seen, by the session that ran last too. Their reports tell all that the
--- collectors removed, and each round of theirs.
+-- The lines follow the logs, where so many groups were seen, by the session that has seen most too, and each write's line shows its
+-- first cause by them. Their reports tell all that the collectors removed, and each round of theirs.
 pub record HasPlayed (e : Engine) (long : ℕ) (before after : Collectors) (list : List Session) (script : Script) (lines : List Line) : Type 0 where
   pub seen : ℕ
   pub top : ℕ
   pub following : IsFollowing (engine_sizes e).buckets (engine_sizes e).sessions (logs_of list) seen top script.records lines
+  pub firsts : Follows (engine_sizes e).buckets ShowsFirsts (λ j. []) (λ j. None) script.records lines (logs_of list)
   pub last : ℕ
   pub ready : AreReady e last none_left list
   pub saw : SawAt seen last list
@@ -34,6 +37,7 @@ pub record HasPlayedOut (e : Engine) (before after : Collectors) (list : List Se
   pub seen : ℕ
   pub top : ℕ
   pub following : IsFollowing (engine_sizes e).buckets (engine_sizes e).sessions logs seen top script.records lines
+  pub firsts : Follows (engine_sizes e).buckets ShowsFirsts (λ j. []) (λ j. None) script.records lines logs
   pub last : ℕ
   pub within : last < length list
   pub saw : SawAt seen last list

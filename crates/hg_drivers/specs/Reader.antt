@@ -74,7 +74,8 @@ list_with alloc list pass = list ++ seated alloc 0 pass ∷ []
 
 -- After all other sessions had ended, the dump at a snapshot was appended: no number of any log is over it. The begins of the snapshots
 -- that collectors loaded were in the logs before. Then the reader ended as the others had, and the totals are those of all logs.
-pub record IsReadAndClosed (alloc : Global) (e : Engine) (script : Script) (list : List Session) (collectors : Collectors) (pass : SessionPass) (before after : List ℕ) (totals : Totals) (at : ℕ) : Type 0 where
+pub record IsReadAndClosed (alloc : Global) (e : Engine) (script : Script) (list : List Session) (collectors : Collectors) (pass : SessionPass) (before after : List ℕ)
+    (totals : Totals) (at : ℕ) : Type 0 where
   pub last : SessionPass
   pub dumped : HasDumped e script at (session_view pass) (session_view last) before after
   pub began : (kind : Kind) → Each (BeganIn (logs_of (list_with alloc list pass))) (view_in kind collectors).events

@@ -11,17 +11,17 @@ ghost use Rattle.hg_session.specs.declared.session.Session.{Session};
 ghost use Rattle.hg_session.specs.Engines.{engine_sizes};
 ghost use Rattle.hg_session.specs.Finished.{AreAmong};
 ghost use Rattle.hg_session.specs.Sessions.{IsOf, seen_by};
-ghost use Rattle.hg_drivers.specs.Listed.{ArePlaced, AreReady, none_left};
+ghost use Rattle.hg_drivers.specs.Listed.{ArePlaced, AreReady, HasChangedAt, none_left};
 ghost use Rattle.hg_drivers.specs.Asked.{Replies};
 ghost use Rattle.hg_collectors.specs.Rounding.{IsRoundBy};
-ghost use Rattle.hg_collectors.specs.Swept.{HasMetSessions, HasSwept, swept_by, told_of};
+ghost use Rattle.hg_collectors.specs.Swept.{HasMetSessions, HasSwept, swept_by};
 ghost use Rattle.hg_drivers.specs.Meeting.{HasMetPass};
-ghost use Rattle.hg_drivers.specs.Collecting.{AreCollectors};
-ghost use Rattle.hg_collectors.specs.Collecting.{HaveMade, removed_of, view_in};
-ghost use Rattle.hg_collectors.specs.Telling.{sweeps_in};
+ghost use Rattle.hg_drivers.specs.Collecting.{AreCollectors, TellsAll};
+ghost use Rattle.hg_collectors.specs.Collecting.{removed_of, view_in};
 
-use crate::lent::lent_by;
-use crate::meeting::meet;
+use crate::crew::Crew;
+use crate::loan::lent_by;
+use crate::pass::meet;
 use crate::reply::inside;
 use hg_base::{Answer, Kind, NoMemory, Reply, Sweep};
 use hg_collectors::Collectors;
@@ -40,12 +40,10 @@ fn meet_at(
     requires within { i < length list.old.items }
     requires own { (d : Session) → IsOf engine.now (get_or list.old.items i d) }
     requires collectors { AreCollectors engine.now collectors.old }
-    ensures many { length list.new.items ≡ length list.old.items }
+    ensures others { HasChangedAt i list.old.items list.new.items }
     ensures met { (d : Session) →
         HasMetPass (view_in kind collectors.old) (get_or list.old.items i d)
         (get_or list.new.items i d) }
-    ensures rest { (d : Session) (k : ℕ) → k ≢ i →
-        get_or list.new.items k d ≡ get_or list.old.items k d }
     ensures own { (d : Session) → IsOf engine.now (get_or list.new.items i d) }
     ensures pass { (k : Kind) →
         HasMetSessions (view_in k collectors.old) (view_in k collectors.new) }
@@ -107,29 +105,26 @@ fn round<R: Threads + Wait + Sync>(
 pub(crate) fn sweep<R: Threads + Wait + Sync>(
     rt: &R,
     engine: &Engine,
-    list: &mut Vec<Session>,
-    collectors: &mut Collectors,
+    crew: &mut Crew,
     i: usize,
     kind: Kind,
     long: u64,
 ) -> Result<Reply, NoMemory>
-    requires ready { AreReady engine.now i none_left list.old.items }
-    requires collectors { AreCollectors engine.now collectors.old }
-    ensures replied { IfOk result
-        (λ reply. Replies engine.now list.old.items i (say.Gc kind) reply list.new.items) }
-    ensures ready { OnOk result ((left : ℕ → ℕ) → AreReady engine.now i left list.old.items →
-        AreReady engine.now i left list.new.items) }
-    ensures removed { IfOk result (λ reply.
-        (k : Kind) →
-        removed_of k collectors.new ≡ removed_of k collectors.old + told_of k reply) }
-    ensures rounds { IfOk result (λ reply.
-        HaveMade (engine_sizes engine.now) long collectors.old (λ k. sweeps_in k reply)
-        collectors.new) }
-    ensures placed { ArePlaced engine.now list.new.items }
-    ensures collectors { AreCollectors engine.now collectors.new }
+    requires ready { AreReady engine.now i none_left crew.old.sessions.items }
+    requires collectors { AreCollectors engine.now crew.old.collectors }
+    ensures replied { IfOk result (λ reply.
+        Replies engine.now crew.old.sessions.items i (say.Gc kind) reply
+        crew.new.sessions.items) }
+    ensures ready { OnOk result ((left : ℕ → ℕ) →
+        AreReady engine.now i left crew.old.sessions.items →
+        AreReady engine.now i left crew.new.sessions.items) }
+    ensures told { IfOk result (λ reply.
+        TellsAll (engine_sizes engine.now) long crew.old.collectors reply crew.new.collectors) }
+    ensures placed { ArePlaced engine.now crew.new.sessions.items }
+    ensures collectors { AreCollectors engine.now crew.new.collectors }
 {
-    meet_at(engine, list, collectors, kind, i);
-    let swept = round(rt, engine, collectors, kind, long)?;
-    meet_all(engine, list, collectors, kind);
+    meet_at(engine, &mut crew.sessions, &mut crew.collectors, kind, i);
+    let swept = round(rt, engine, &mut crew.collectors, kind, long)?;
+    meet_all(engine, &mut crew.sessions, &mut crew.collectors, kind);
     Ok(inside(Answer::Swept(swept)))
 }

@@ -13,12 +13,13 @@
 
 mod ask;
 mod beside;
+mod crew;
 mod dump;
-mod ending;
+mod end;
+mod engine;
 mod gc;
-mod lent;
-mod meeting;
-mod opening;
+mod loan;
+mod pass;
 mod play;
 mod reader;
 mod replay;
@@ -27,9 +28,10 @@ mod run;
 mod turn;
 mod work;
 
+pub use crew::Crew;
 pub use dump::dump_on;
-pub use ending::{close, close_read};
-pub use opening::{open_beside, open_for};
+pub use end::{close, close_read};
+pub use engine::{open_beside, open_for};
 pub use reader::Reader;
 pub use replay::replay_on;
 pub use run::run_on;

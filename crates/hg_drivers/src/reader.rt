@@ -8,7 +8,7 @@ ghost use Rattle.hg_session.specs.Engines.{engine_board_id, engine_sizes};
 
 use hg_base::{Gate, NoMemory};
 use hg_collectors::READER;
-use hg_dump::export;
+use hg_dump::{Tools, export};
 use hg_rule::SessionPass;
 use hg_script::Script;
 use hg_session::Engine;
@@ -17,13 +17,13 @@ use std::sync::Wait;
 
 /// The tables of an engine, which are those of a script.
 #[derive(Drop)]
-pub struct Reader<'a> {
+pub struct Reader<'e, 'a> {
     pub alloc: Global,
-    pub engine: &'a Engine,
+    pub engine: &'e Engine,
     pub script: &'a Script,
 }
 
-impl<'a> Reader<'a> {
+impl<'e, 'a> Reader<'e, 'a> {
     ghost use Rattle.hg_drivers.specs.Reader.{HasDumped, engine_in, script_in};
 
     /// Appends the dump of the tables at a snapshot, and returns the snapshot. A refusal leaves `into` as it was.
@@ -42,15 +42,12 @@ impl<'a> Reader<'a> {
         ensures own { IsSessionOf (engine_board_id (engine_in self.now))
             (engine_sizes (engine_in self.now)) pass.new }
     {
-        export(
-            rt,
-            self.alloc,
-            self.engine.trackers(),
-            self.engine.store(),
-            self.script,
-            pass,
-            into,
-        )
+        let tools = Tools {
+            trackers: self.engine.trackers(),
+            store: self.engine.store(),
+            script: self.script,
+        };
+        export(rt, self.alloc, &tools, pass, into)
     }
 
     /// The work of the worker that reads while the others run. It asks the gate before it reads, and after.

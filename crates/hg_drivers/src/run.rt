@@ -5,30 +5,24 @@
 //!     gather     the lines of each session by number, and then of each collector's rounds
 //!     retire     the sessions go back to their list
 
-ghost use Rattle.std.specs.Prelude.{◌≡◌, ℕ, ◌+◌, ◌++◌, ◌<◌, ◌≤◌, ◌^◌, length, map, max, None, false, vec_capacity, IfOk, IfErr, OnOk};
-ghost use Rattle.hg_base.specs.Lists.{Each, greatest};
+ghost use Rattle.std.specs.Prelude.{◌≡◌, ◌+◌, ◌++◌, ◌<◌, ◌≤◌, ◌^◌, length, false, vec_capacity, IfOk, IfErr, OnOk};
+ghost use Rattle.hg_base.specs.Lists.{Each};
 ghost use Rattle.hg_drivers.specs.declared.work.Worker.{Worker};
-ghost use Rattle.hg_base.specs.Transcript.{of_session};
-ghost use Rattle.hg_rule.specs.New.{EachFrom};
-ghost use Rattle.hg_script.specs.Lawful.{IsLawful};
 ghost use Rattle.hg_session.specs.Engines.{engine_sizes};
-ghost use Rattle.hg_session.specs.Finished.{IsClosed};
-ghost use Rattle.hg_session.specs.Opened.{IsNewOf};
-ghost use Rattle.hg_session.specs.Sessions.{cursor_of};
 ghost use Rattle.hg_drivers.specs.Collecting.{AreCollectors};
-ghost use Rattle.hg_drivers.specs.Driven.{HasDrivenAll};
+ghost use Rattle.hg_drivers.specs.Driven.{AreBack, HasDrivenAll, MayDrive};
 ghost use Rattle.hg_collectors.specs.Telling.{sweep_lines};
 ghost use Rattle.hg_drivers.specs.Working.{AreWilling, hired, lines_in, sessions_in};
 
 use crate::beside::run_beside;
+use crate::crew::Crew;
 use crate::reply::inside;
 use crate::work::Worker;
 use hg_base::{Answer, Gate, Line, NoMemory};
-use hg_collectors::{Collectors, Plan, RoundList, RoundLists};
+use hg_collectors::{Plan, RoundList, RoundLists};
 use hg_script::Script;
-use hg_session::{Engine, Session, SessionList};
+use hg_session::{Engine, Session};
 use hg_transcript::Transcript;
-use hg_words::Options;
 use std::alloc::Global;
 use std::mem;
 use std::sync::Wait;
@@ -137,59 +131,41 @@ pub fn run_on<'a, R: Threads + Wait + Sync, G: Gate + Sync>(
     rt: &R,
     alloc: Global,
     script: &'a Script,
-    options: &Options,
-    gate: &G,
+    plan: &Plan<G>,
     engine: &Engine,
-    sessions: &mut SessionList,
-    collectors: &mut Collectors,
+    crew: &mut Crew,
 ) -> Result<Transcript<'a>, NoMemory>
-    requires lawful { IsLawful script.now }
-    requires sessions { length sessions.old ≡
-        max 1 (greatest (map (λ r. r.session) script.now.records)) }
-    requires tables { (engine_sizes engine.now).tables ≡ length script.now.tables }
-    requires some { 0 < (engine_sizes engine.now).buckets }
-    requires quota { (j : ℕ) →
-        length (of_session j script.now.records) ≤ (engine_sizes engine.now).quota }
-    requires most { length sessions.old ≤ (engine_sizes engine.now).sessions }
-    requires new { EachFrom (IsNewOf engine.now (engine_sizes engine.now).quota) 1 sessions.old }
-    requires collectors { AreCollectors engine.now collectors.old }
+    requires { MayDrive engine.now script.now crew.old.sessions.items crew.old.collectors }
     ensures driven { IfOk result (λ transcript.
-        HasDrivenAll (engine_sizes engine.now) options.now.long options.now.rounds
-        script.now.records sessions.old collectors.old transcript.lines sessions.new
-        collectors.new) }
+        HasDrivenAll (engine_sizes engine.now) plan.now.long plan.now.rounds script.now.records
+        crew.old.sessions.items crew.old.collectors transcript.lines crew.new.sessions.items
+        crew.new.collectors) }
     ensures tables { IfOk result (λ transcript. transcript.tables ≡ script.now.tables) }
-    ensures many { length sessions.new ≡ length sessions.old }
-    ensures closed { EachFrom (IsClosed engine.now) 1 sessions.new }
-    ensures cursors { Each (λ s. cursor_of s ≡ None) sessions.new }
-    ensures collectors { AreCollectors engine.now collectors.new }
+    ensures back { AreBack engine.now crew.old.sessions.items crew.new.sessions.items }
+    ensures collectors { AreCollectors engine.now crew.new.collectors }
 {
-    let mut told = RoundLists::with_places(alloc, options.rounds)?;
-    let list = mem::replace(sessions, SessionList::from(Vec::new(alloc))).into_vec();
+    let mut told = RoundLists::with_places(alloc, plan.rounds)?;
+    let list = mem::replace(&mut crew.sessions, Vec::new(alloc));
     let Ok(back) = Vec::with_capacity(alloc, list.len()) else {
-        *sessions = SessionList::from(list);
+        crew.sessions = list;
         return Err(NoMemory);
     };
     let mut workers = match hire(alloc, script, list) {
         Ok(workers) => workers,
         Err(list) => {
-            *sessions = SessionList::from(list);
+            crew.sessions = list;
             return Err(NoMemory);
         }
-    };
-    let plan = Plan {
-        gate,
-        rounds: options.rounds,
-        long: options.long,
     };
     run_beside(
         rt,
         engine,
-        &plan,
+        plan,
         workers.as_mut_slice(),
-        collectors,
+        &mut crew.collectors,
         &mut told,
     );
     let transcript = gather(alloc, script, workers.as_slice(), told);
-    *sessions = SessionList::from(retire(workers, back));
+    crew.sessions = retire(workers, back);
     transcript
 }

@@ -5,16 +5,18 @@
 //! is refused for another's, it meets that other session, whose log shows that the write stands open. A meeting leaves cursors as
 //! they are.
 
-ghost use Rattle.std.specs.Prelude.{◌≡◌, ℕ, suc, ◌+◌, ◌-◌, ◌<◌, ◌≤◌, ◌≢◌, length, get_or, None, IfOk, OnOk};
+ghost use Rattle.std.specs.Prelude.{◌≡◌, ℕ, suc, ◌-◌, ◌<◌, ◌≢◌, length, get_or, None, IfOk, OnOk};
 ghost use Rattle.hg_base.specs.declared.writer.Writer.{Writer};
 ghost use Rattle.hg_core.specs.Phases.{IsSession};
-ghost use Rattle.hg_rule.specs.Moves.{joined, meeting};
+ghost use Rattle.hg_rule.specs.Moves.{joined};
 ghost use Rattle.hg_rule.specs.Agreed.{IsMet};
 ghost use Rattle.hg_session.specs.declared.session.Session.{Session};
 ghost use Rattle.hg_session.specs.Engines.{engine_sizes};
-ghost use Rattle.hg_session.specs.Sessions.{IsOf, view_of, number_of, left_of, cursor_of};
+ghost use Rattle.hg_session.specs.Sessions.{IsOf, view_of, left_of};
 ghost use Rattle.hg_session.specs.Finished.{logs_of};
-ghost use Rattle.hg_drivers.specs.Listed.{ArePlaced, AreReady, KeepCursors, SawAt, none_left, one_more};
+ghost use Rattle.hg_drivers.specs.Caught.{HasCaughtUp, HasOwn, SeesAll};
+ghost use Rattle.hg_drivers.specs.Listed.{ArePlaced, AreReady, HasChangedAt, HasRunOne, KeepCursors, SawAt, none_left, one_more};
+ghost use Rattle.hg_drivers.specs.Meeting.{HaveMet};
 ghost use Rattle.hg_drivers.specs.Asked.{IsAnswered, IsOnTables, MayAsk, Replies, collector_asked};
 
 use crate::ask::ask;
@@ -29,28 +31,10 @@ fn meet_two(engine: &Engine, list: &mut Vec<Session>, i: usize, j: usize)
     requires apart { i ≢ j }
     requires own { (d : Session) →
         IsOf engine.now (get_or list.old.items i d) × IsOf engine.now (get_or list.old.items j d) }
-    ensures many { length list.new.items ≡ length list.old.items }
     ensures backed { (d : Session) →
         IsMet (engine_sizes engine.now) (joined (view_of (get_or list.old.items i d))
         (view_of (get_or list.old.items j d))) }
-    ensures this { (d : Session) →
-        view_of (get_or list.new.items i d) ≡
-        meeting (view_of (get_or list.old.items i d)) (view_of (get_or list.old.items j d)) }
-    ensures other { (d : Session) →
-        view_of (get_or list.new.items j d) ≡
-        meeting (view_of (get_or list.old.items j d)) (meeting
-        (view_of (get_or list.old.items i d))
-        (view_of (get_or list.old.items j d))) }
-    ensures left { (d : Session) →
-        (left_of (get_or list.new.items i d) ≡ left_of (get_or list.old.items i d)) ×
-        (left_of (get_or list.new.items j d) ≡ left_of (get_or list.old.items j d)) }
-    ensures cursor { (d : Session) →
-        (cursor_of (get_or list.new.items i d) ≡ cursor_of (get_or list.old.items i d)) ×
-        (cursor_of (get_or list.new.items j d) ≡ cursor_of (get_or list.old.items j d)) }
-    ensures rest { (d : Session) (k : ℕ) → k ≢ i → k ≢ j →
-        get_or list.new.items k d ≡ get_or list.old.items k d }
-    ensures own { (d : Session) →
-        IsOf engine.now (get_or list.new.items i d) × IsOf engine.now (get_or list.new.items j d) }
+    ensures met { HaveMet engine.now i j list.old.items list.new.items }
 {
     if i < j {
         let (front, back) = list.split_at_mut(j);
@@ -70,10 +54,30 @@ pub(crate) fn turn(engine: &Engine, list: &mut Vec<Session>, i: usize, last: usi
     ensures saw { (seen : ℕ) → SawAt seen last list.old.items → SawAt seen i list.new.items }
     ensures ready { (left : ℕ → ℕ) → AreReady engine.now last left list.old.items →
         AreReady engine.now i left list.new.items }
+    // the session at i has seen then all that the other had seen, and has heard its own log as it stands
+    ensures sees { SeesAll last list.old.items i list.new.items }
+    ensures own { i ≢ last → HasOwn i list.new.items }
 {
     if i != last {
         meet_two(engine, list, i, last);
     }
+}
+
+/// Each session meets the one that ran last, in turn. So none has heard of another's log more than there is: each log stood, at every
+/// look, as it was known then. The answer is which session has seen all then.
+pub(crate) fn catch_up(engine: &Engine, list: &mut Vec<Session>, last: usize) -> usize
+    requires ready { AreReady engine.now last none_left list.old.items }
+    ensures logs { logs_of list.new.items ≡ logs_of list.old.items }
+    ensures saw { (seen : ℕ) → SawAt seen last list.old.items → SawAt seen result list.new.items }
+    ensures ready { AreReady engine.now result none_left list.new.items }
+    ensures caught { HasCaughtUp last list.old.items }
+{
+    let mut seer = last;
+    for i in 0..list.len() {
+        turn(engine, list, i, seer);
+        seer = i;
+    }
+    seer
 }
 
 // The session at i answers a statement.
@@ -90,18 +94,13 @@ fn ask_at<R: Wait>(
     requires may { (d : Session) → MayAsk (get_or list.old.items i d) statement }
     requires tables { IsOnTables (engine_sizes engine.now).tables statement }
     requires other { collector_asked statement ≡ None }
-    ensures many { length list.new.items ≡ length list.old.items }
-    ensures number { (d : Session) →
-        number_of (get_or list.new.items i d) ≡ number_of (get_or list.old.items i d) }
+    ensures others { HasChangedAt i list.old.items list.new.items }
     ensures answers { (d : Session) →
         IfOk result (λ reply.
         IsAnswered (engine_sizes engine.now) (get_or list.old.items i d) statement reply
         (get_or list.new.items i d)) }
-    ensures left { (d : Session) →
-        left_of (get_or list.old.items i d) ≤ left_of (get_or list.new.items i d) + 1 }
-    ensures rest { (d : Session) (k : ℕ) → k ≢ i →
-        get_or list.new.items k d ≡ get_or list.old.items k d }
-    ensures own { (d : Session) → IsOf engine.now (get_or list.new.items i d) }
+    ensures ran { (d : Session) →
+        HasRunOne engine.now (get_or list.old.items i d) (get_or list.new.items i d) }
 {
     ask(rt, engine, &mut list[i], statement)
 }
@@ -117,6 +116,7 @@ fn show(engine: &Engine, list: &mut Vec<Session>, i: usize, answer: &Answer)
     ensures logs { logs_of list.new.items ≡ logs_of list.old.items }
     ensures cursors { KeepCursors list.old.items list.new.items }
     ensures saw { (seen : ℕ) → SawAt seen i list.old.items → SawAt seen i list.new.items }
+    ensures sees { SeesAll i list.old.items i list.new.items }
     ensures ready { (left : ℕ → ℕ) → AreReady engine.now i left list.old.items →
         AreReady engine.now i left list.new.items }
 {

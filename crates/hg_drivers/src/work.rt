@@ -10,7 +10,7 @@ ghost use Rattle.hg_drivers.specs.Asked.{IsOnTables, MayAsk};
 ghost use Rattle.hg_drivers.specs.Working.{HasTaken};
 
 use crate::ask::ask;
-use crate::ending::close_one;
+use crate::end::close_one;
 use crate::play::asked;
 use crate::reply::inside;
 use hg_base::{Answer, Gate, Line, NoMemory, Record, Reply, Statement};

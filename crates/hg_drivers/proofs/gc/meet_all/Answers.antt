@@ -5,7 +5,13 @@ use Rattle.hg_drivers.proofs.Sweeping.{partly_none, partly_own, partly_next, par
 use Rattle.hg_drivers.proofs.gc.meet_all.Goals as goal
 
 pub loop-k-init : goal.loop-k-init
-loop-k-init c = record { met = partly_none c.args.engine.now (view_in c.args.kind c.args.collectors.now) c.args.list.now.items; end = search rules; all = λ k. met_none (view_in k c.args.collectors.now); own = c.requires.collectors; removed = λ k. refl }
+loop-k-init c = record {
+  met = partly_none c.args.engine.now (view_in c.args.kind c.args.collectors.now) c.args.list.now.items;
+  end = search rules;
+  all = λ k. met_none (view_in k c.args.collectors.now);
+  own = c.requires.collectors;
+  removed = λ k. refl;
+}
 
 pub meet_at-requires-clause-within : goal.meet_at-requires-clause-within
 meet_at-requires-clause-within c = let e = c.loop-k.invariant.end in let m = c.loop-k.invariant.met.many in omega (arith, e, m, c.loop-k-test.true)
@@ -25,8 +31,9 @@ loop-k-preserved c =
     let end = c.loop-k.invariant.end in
     let within : c.loop-k.k < length c.args.list.now.items = omega (arith, end, c.loop-k-test.true) in
     record {
-      met = partly_next c.args.engine.now (view_in c.args.kind c.args.collectors.now) (view_in c.args.kind c.loop-k.collectors) (view_in c.args.kind c.meet_at.new.collectors) c.loop-k.k (c.loop-k.k + 1) c.args.list.now.items c.loop-k.list.items c.meet_at.new.list.items refl within
-          (record { many = m.many; met = m.met; rest = m.rest; own = m.own; pass = m.pass c.args.kind; heard = m.heard }) c.loop-k.invariant.met;
+      met = partly_next c.args.engine.now (view_in c.args.kind c.args.collectors.now) (view_in c.args.kind c.loop-k.collectors)
+          (view_in c.args.kind c.meet_at.new.collectors) c.loop-k.k (c.loop-k.k + 1) c.args.list.now.items c.loop-k.list.items c.meet_at.new.list.items refl within
+          (record { many = m.others.many; met = m.met; rest = m.others.rest; own = m.own; pass = m.pass c.args.kind; heard = m.heard }) c.loop-k.invariant.met;
       end = end;
       all = λ k. met_more (view_in k c.args.collectors.now) (view_in k c.loop-k.collectors) (view_in k c.meet_at.new.collectors) (c.loop-k.invariant.all k) (m.pass k);
       own = m.collectors;

@@ -7,6 +7,6 @@ use Rattle.hg_drivers.proofs.play.play.Given as goal
 abbrev pub invariant-loop-next : goal.invariant-loop-next
 invariant-loop-next g l = record {
   tables : l.transcript.tables ≡ l.script.tables;
-  collectors : AreCollectors l.engine l.collectors;
-  going : Going l.engine l.long l.initial.collectors l.collectors l.list.items l.last l.transcript.lines (drop l.next l.script.records) l.script;
+  collectors : AreCollectors l.engine l.crew.collectors;
+  going : Going l.engine l.long l.initial.crew.collectors l.crew.collectors l.crew.sessions.items l.last l.transcript.lines (drop l.next l.script.records) l.script;
 }

@@ -1,12 +1,9 @@
-use Rattle.std.proofs.Common.{◌≡◌, ℕ, suc, ◌+◌, None, inl, refl, sym, ◌∙◌, subst, arith, rules}
+use Rattle.std.proofs.Common.{◌≡◌, ℕ, suc, None, inl, refl, sym, ◌∙◌, subst, arith, rules}
 use Rattle.std.specs.Prelude.{IfOk}
-use Rattle.hg_base.specs.declared.report.Kind.{Kind}
 use Rattle.hg_drivers.specs.Asked.{Replies, collector_asked}
 use Rattle.hg_session.specs.Engines.{engine_sizes}
-use Rattle.hg_collectors.specs.Collecting.{HaveMade, removed_of}
-use Rattle.hg_collectors.specs.Telling.{sweeps_in}
+use Rattle.hg_drivers.specs.Collecting.{TellsAll}
 use Rattle.hg_drivers.specs.Listed.{AreReady, one_more}
-use Rattle.hg_collectors.specs.Swept.{told_of}
 use Rattle.hg_drivers.proofs.Asking.{gc_is, none_told, none_reported, ready_fewer, on_ok}
 use Rattle.hg_collectors.proofs.Among.{if_ok}
 use Rattle.hg_drivers.proofs.Cursors.{any_cursors, reads_in, rests_in}
@@ -15,30 +12,30 @@ use Rattle.hg_drivers.proofs.play.reply_at.Goals as goal
 
 pub returns-in-Some-clause-replied : goal.returns-in-Some-clause-replied
 returns-in-Some-clause-replied g c =
-    subst (λ s. IfOk c.sweep.result (λ reply. Replies c.args.engine.now c.args.list.now.items c.args.i s reply c.sweep.new.list.items)) (sym (gc_is c.args.statement c.in-Some.kind (sym c.asked.ensures ∙ c.in-Some.is))) c.sweep.ensures.replied
+    subst (λ s. IfOk c.sweep.result (λ reply. Replies c.args.engine.now c.args.crew.now.sessions.items c.args.i s reply c.sweep.new.crew.sessions.items))
+    (sym (gc_is c.args.statement c.in-Some.kind (sym c.asked.ensures ∙ c.in-Some.is))) c.sweep.ensures.replied
 
 pub returns-in-Some-clause-ready : goal.returns-in-Some-clause-ready
 returns-in-Some-clause-ready g c =
     let e = c.args.engine.now in
-    let old = c.args.list.now.items in
-    let new = c.sweep.new.list.items in
-    on_ok ((left : ℕ → ℕ) → AreReady e c.args.i left old → AreReady e c.args.i left new) ((left : ℕ → ℕ) → AreReady e c.args.i (one_more (suc c.args.i) left) old → AreReady e c.args.i left new) c.sweep.result (λ f left r. f left (ready_fewer e c.args.i left old r)) c.sweep.ensures.ready
+    let old = c.args.crew.now.sessions.items in
+    let new = c.sweep.new.crew.sessions.items in
+    on_ok ((left : ℕ → ℕ) → AreReady e c.args.i left old → AreReady e c.args.i left new) ((left : ℕ → ℕ) → AreReady e c.args.i (one_more (suc c.args.i) left) old →
+    AreReady e c.args.i left new) c.sweep.result (λ f left r. f left (ready_fewer e c.args.i left old r)) c.sweep.ensures.ready
 
-pub returns-in-None-clause-removed : goal.returns-in-None-clause-removed
-returns-in-None-clause-removed g c =
-    let e = c.args.engine.now in
-    let old = c.args.list.now.items in
-    let new = c.answer.new.list.items in
-    let other : collector_asked c.args.statement ≡ None = search rules in
-    if_ok (λ reply. Replies e old c.args.i c.args.statement reply new) (λ reply. (k : Kind) → removed_of k c.args.collectors.now ≡ removed_of k c.args.collectors.now + told_of k reply) c.answer.result
-    (λ reply h k. let none = none_told e 0 (reads_in old) (rests_in old) old c.args.i c.args.statement reply new other (h 0 (reads_in old) (rests_in old) (λ d. inl refl) (any_cursors old)) k in omega (arith, none)) c.answer.ensures.replied
-
-pub returns-in-None-clause-rounds : goal.returns-in-None-clause-rounds
-returns-in-None-clause-rounds g c =
+pub returns-in-None-clause-told : goal.returns-in-None-clause-told
+returns-in-None-clause-told g c =
     let e = c.args.engine.now in
     let z = engine_sizes e in
-    let old = c.args.list.now.items in
+    let old = c.args.crew.now.sessions.items in
     let new = c.answer.new.list.items in
+    let same = c.args.crew.now.collectors in
     let other : collector_asked c.args.statement ≡ None = search rules in
-    if_ok (λ reply. Replies e old c.args.i c.args.statement reply new) (λ reply. HaveMade z c.args.long c.args.collectors.now (λ k. sweeps_in k reply) c.args.collectors.now) c.answer.result
-    (λ reply h. made_none z c.args.long c.args.collectors.now reply (none_reported e 0 (reads_in old) (rests_in old) old c.args.i c.args.statement reply new other (h 0 (reads_in old) (rests_in old) (λ d. inl refl) (any_cursors old)))) c.answer.ensures.replied
+    if_ok (λ reply. Replies e old c.args.i c.args.statement reply new) (λ reply. TellsAll z c.args.long same reply same) c.answer.result
+    (λ reply h.
+    let replied = h 0 (reads_in old) (rests_in old) (λ d. inl refl) (any_cursors old) in
+    record {
+      removed = λ k. (let none = none_told e 0 (reads_in old) (rests_in old) old c.args.i c.args.statement reply new other replied k in omega (arith, none));
+      rounds = made_none z c.args.long same reply (none_reported e 0 (reads_in old) (rests_in old) old c.args.i c.args.statement reply new other replied);
+    })
+    c.answer.ensures.replied

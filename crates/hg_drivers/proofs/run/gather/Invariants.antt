@@ -5,4 +5,5 @@ use Rattle.hg_drivers.specs.Working.{lines_in}
 use Rattle.hg_drivers.proofs.run.gather.Given as goal
 
 abbrev pub invariant-loop-worker : goal.invariant-loop-worker
-invariant-loop-worker l = (l.transcript.lines ≡ lines_in (take l.worker-index l.workers)) × (l.transcript.tables ≡ l.script.tables) × Each (λ (w : Worker). w.refused ≡ false) (take l.worker-index l.workers)
+invariant-loop-worker l = (l.transcript.lines ≡ lines_in (take l.worker-index l.workers)) × (l.transcript.tables ≡ l.script.tables) ×
+    Each (λ (w : Worker). w.refused ≡ false) (take l.worker-index l.workers)

@@ -9,5 +9,6 @@ use Rattle.hg_drivers.proofs.reader.Reader.read.Goals as goal
 pub returns-clause-dumped : goal.returns-clause-dumped
 returns-clause-dumped g c =
     let buckets : store_buckets c.store.result.now ≡ (engine_sizes (engine_in c.args.self.now)).buckets = search rules in
-    dumped_of (engine_in c.args.self.now) (store_buckets c.store.result.now) (script_in c.args.self.now) c.export.result (session_view c.args.pass.now) (session_view c.export.new.pass) c.args.into.now.items c.export.new.into.items
+    dumped_of (engine_in c.args.self.now) (store_buckets c.store.result.now) (script_in c.args.self.now) c.export.result (session_view c.args.pass.now)
+    (session_view c.export.new.pass) c.args.into.now.items c.export.new.into.items
     buckets c.export.ensures.text c.export.ensures.fresh c.export.ensures.read
