@@ -66,7 +66,8 @@ new_is_closed e alloc q j s n = record {
 
 module _ (script : Script) (buckets : ℕ) (e : Engine) (list : List Session) (collectors : Collectors) (pass : SessionPass) (o : IsOpenedBeside script buckets e list collectors pass) where
   last_new : IsNewOf e (engine_sizes e).quota (suc (length list)) o.last
-  last_new = let same : 1 + length list ≡ suc (length list) = omega arith in subst (λ n. IsNewOf e (engine_sizes e).quota n o.last) same (each_from_at (IsNewOf e (engine_sizes e).quota) 1 list [] o.last o.opened.new)
+  last_new = let same : 1 + length list ≡ suc (length list) = omega arith in
+      subst (λ n. IsNewOf e (engine_sizes e).quota n o.last) same (each_from_at (IsNewOf e (engine_sizes e).quota) 1 list [] o.last o.opened.new)
 
   pub last_closed : (alloc : Global) → IsClosed e (suc (length list)) (seated alloc 0 pass)
   last_closed alloc = subst (λ p. IsClosed e (suc (length list)) (seated alloc 0 p)) (sym o.pass_is) (new_is_closed e alloc (engine_sizes e).quota (suc (length list)) o.last last_new)
@@ -96,7 +97,8 @@ read_twice at n q r once h = reads_more n (at ∷ []) (session_view q) (session_
 ends_before : (at : ℕ) (v w : View) → HasReadAt at v w → EndsWith (session w).log (session v).log
 ends_before at v w h = (Over ∷ (h.entries ++ Began at All ∷ []), h.log ∙ ap (λ l. Over ∷ l) (sym (append_assoc h.entries (Began at All ∷ []) (session v).log)))
 
-module _ (alloc : Global) (e : Engine) (script : Script) (list : List Session) (collectors : Collectors) (first : SessionPass) (before after : List ℕ) (totals : Totals) (n : ℕ) (c : IsReadAndClosed alloc e script list collectors first before after totals n) (closed : IsClosed e (suc (length list)) (seated alloc 0 first)) where
+module _ (alloc : Global) (e : Engine) (script : Script) (list : List Session) (collectors : Collectors) (first : SessionPass) (before after : List ℕ) (totals : Totals) (n : ℕ)
+    (c : IsReadAndClosed alloc e script list collectors first before after totals n) (closed : IsClosed e (suc (length list)) (seated alloc 0 first)) where
   abbrev logs : ℕ → List LogEntry
   logs = logs_of (list_with alloc list c.last)
 
@@ -121,13 +123,15 @@ module _ (alloc : Global) (e : Engine) (script : Script) (list : List Session) (
   pub all_read : n ≡ length c.closed.history
   all_read =
       let least = newest (engine_sizes e).buckets n c.closed.history logs c.closed.logged c.newest in
-      let up : UpTo (length c.closed.history) (Over ∷ (c.dumped.read.entries ++ Began n All ∷ log_in first)) = subst (UpTo (length c.closed.history)) (last_is ∙ c.dumped.read.log) (c.closed.logged.within (suc (length list))) in
+      let up : UpTo (length c.closed.history) (Over ∷ (c.dumped.read.entries ++ Began n All ∷ log_in first)) = subst (UpTo (length c.closed.history)) (last_is ∙ c.dumped.read.log)
+      (c.closed.logged.within (suc (length list))) in
       let most = began_within (length c.closed.history) n c.dumped.read.entries (log_in first) c.dumped.read.each up in
       omega (arith, least, most)
 
 -- ---- the text
 
-pub on_text : (settings : Settings) (script : Script) (lines : List Line) (totals : Totals) (dumps : Dumps) {T : Type 0} (r : Result T NoMemory) (items : T → List ℕ) → HasReadBoth settings script lines totals dumps
+pub on_text : (settings : Settings) (script : Script) (lines : List Line) (totals : Totals) (dumps : Dumps) {T : Type 0} (r : Result T NoMemory) (items : T → List ℕ) →
+    HasReadBoth settings script lines totals dumps
     → IsFit script (record { lines = lines; totals = totals })
     → IfOk r (λ text. items text ≡ text_of record_bytes script (record { lines = lines; totals = totals }) ++ (part_text dumps.at dumps.first.items ++ part_text dumps.end dumps.last.items))
     → IfOk r (λ text. IsDumpedFor settings script (items text))
@@ -140,5 +144,6 @@ on_text settings script lines totals dumps (Ok text) items read fit told = recor
   within = read.within;
   rounds = read.rounds;
   same = told ∙ (λ i. text_of record_bytes script (record { lines = lines; totals = totals })
-      ++ (part_text dumps.at (read.first i) ++ (ap (part_text dumps.end) read.last ∙ ap (λ n. part_text n (dump_text script (rows_at script.tables (printed_history settings script lines) n))) read.end_is) i));
+      ++ (part_text dumps.at (read.first i) ++ (ap (part_text dumps.end) read.last ∙
+      ap (λ n. part_text n (dump_text script (rows_at script.tables (printed_history settings script lines) n))) read.end_is) i));
 }

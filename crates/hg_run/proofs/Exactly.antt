@@ -1,18 +1,20 @@
 -- Where a source tells its bytes and does not fail, they decide the answer.
 use Rattle.std.proofs.Common.{◌≡◌, ◌∙◌, ◌≤◌, ◌<◌, ℕ, List, ◌++◌, length, Option, Some, None, sym, subst, ap, refl, inl, inr, arith, length-append}
 use Rattle.std.proofs.lemmas.List.{append-nil}
-use Rattle.std.specs.Io.KnownBytes.{Consumes, IsAtEnd}
+use Rattle.std.specs.Io.KnownBytes.{Appends, Consumes, IsAtEnd}
 use Rattle.hg_base.specs.declared.limits.TheConstants.{MOST_SCRIPT_BYTES}
+use Rattle.hg_base.specs.Sound.{IsSound}
 use Rattle.hg_script.specs.declared.code.Code.{Code}
 use Rattle.hg_words.specs.declared.options.Options.{Options}
 use Rattle.hg_words.specs.Options.{options_of}
 use Rattle.hg_script.specs.Fields.{rows_of}
-use Rattle.hg_script.specs.Meaning.{refusal_of}
+use Rattle.hg_script.specs.Meaning.{refusal_of, script_of}
 use Rattle.hg_streams.specs.declared.status.Status.{Status}
 use Rattle.hg_streams.specs.declared.status.Status.TheVariants.{Done, Usage, BadScript, ReadFault, WriteFault, TooLong, NoMemory}
 use Rattle.hg_run.specs.Words.{AsksFor, IsMaking, IsReading, Task, audits, dumps, makes, reads, task_of}
 use Rattle.hg_streams.specs.Streams.{Change, FailsToRead, Gives, HasFailed, IsTooLong, ReadsAll}
-use Rattle.hg_run.specs.Serving.{Answers, IsScriptIn, Refuses, WritesAll, WritesPart, Comes, IsUnlessNoMemory}
+use Rattle.hg_run.specs.Serving.{Answers, IsScriptIn, Refuses, WritesAll, WritesExactly, WritesPart, Comes, IsUnlessNoMemory}
+use Rattle.hg_run.specs.Printing.{AreExact}
 use Rattle.hg_streams.specs.Parting.{AreParts}
 use Rattle.hg_streams.proofs.Parted.{one_script}
 
@@ -47,6 +49,32 @@ same_refusal l line c code e = ap status_of e
 -- the headline, out of the cases
 pub sound : (words : List (List ℕ)) (source sink : Change) (status : Status) → Comes words source sink status → status ≡ Done → AsksFor words (λ task. WritesAll task source sink)
 sound words source sink status comes done = subst (Comes words source sink) done comes
+
+-- and of a replay, that it prints one text
+pub exact : (words : List (List ℕ)) (source sink : Change) (status : Status) → Comes words source sink status → status ≡ Done → AsksFor words (λ task. WritesExactly task source sink)
+exact words source sink status comes done = let all = sound words source sink status comes done in record { options = all.options; asked = all.asked; holds = go (task_of all.options) all.holds }
+  where
+    go : (task : Task) → WritesAll task source sink → WritesExactly task source sink
+    go (reads settings) w = λ is.
+        let p = w.answers.text_for.printed in
+        record {
+          script = script_of (rows_of w.answers.bytes);
+          is = record { bytes = w.answers.bytes; all = w.answers.all; same = refl };
+          printed = p.printed;
+          sound = subst (λ m. IsSound m (script_of (rows_of w.answers.bytes)) p.printed) is p.sound;
+          exact = subst (λ m. AreExact m (script_of (rows_of w.answers.bytes)) p.printed.lines) is p.exact;
+          taken = subst (Appends sink.before sink.after) p.same w.taken;
+        }
+    go (makes seed settings) w = record {
+      script = w.answers.script;
+      is = w.answers.made;
+      printed = w.answers.printed;
+      sound = w.answers.sound;
+      exact = w.answers.exact;
+      taken = subst (Appends sink.before sink.after) w.answers.same w.taken;
+    }
+    go audits w = tt
+    go (dumps settings) w = tt
 
 -- words that are refused ask for nothing
 pub usage : (words : List (List ℕ)) (source sink : Change) (status : Status) → Comes words source sink status → status ≡ Usage → options_of words ≡ None
@@ -154,7 +182,8 @@ module _ (words : List (List ℕ)) (source sink : Change) (bytes : List ℕ) whe
   complete script NoMemory comes within gives short valid steady = inr refl
 
   -- a script that breaks a rule is refused, or memory is wanting
-  pub bad_script : (script : List ℕ) (line : ℕ) (code : Code) (status : Status) → Comes words source sink status → AsksFor words (λ task. IsScriptIn task bytes script) → Gives source bytes → length bytes ≤ MOST_SCRIPT_BYTES
+  pub bad_script : (script : List ℕ) (line : ℕ) (code : Code) (status : Status) → Comes words source sink status → AsksFor words (λ task. IsScriptIn task bytes script) →
+      Gives source bytes → length bytes ≤ MOST_SCRIPT_BYTES
       → refusal_of (rows_of script) ≡ Some (line, code) → IsUnlessNoMemory status (BadScript line code)
   bad_script script line code Done comes within gives short refused =
       let one = same_asked words (λ task. IsScriptIn task bytes script) (λ task. WritesAll task source sink) within comes in
@@ -174,13 +203,23 @@ module _ (words : List (List ℕ)) (source sink : Change) (bytes : List ℕ) whe
   pub too_long : (status : Status) → Comes words source sink status → AsksFor words IsReading → Gives source bytes → MOST_SCRIPT_BYTES < length bytes
       → IsUnlessNoMemory status TooLong
   too_long Done comes reading gives long =
-      absurd (omega (arith, short_in source bytes gives (task_of comes.options) comes.holds.text (same_asked words IsReading (λ task. WritesAll task source sink) reading comes) comes.holds.answers, long))
+      absurd (omega (
+        arith,
+        short_in source bytes gives (task_of comes.options) comes.holds.text
+            (same_asked words IsReading (λ task. WritesAll task source sink) reading comes) comes.holds.answers,
+        long,
+      ))
   too_long Usage comes reading gives long = absurd (not_usage words IsReading reading comes)
   too_long (BadScript line code) comes reading gives long =
       let same = reads_all source bytes comes.holds.bytes gives comes.holds.all in
       absurd (omega (arith, ap length same, comes.holds.all.short, long))
   too_long ReadFault comes reading gives long = absurd (gives.steady comes.holds.1.failed)
   too_long WriteFault comes reading gives long =
-      absurd (omega (arith, short_in source bytes gives (task_of comes.options) comes.holds.text (same_asked words IsReading (λ task. WritesPart task source sink) reading comes) comes.holds.answers, long))
+      absurd (omega (
+        arith,
+        short_in source bytes gives (task_of comes.options) comes.holds.text (same_asked words IsReading (λ task. WritesPart task source sink) reading comes)
+            comes.holds.answers,
+        long,
+      ))
   too_long TooLong comes reading gives long = inl refl
   too_long NoMemory comes reading gives long = inr refl

@@ -32,7 +32,8 @@ one_of n number (at ∷ ats) e h = go (or_cases (at == number) (list_any (λ at.
     go (inl k) later = let same : at ≡ number = (Decides-eqb at number).0 k in let most = h.0 in omega (arith, same, most)
     go (inr k) later = later k
 
-one_held : (script : Script) (ats : List ℕ) (h : History) (all : List Said) → Fits32 (reader_of script) → Each (λ at. at ≤ length h) ats → (told : Told) → IsHeld all told ⊎ IsReaders script ats told → IsHeldFew h all told
+one_held : (script : Script) (ats : List ℕ) (h : History) (all : List Said) → Fits32 (reader_of script) → Each (λ at. at ≤ length h) ats → (told : Told) →
+    IsHeld all told ⊎ IsReaders script ats told → IsHeldFew h all told
 one_held script ats h all session within told (inl k) = inl k.printed
 one_held script ats h all session within told (inr k) = inr (subst Fits32 (sym k.session) session, one_of (length h) told.number ats k.read within)
 
@@ -51,5 +52,10 @@ fits_with_reader rounds script ats printed few lawful s =
       reply = r.reply;
       conflict = r.conflict;
       report = if_some_keeps (report_of now.reply) (IsReportedBut script ats h all earlier) (IsReportFew h all)
-          (λ sweep k. record { horizon = k.horizon; mark = k.mark; held = each_keeps (λ (told : Told). IsHeld all told ⊎ IsReaders script ats told) (IsHeldFew h all) held sweep.held k.held }) r.report;
+          (λ sweep k. record {
+            horizon = k.horizon;
+            mark = k.mark;
+            held = each_keeps (λ (told : Told). IsHeld all told ⊎ IsReaders script ats told)
+                (IsHeldFew h all) held sweep.held k.held;
+          }) r.report;
     }) [] all but.lines) but.totals

@@ -54,8 +54,10 @@ log_in p = (session (session_view p)).log
 
 -- ---- the run
 
-module _ (e : Engine) (long rounds : ℕ) (script : Script) (old new : List Session) (before after : Collectors) (all : List Line) (totals : Totals) (alloc : Global) (first last : SessionPass) (at n : ℕ)
-    (d : HasDrivenAll (engine_sizes e) long rounds script.records old before all new after) (t : IsClosedBy e (list_with alloc new last) after totals) (met : (kind : Kind) → Each (BeganIn (logs_of (list_with alloc new first))) (view_in kind after).events)
+module _ (e : Engine) (long rounds : ℕ) (script : Script) (old new : List Session) (before after : Collectors) (all : List Line) (totals : Totals) (alloc : Global)
+    (first last : SessionPass) (at n : ℕ)
+    (d : HasDrivenAll (engine_sizes e) long rounds script.records old before all new after) (t : IsClosedBy e (list_with alloc new last) after totals) (met : (kind : Kind) →
+    Each (BeganIn (logs_of (list_with alloc new first))) (view_in kind after).events)
     (once : HasReadAll (at ∷ []) (log_in first)) (twice : HasReadAll (at ∷ n ∷ []) (log_in last))
     (none : (j : ℕ) → logs_of old j ≡ []) (fresh : (k : Kind) → removed_of k before ≡ 0) (numbered : Each (λ (r : Record). 1 ≤ r.session) script.records)
     (sessions : (engine_sizes e).sessions ≡ suc (length old)) (many : length old ≡ max 1 (greatest (map (λ (r : Record). r.session) script.records))) (same : length new ≡ length old) where
@@ -89,7 +91,8 @@ module _ (e : Engine) (long rounds : ℕ) (script : Script) (old new : List Sess
   closes_then k = subst (λ l. Closes l (logs_of (list_with alloc new first) k)) (sym (put_twice k)) (closes_with first (read_closed (at ∷ []) (log_in first) once) k)
 
   pub told_of : (kind : Kind) → (reports : List Report) × (AreReports t.history (put logs j (log_in first)) kind rounds reports × (report_lines 1 reports ≡ sweep_lines 1 (d.sweeps kind)))
-  told_of kind = reports_of e long rounds script old new before after all d t.history (put logs j (log_in first)) kind (t.groups kind) (began_before (put logs j (log_in first)) (logs_of (list_with alloc new first)) (view_in kind after).events closes_then (met kind))
+  told_of kind = reports_of e long rounds script old new before after all d t.history (put logs j (log_in first)) kind (t.groups kind)
+      (began_before (put logs j (log_in first)) (logs_of (list_with alloc new first)) (view_in kind after).events closes_then (met kind))
 
   abbrev pub reports : Kind → List Report
   reports kind = (told_of kind).0
@@ -100,8 +103,10 @@ module _ (e : Engine) (long rounds : ℕ) (script : Script) (old new : List Sess
     numbered = numbered;
     shape = λ k. (d.worked k).shape;
     tells = λ k other.
-        subst (λ l. Tells (engine_sizes e).buckets (λ (r : Record) (line : Line). LeavesGc r.statement line.reply.answer) [] None (of_session k script.records) (d.lines k) l) (sym (put_else worked j k (log_in last) other))
-        (subst (λ l. Tells (engine_sizes e).buckets (λ (r : Record) (line : Line). LeavesGc r.statement line.reply.answer) l None (of_session k script.records) (d.lines k) (worked k)) (none k) (d.worked k).tells);
+        subst (λ l. Tells (engine_sizes e).buckets (λ (r : Record) (line : Line). LeavesGc r.statement line.reply.answer) [] None (of_session k script.records) (d.lines k) l)
+        (sym (put_else worked j k (log_in last) other))
+        (subst (λ l. Tells (engine_sizes e).buckets (λ (r : Record) (line : Line). LeavesGc r.statement line.reply.answer) l None (of_session k script.records) (d.lines k)
+        (worked k)) (none k) (d.worked k).tells);
     some = omega arith;
     before = log_in first;
     read = once;
@@ -117,14 +122,17 @@ module _ (e : Engine) (long rounds : ℕ) (script : Script) (old new : List Sess
 
   counted : AreTotalsBy j t.history (logs_of (list_with alloc new last)) (λ kind. told_removed kind (run_lines script.records d.lines (reports Group) (reports Table) (reports Interval))) totals
   counted =
-      let told : (λ kind. removed_of kind after) ≡ (λ kind. told_removed kind (run_lines script.records d.lines (reports Group) (reports Table) (reports Interval))) = λ i kind. (told_all e long rounds script old new before after all d fresh kind ∙ ap (told_removed kind) lines_with_reader) i in
-      subst (λ m. AreTotalsBy m t.history (logs_of (list_with alloc new last)) (λ kind. told_removed kind (run_lines script.records d.lines (reports Group) (reports Table) (reports Interval))) totals) (sessions ∙ ap (λ m. suc m) many)
+      let told : (λ kind. removed_of kind after) ≡ (λ kind. told_removed kind (run_lines script.records d.lines (reports Group) (reports Table) (reports Interval))) = λ i kind.
+      (told_all e long rounds script old new before after all d fresh kind ∙ ap (told_removed kind) lines_with_reader) i in
+      subst (λ m. AreTotalsBy m t.history (logs_of (list_with alloc new last))
+      (λ kind. told_removed kind (run_lines script.records d.lines (reports Group) (reports Table) (reports Interval))) totals) (sessions ∙ ap (λ m. suc m) many)
       (subst (λ removed. AreTotalsBy (engine_sizes e).sessions t.history (logs_of (list_with alloc new last)) removed totals) told t.counted)
 
   pub sound_with_reader : IsSoundWith rounds script (at ∷ []) (record { lines = all; totals = totals })
   sound_with_reader =
       subst (λ (ls : List Line). IsSoundWith rounds script (at ∷ []) (record { lines = ls; totals = totals })) (sym lines_with_reader)
-      (sound_with (engine_sizes e).buckets t.history logs (logs_of (list_with alloc new last)) rounds script (at ∷ []) d.lines (reports Group) (reports Table) (reports Interval) totals ran_with_reader closes counted)
+      (sound_with (engine_sizes e).buckets t.history logs (logs_of (list_with alloc new last)) rounds script (at ∷ []) d.lines (reports Group) (reports Table)
+      (reports Interval) totals ran_with_reader closes counted)
 
   -- ---- what the lines print
 

@@ -52,13 +52,15 @@ use Rattle.hg_collectors.proofs.Reported.{rounds_map, reported, lines_removed}
 
 -- ---- a session's lines tell of no round
 
-none_reported : (buckets : ℕ) (u : Unprinted) (own : List Write) (s : Statement) (line : Line) → FitsAnswer buckets u own s line.reply.answer → LeavesGc s line.reply.answer → report_of line.reply ≡ None
+none_reported : (buckets : ℕ) (u : Unprinted) (own : List Write) (s : Statement) (line : Line) → FitsAnswer buckets u own s line.reply.answer → LeavesGc s line.reply.answer →
+    report_of line.reply ≡ None
 none_reported buckets u own s line h l = no_report buckets u own s line.reply.answer l h
 
 none_told : (k : Kind) (buckets : ℕ) (u : Unprinted) (own : List Write) (s : Statement) (line : Line) → FitsAnswer buckets u own s line.reply.answer → LeavesGc s line.reply.answer → told_by k line ≡ 0
 none_told k buckets u own s line h l = ap (λ o. option_map_or (swept_by k) o 0) (none_reported buckets u own s line h l)
 
-tells_none : (k : Kind) (buckets : ℕ) (rs : List Record) (lines : List Line) (log final : List LogEntry) (left : Option Rest) → Tells buckets (λ r line. LeavesGc r.statement line.reply.answer) log left rs lines final → told_removed k lines ≡ 0
+tells_none : (k : Kind) (buckets : ℕ) (rs : List Record) (lines : List Line) (log final : List LogEntry) (left : Option Rest) →
+    Tells buckets (λ r line. LeavesGc r.statement line.reply.answer) log left rs lines final → told_removed k lines ≡ 0
 tells_none k buckets [] [] log final left t = refl
 tells_none k buckets [] (line ∷ lines) log final left t = absurd t
 tells_none k buckets (r ∷ rs) [] log final left t = absurd t
@@ -79,12 +81,14 @@ flat_none k lines none i (suc n) =
 abbrev report : Line → Option Sweep
 report line = report_of line.reply
 
-no_reports : (buckets : ℕ) (rs : List Record) (lines : List Line) (log final : List LogEntry) (left : Option Rest) → Tells buckets (λ r line. LeavesGc r.statement line.reply.answer) log left rs lines final → filter_map report lines ≡ []
+no_reports : (buckets : ℕ) (rs : List Record) (lines : List Line) (log final : List LogEntry) (left : Option Rest) →
+    Tells buckets (λ r line. LeavesGc r.statement line.reply.answer) log left rs lines final → filter_map report lines ≡ []
 no_reports buckets [] [] log final left t = refl
 no_reports buckets [] (line ∷ lines) log final left t = absurd t
 no_reports buckets (r ∷ rs) [] log final left t = absurd t
 no_reports buckets (r ∷ rs) (line ∷ lines) log final left t =
-    ap (λ o. cons_option o (filter_map report lines)) (none_reported buckets t.1.0 (own_writes log) r.statement line t.1.1.answer t.0) ∙ no_reports buckets rs lines (log_after buckets t.1.0 r.statement line.reply log) final (rest_after r.statement line.reply.answer left) t.1.2
+    ap (λ o. cons_option o (filter_map report lines)) (none_reported buckets t.1.0 (own_writes log) r.statement line t.1.1.answer t.0) ∙
+    no_reports buckets rs lines (log_after buckets t.1.0 r.statement line.reply log) final (rest_after r.statement line.reply.answer left) t.1.2
 
 flat_reports : (lines : ℕ → List Line) → ((j : ℕ) → filter_map report (lines j) ≡ []) → (i n : ℕ) → filter_map report (flat_map lines (numbers_from i n)) ≡ []
 flat_reports lines none i zero = refl
@@ -109,12 +113,14 @@ no_lines records lines e h = go lines (subst (λ rs. HasShape rs lines) e h)
     go (line ∷ lines) h = absurd h
 
 -- the lines of a run tell the rounds of each collector
-module _ (e : Engine) (long rounds : ℕ) (script : Script) (old new : List Session) (before after : Collectors) (all : List Line) (d : HasDrivenAll (engine_sizes e) long rounds script.records old before all new after) where
+module _ (e : Engine) (long rounds : ℕ) (script : Script) (old new : List Session) (before after : Collectors) (all : List Line)
+    (d : HasDrivenAll (engine_sizes e) long rounds script.records old before all new after) where
   abbrev sizes : Sizes
   sizes = engine_sizes e
 
   told_rounds : (k : Kind) → sweeps_of k all ≡ d.sweeps k
-  told_rounds k = ap (sweeps_of k) d.told ∙ (told_append k flat (g ++ (t ++ i)) ∙ ((λ j. flat_told j ++ (told_append k g (t ++ i) ∙ (λ j. of_kind Group j ++ (told_append k t i ∙ (λ j. of_kind Table j ++ of_kind Interval j)) j)) j) ∙ only k))
+  told_rounds k = ap (sweeps_of k) d.told ∙ (told_append k flat (g ++ (t ++ i)) ∙
+      ((λ j. flat_told j ++ (told_append k g (t ++ i) ∙ (λ j. of_kind Group j ++ (told_append k t i ∙ (λ j. of_kind Table j ++ of_kind Interval j)) j)) j) ∙ only k))
     where
       flat : List Line
       flat = flat_map d.lines (numbers_from 1 (length old))
@@ -129,7 +135,8 @@ module _ (e : Engine) (long rounds : ℕ) (script : Script) (old new : List Sess
       i = sweep_lines 1 (d.sweeps Interval)
 
       flat_told : sweeps_of k flat ≡ []
-      flat_told = ap (filter (λ (s : Sweep). same_kind s.kind k)) (flat_reports d.lines (λ j. no_reports sizes.buckets (of_session j script.records) (d.lines j) (logs_of old j) (d.worked j).log None (d.worked j).tells) 1 (length old))
+      flat_told = ap (filter (λ (s : Sweep). same_kind s.kind k))
+          (flat_reports d.lines (λ j. no_reports sizes.buckets (of_session j script.records) (d.lines j) (logs_of old j) (d.worked j).log None (d.worked j).tells) 1 (length old))
 
       of_kind : (kind : Kind) → sweeps_of k (sweep_lines 1 (d.sweeps kind)) ≡ cond (same_kind kind k) (d.sweeps kind) []
       of_kind kind = told_lines kind k sizes long (view_in kind before) (view_in kind after) (d.sweeps kind) (d.made kind)
@@ -153,7 +160,8 @@ module _ (e : Engine) (long rounds : ℕ) (script : Script) (old new : List Sess
       let g_lines : List Line = sweep_lines 1 (d.sweeps Group) in
       let t_lines : List Line = sweep_lines 1 (d.sweeps Table) in
       let i_lines : List Line = sweep_lines 1 (d.sweeps Interval) in
-      let first : told_removed k flat ≡ 0 = flat_none k d.lines (λ j. tells_none k sizes.buckets (of_session j script.records) (d.lines j) (logs_of old j) (d.worked j).log None (d.worked j).tells) 1 (length old) in
+      let first : told_removed k flat ≡ 0 = flat_none k d.lines (λ j. tells_none k sizes.buckets (of_session j script.records) (d.lines j) (logs_of old j) (d.worked j).log None
+      (d.worked j).tells) 1 (length old) in
       let x : told_removed k g_lines ≡ sum_by (swept_by k) (d.sweeps Group) = lines_removed k 1 (d.sweeps Group) in
       let y : told_removed k t_lines ≡ sum_by (swept_by k) (d.sweeps Table) = lines_removed k 1 (d.sweeps Table) in
       let w : told_removed k i_lines ≡ sum_by (swept_by k) (d.sweeps Interval) = lines_removed k 1 (d.sweeps Interval) in
@@ -165,9 +173,11 @@ module _ (e : Engine) (long rounds : ℕ) (script : Script) (old new : List Sess
 
   -- The rounds of each kind of collector, as reports over logs that have a begin for each register that its steps loaded. No mark is over
   -- the end of the history.
-  pub reports_of : (h : History) (logs : ℕ → List LogEntry) (kind : Kind) → ((n : ℕ) → SawGroups n (view_in kind after).sights → n ≤ length h) → Each (BeganIn logs) (view_in kind after).events → (reports : List Report) × (AreReports h logs kind rounds reports × (report_lines 1 reports ≡ sweep_lines 1 (d.sweeps kind)))
+  pub reports_of : (h : History) (logs : ℕ → List LogEntry) (kind : Kind) → ((n : ℕ) → SawGroups n (view_in kind after).sights → n ≤ length h) →
+      Each (BeganIn logs) (view_in kind after).events → (reports : List Report) × (AreReports h logs kind rounds reports × (report_lines 1 reports ≡ sweep_lines 1 (d.sweeps kind)))
   reports_of h logs kind groups began =
-      let swept : AreRounds (HasSwept kind sizes.sessions) (view_in kind before) (d.sweeps kind) (view_in kind after) = rounds_map (IsRoundBy kind sizes long) (HasSwept kind sizes.sessions) (λ a sweep b. swept_of kind sizes long a b sweep) (view_in kind before) (view_in kind after) (d.sweeps kind) (d.made kind) in
+      let swept : AreRounds (HasSwept kind sizes.sessions) (view_in kind before) (d.sweeps kind) (view_in kind after) = rounds_map (IsRoundBy kind sizes long)
+      (HasSwept kind sizes.sessions) (λ a sweep b. swept_of kind sizes long a b sweep) (view_in kind before) (view_in kind after) (d.sweeps kind) (d.made kind) in
       let r = reported kind sizes.sessions h logs (view_in kind before) (view_in kind after) (d.sweeps kind) swept groups began in
       (r.0, (subst (λ n. AreReports h logs kind n r.0) (d.count kind) r.1.0, r.1.1))
 
@@ -175,16 +185,20 @@ module _ (e : Engine) (long rounds : ℕ) (script : Script) (old new : List Sess
   greatest_session = greatest (map (λ (r : Record). r.session) script.records)
 
   -- all lines, where each collector's are its reports
-  pub lines_told : length old ≡ max 1 greatest_session → (reports : Kind → List Report) → ((kind : Kind) → report_lines 1 (reports kind) ≡ sweep_lines 1 (d.sweeps kind)) → all ≡ run_lines script.records d.lines (reports Group) (reports Table) (reports Interval)
+  pub lines_told : length old ≡ max 1 greatest_session → (reports : Kind → List Report) → ((kind : Kind) → report_lines 1 (reports kind) ≡ sweep_lines 1 (d.sweeps kind)) →
+      all ≡ run_lines script.records d.lines (reports Group) (reports Table) (reports Interval)
   lines_told many reports are = d.told ∙ (λ i. sessions i ++ (sym (are Group) i ++ (sym (are Table) i ++ sym (are Interval) i)))
     where
       sessions : flat_map d.lines (numbers_from 1 (length old)) ≡ flat_map d.lines (numbers_from 1 greatest_session)
-      sessions = all_lines d.lines greatest_session (length old) many (λ zero_is. no_lines (of_session 1 script.records) (d.lines 1) (none_over script.records 1 (let g : greatest_session ≡ 0 = zero_is in omega (arith, g))) (d.worked 1).shape)
+      sessions = all_lines d.lines greatest_session (length old) many
+          (λ zero_is. no_lines (of_session 1 script.records) (d.lines 1) (none_over script.records 1 (let g : greatest_session ≡ 0 = zero_is in omega (arith, g))) (d.worked 1).shape)
 
 -- ---- the whole
 
-module _ (e : Engine) (long rounds : ℕ) (script : Script) (old new : List Session) (before after : Collectors) (all : List Line) (totals : Totals) (d : HasDrivenAll (engine_sizes e) long rounds script.records old before all new after) (t : IsClosedBy e new after totals)
-    (none : (j : ℕ) → logs_of old j ≡ []) (fresh : (k : Kind) → removed_of k before ≡ 0) (numbered : Each (λ (r : Record). 1 ≤ r.session) script.records) (sessions : (engine_sizes e).sessions ≡ length old) (many : length old ≡ max 1 (greatest (map (λ (r : Record). r.session) script.records))) where
+module _ (e : Engine) (long rounds : ℕ) (script : Script) (old new : List Session) (before after : Collectors) (all : List Line) (totals : Totals)
+    (d : HasDrivenAll (engine_sizes e) long rounds script.records old before all new after) (t : IsClosedBy e new after totals)
+    (none : (j : ℕ) → logs_of old j ≡ []) (fresh : (k : Kind) → removed_of k before ≡ 0) (numbered : Each (λ (r : Record). 1 ≤ r.session) script.records)
+    (sessions : (engine_sizes e).sessions ≡ length old) (many : length old ≡ max 1 (greatest (map (λ (r : Record). r.session) script.records))) where
   abbrev z : Sizes
   z = engine_sizes e
 
@@ -205,7 +219,8 @@ module _ (e : Engine) (long rounds : ℕ) (script : Script) (old new : List Sess
     logged = logged_before z.buckets t.history logs (logs_of new) closes t.logged;
     numbered = numbered;
     shape = λ j. (d.worked j).shape;
-    tells = λ j. subst (λ l. Tells z.buckets (λ (r : Record) (line : Line). LeavesGc r.statement line.reply.answer) l None (of_session j script.records) (d.lines j) (logs j)) (none j) (d.worked j).tells;
+    tells = λ j. subst (λ l. Tells z.buckets (λ (r : Record) (line : Line). LeavesGc r.statement line.reply.answer) l None (of_session j script.records) (d.lines j) (logs j))
+        (none j) (d.worked j).tells;
     of_group = (told_of Group).1.0;
     of_table = (told_of Table).1.0;
     of_interval = (told_of Interval).1.0;
@@ -222,8 +237,10 @@ module _ (e : Engine) (long rounds : ℕ) (script : Script) (old new : List Sess
 
   counted : IsCounted z.sessions t.history (logs_of new) (said_from [] (in_order (run rounds) script.records) printed) totals
   counted =
-      let shape : HasShape (in_order (run rounds) script.records) printed = subst (λ rs. HasShape rs printed) (sym (in_order_is rounds script.records)) (run_shape z.buckets t.history logs rounds script.records d.lines (reports Group) (reports Table) (reports Interval) ran) in
-      let told : (k : Kind) → removed_of k after ≡ sum_by (removed_by k) (said_from [] (in_order (run rounds) script.records) printed) = λ k. told_all e long rounds script old new before after all d fresh k ∙ (ap (told_removed k) same ∙ sym (removed_said k [] (in_order (run rounds) script.records) printed shape)) in
+      let shape : HasShape (in_order (run rounds) script.records) printed = subst (λ rs. HasShape rs printed) (sym (in_order_is rounds script.records))
+      (run_shape z.buckets t.history logs rounds script.records d.lines (reports Group) (reports Table) (reports Interval) ran) in
+      let told : (k : Kind) → removed_of k after ≡ sum_by (removed_by k) (said_from [] (in_order (run rounds) script.records) printed) = λ k. told_all e long rounds script old new
+      before after all d fresh k ∙ (ap (told_removed k) same ∙ sym (removed_said k [] (in_order (run rounds) script.records) printed shape)) in
       let c = t.counted in
       record {
         made = c.made;
@@ -239,4 +256,5 @@ module _ (e : Engine) (long rounds : ℕ) (script : Script) (old new : List Sess
   driven_sound =
       let most : top ≤ z.sessions = omega (arith, many, sessions) in
       subst (λ (lines : List Line). IsSound (run rounds) script (record { lines = lines; totals = totals })) (sym same)
-      (run_whole z.buckets z.sessions t.history logs (logs_of new) rounds script d.lines (reports Group) (reports Table) (reports Interval) totals ran (within z.sessions script.records most) closes counted)
+      (run_whole z.buckets z.sessions t.history logs (logs_of new) rounds script d.lines (reports Group) (reports Table) (reports Interval) totals ran
+      (within z.sessions script.records most) closes counted)

@@ -1,15 +1,24 @@
 -- When each status comes.
-use Rattle.std.specs.Prelude.{◌≡◌, ℕ, ◌<◌, ◌⊎◌, List, length, take, Bool, true, false, Some, None, ⊤}
+use Rattle.std.specs.Prelude.{◌≡◌, ℕ, ◌<◌, ◌≤◌, ◌⊎◌, List, length, map, take, Bool, true, false, Some, None, ⊤}
+use Rattle.std.specs.List.{flat_map}
 use Rattle.std.specs.Io.KnownBytes.{Appends}
+use Rattle.hg_base.specs.declared.limits.TheConstants.{MOST_SCRIPT_BYTES}
+use Rattle.hg_base.specs.declared.line.Printed.{Printed}
+use Rattle.hg_base.specs.Script.{Script, replay}
+use Rattle.hg_base.specs.Sound.{IsSound}
+use Rattle.hg_base.specs.Text.{text_of, totals_records}
+use Rattle.hg_csv.specs.Bytes.{record_bytes}
+use Rattle.hg_exact.specs.Replayed.{plain, replayed}
 use Rattle.hg_script.specs.declared.code.Code.{Code}
 use Rattle.hg_script.specs.Fields.{rows_of}
 use Rattle.hg_script.specs.Meaning.{refusal_of, script_of}
 use Rattle.hg_streams.specs.declared.status.Status.{Status}
 use Rattle.hg_streams.specs.declared.status.Status.TheVariants.{Done, Usage, BadScript, ReadFault, WriteFault, TooLong, NoMemory}
+use Rattle.hg_seed.specs.Generator.{IsMade}
 use Rattle.hg_streams.specs.Parting.{AreParts}
-use Rattle.hg_streams.specs.Streams.{Change, FailsToRead, HasFailed, IsTooLong, ReadsAll}
+use Rattle.hg_streams.specs.Streams.{Change, FailsToRead, Gives, HasFailed, IsTooLong, ReadsAll}
 use Rattle.hg_words.specs.Options.{options_of}
-use Rattle.hg_run.specs.Words.{AsksFor, IsReading, Settings, Task, audits, dumps, makes, reads}
+use Rattle.hg_run.specs.Words.{AsksFor, IsMaking, IsReading, Settings, Task, audits, dumps, makes, reads}
 use Rattle.hg_run.specs.Dumping.{IsDumpedFor}
 use Rattle.hg_run.specs.Printing.{AreTotalsOf, IsPrintedFor}
 use Rattle.hg_run.specs.Judging.{IsJudgedBy}
@@ -66,6 +75,29 @@ pub record WritesAll (task : Task) (source sink : Change) : Type 0 where
   pub answers : Answers task source text
   pub taken : Appends sink.before sink.after text
 
+-- what the bytes of the source mean
+pub record IsReadFrom (source : Change) (script : Script) : Type 0 where
+  pub bytes : List ℕ
+  pub all : ReadsAll source bytes
+  pub same : script ≡ script_of (rows_of bytes)
+
+-- The sink took a text of a printed value that is sound for a script, and whose lines are those that are replayed, but for what their
+-- reports say was removed and moved.
+pub record TakesExactly (P : Script → Type 0) (text : Script → Printed → List ℕ) (sink : Change) : Type 0 where
+  pub script : Script
+  pub is : P script
+  pub printed : Printed
+  pub sound : IsSound replay script printed
+  pub exact : map plain printed.lines ≡ replayed script
+  pub taken : Appends sink.before sink.after (text script printed)
+
+-- the same of a replay: that of the script in the source, or that of a seed's script, of which the totals are written
+abbrev pub WritesExactly : Task → Change → Change → Type 0
+WritesExactly (reads settings) source sink = settings.mode ≡ replay → TakesExactly (IsReadFrom source) (text_of record_bytes) sink
+WritesExactly (makes seed settings) source sink = TakesExactly (IsMade seed) (λ script printed. flat_map record_bytes (totals_records printed.totals)) sink
+WritesExactly audits source sink = ⊤
+WritesExactly (dumps settings) source sink = ⊤
+
 -- the sink failed, and took no more than a front of the text
 pub record WritesPart (task : Task) (source sink : Change) : Type 0 where
   pub failed : HasFailed sink
@@ -94,6 +126,17 @@ may_write _ = false
 -- a status, or want of memory
 abbrev pub IsUnlessNoMemory : Status → Status → Type 0
 IsUnlessNoMemory status wanted = (status ≡ wanted) ⊎ (status ≡ NoMemory)
+
+-- What a source holds that tells its bytes and does not fail decides the answer, where memory is found. Whether there is one hangs on
+-- the script's bytes alone, which are all of them, or those before the line that parts them. A script that is made is replayed whatever
+-- the source holds.
+pub record IsDecided (words : List (List ℕ)) (source sink : Change) (status : Status) : Type 0 where
+  pub complete : (bytes script : List ℕ) → AsksFor words (λ task. IsScriptIn task bytes script) → Gives source bytes → length bytes ≤ MOST_SCRIPT_BYTES →
+      refusal_of (rows_of script) ≡ None → (HasFailed sink → ⊥) → IsUnlessNoMemory status Done
+  pub bad_script : (bytes script : List ℕ) (line : ℕ) (code : Code) → AsksFor words (λ task. IsScriptIn task bytes script) → Gives source bytes → length bytes ≤ MOST_SCRIPT_BYTES →
+      refusal_of (rows_of script) ≡ Some (line, code) → IsUnlessNoMemory status (BadScript line code)
+  pub too_long : (bytes : List ℕ) → AsksFor words IsReading → Gives source bytes → MOST_SCRIPT_BYTES < length bytes → IsUnlessNoMemory status TooLong
+  pub loaded : AsksFor words IsMaking → (HasFailed sink → ⊥) → IsUnlessNoMemory status Done
 
 -- ---- what the steps refuse
 

@@ -15,7 +15,7 @@ ghost use Rattle.hg_run.specs.Dumping.{HasReadBoth, IsDumpedFor, part_text};
 ghost use Rattle.hg_run.specs.Words.{settings_in};
 
 use hg_base::{Gate, NoMemory, Totals};
-use hg_collectors::Pace;
+use hg_collectors::{Pace, Plan};
 use hg_drivers::{Reader, close_read, dump_on, open_beside};
 use hg_script::Script;
 use hg_transcript::Transcript;
@@ -68,33 +68,26 @@ fn run_and_read<'a, R: Threads + Wait + Sync, G: Gate + Sync>(
         dumps.new) }
     ensures tables { IfOk result (λ r. r.0.tables ≡ script.now.tables) }
 {
-    let (engine, list, collectors, extra) = open_beside(alloc, script, options)?;
-    let mut list = list;
-    let mut collectors = collectors;
+    let (engine, crew, extra) = open_beside(alloc, script, options)?;
+    let mut crew = crew;
     let mut extra = extra;
-    let (transcript, at) = dump_on(
-        rt,
-        alloc,
-        script,
-        options,
-        gate,
-        &engine,
-        &mut list,
-        &mut collectors,
-        &mut extra,
-        &mut dumps.first,
-    )?;
-    dumps.at = at;
     let reader = Reader {
         alloc,
         engine: &engine,
         script,
     };
+    let plan = Plan {
+        gate,
+        rounds: options.rounds,
+        long: options.long,
+    };
+    let (transcript, at) = dump_on(rt, &reader, &plan, &mut crew, &mut extra, &mut dumps.first)?;
+    dumps.at = at;
     let (totals, end) = close_read(
         rt,
         &reader,
-        list.into_vec(),
-        collectors,
+        crew.sessions,
+        crew.collectors,
         extra,
         &mut dumps.last,
     )?;
@@ -109,8 +102,12 @@ fn text_with(
     totals: &Totals,
     dumps: &Dumps,
 ) -> Result<Vec<u8>, NoMemory>
-    ensures { (script : Script) → script.tables ≡ transcript.entry.tables → IfOk result (λ text. text.items ≡
-        text_of record_bytes script (record { lines = transcript.entry.lines; totals = totals.now }) ++ (part_text dumps.now.at dumps.now.first.items ++ part_text dumps.now.end dumps.now.last.items)) }
+    ensures { (script : Script) → script.tables ≡ transcript.entry.tables →
+        IfOk result (λ text. text.items ≡
+        text_of record_bytes script
+        (record { lines = transcript.entry.lines; totals = totals.now }) ++
+        (part_text dumps.now.at dumps.now.first.items ++
+        part_text dumps.now.end dumps.now.last.items)) }
 {
     let mut text = transcript.with_totals(totals)?;
     add_part(alloc, &mut text, dumps.at, &dumps.first)?;

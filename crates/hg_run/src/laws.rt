@@ -1,9 +1,10 @@
 //! Laws of what is printed, each the contract of a function with no body.
 
-ghost use Rattle.std.specs.Prelude.{◌≡◌, ◌<◌, ◌^◌, ℕ, List};
+ghost use Rattle.std.specs.Prelude.{◌≡◌, ◌<◌, ◌^◌, ℕ, List, map};
 ghost use Rattle.hg_base.specs.declared.line.Printed.{Printed};
-ghost use Rattle.hg_base.specs.Script.{Script};
+ghost use Rattle.hg_base.specs.Script.{Script, replay};
 ghost use Rattle.hg_base.specs.Text.{IsFit};
+ghost use Rattle.hg_exact.specs.Replayed.{plain};
 ghost use Rattle.hg_script.specs.Lawful.{IsLawful};
 ghost use Rattle.hg_report.specs.Readable.{IsTextOf};
 ghost use Rattle.hg_backup.specs.Reader.{IsSoundWith};
@@ -14,7 +15,8 @@ ghost use Rattle.hg_run.specs.Words.{Settings};
 /// What is sound for a script with a session that reads all tables at some snapshots also fits it (`what_is_sound_fits`).
 pub fn what_is_sound_with_a_reader_fits()
     ensures { (rounds : ℕ) (script : Script) (ats : List ℕ) (printed : Printed) →
-        rounds < 2 ^ 32 → IsLawful script → IsSoundWith rounds script ats printed → IsFit script printed }
+        rounds < 2 ^ 32 → IsLawful script → IsSoundWith rounds script ats printed →
+        IsFit script printed }
 {}
 
 /// The bytes of a text determine what was printed, under whichever settings: whatever fits the script and has these bytes is
@@ -26,4 +28,19 @@ pub fn text_determines_what_was_printed()
     ensures served { (settings other : Settings) (bytes text : List ℕ) →
         (a : IsTextFor settings bytes text) → (b : IsTextFor other bytes text) →
         a.printed.printed ≡ b.printed.printed }
+{}
+
+/// Two replays of one script print the same, whatever the settings: all lines but for what their reports say was removed and moved, and
+/// of the totals `made`, `undone` and `left`.
+pub fn replays_print_the_same()
+    ensures lines { (a b : Settings) (script : Script) (text other : List ℕ) →
+        a.mode ≡ replay → b.mode ≡ replay →
+        (p : IsPrintedFor a script text) → (q : IsPrintedFor b script other) →
+        map plain p.printed.lines ≡ map plain q.printed.lines }
+    ensures totals { (a b : Settings) (script : Script) (text other : List ℕ) →
+        a.mode ≡ replay → b.mode ≡ replay →
+        (p : IsPrintedFor a script text) → (q : IsPrintedFor b script other) →
+        (p.printed.totals.made ≡ q.printed.totals.made) ×
+        (p.printed.totals.undone ≡ q.printed.totals.undone) ×
+        (p.printed.totals.left ≡ q.printed.totals.left) }
 {}

@@ -31,13 +31,15 @@ mod laws;
 mod load;
 mod replay;
 mod run;
-mod serving;
 mod steady;
+mod steps;
 
-pub use hg_collectors::{Collectors, IntervalWorker};
-pub use hg_drivers::{close, dump_on, open_beside, open_for, replay_on, run_on};
+pub use hg_collectors::{Collectors, IntervalWorker, Plan};
+pub use hg_drivers::{Reader, close, dump_on, open_beside, open_for, replay_on, run_on};
 pub use hg_fit::{rows_have_their_columns, what_is_sound_fits};
 pub use hg_streams::Status;
-pub use laws::{text_determines_what_was_printed, what_is_sound_with_a_reader_fits};
-pub use serving::serve;
+pub use laws::{
+    replays_print_the_same, text_determines_what_was_printed, what_is_sound_with_a_reader_fits,
+};
 pub use steady::serve_steadily;
+pub use steps::serve;

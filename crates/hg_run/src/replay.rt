@@ -6,7 +6,7 @@ ghost use Rattle.hg_base.specs.Sound.{IsSound};
 ghost use Rattle.hg_base.specs.Text.{IsFit};
 ghost use Rattle.hg_script.specs.Lawful.{IsLawful};
 ghost use Rattle.hg_words.specs.Options.{AreWithin};
-ghost use Rattle.hg_run.specs.Printing.{IsPrintedFor, ReportsRounds};
+ghost use Rattle.hg_run.specs.Printing.{AreExact, IsPrintedFor, ReportsRounds};
 ghost use Rattle.hg_run.specs.Words.{settings_in};
 
 use hg_base::{NoMemory, Totals};
@@ -29,24 +29,16 @@ pub(crate) fn replay_lines<'a, R: Threads + Wait + Sync>(
     requires within { AreWithin options.now }
     ensures sound { IfOk result
         (λ p. IsSound replay script.now (record { lines = p.0.lines; totals = p.1 })) }
+    ensures exact { IfOk result (λ p. AreExact replay script.now p.0.lines) }
     ensures fit { IfOk result (λ p. IsFit script.now (record { lines = p.0.lines; totals = p.1 })) }
     ensures rounds { IfOk result
         (λ p. ReportsRounds (settings_in replay options.now) script.now p.0.lines) }
     ensures tables { IfOk result (λ p. p.0.tables ≡ script.now.tables) }
 {
-    let (engine, list, collectors) = open_for(alloc, script, options)?;
-    let mut list = list;
-    let mut collectors = collectors;
-    let transcript = replay_on(
-        rt,
-        alloc,
-        script,
-        options,
-        &engine,
-        &mut list,
-        &mut collectors,
-    )?;
-    let totals = close(rt, &engine, list.into_vec(), collectors);
+    let (engine, crew) = open_for(alloc, script, options)?;
+    let mut crew = crew;
+    let transcript = replay_on(rt, alloc, script, options, &engine, &mut crew)?;
+    let totals = close(rt, &engine, crew.sessions, crew.collectors);
     Ok((transcript, totals))
 }
 

@@ -8,7 +8,7 @@ ghost use Rattle.hg_run.specs.Printing.{IsPrintedFor};
 ghost use Rattle.hg_run.specs.Words.{settings_in};
 
 use hg_base::{Gate, NoMemory};
-use hg_collectors::Pace;
+use hg_collectors::{Pace, Plan};
 use hg_drivers::{close, open_for, run_on};
 use hg_script::Script;
 use hg_words::Options;
@@ -29,22 +29,17 @@ pub(crate) fn run_all<R: Threads + Wait + Sync, G: Gate + Sync>(
     ensures { IfOk result (λ text.
         IsPrintedFor (settings_in (run options.now.rounds) options.now) script.now text.items) }
 {
-    let (engine, list, collectors) = open_for(alloc, script, options)?;
-    let mut list = list;
-    let mut collectors = collectors;
+    let (engine, crew) = open_for(alloc, script, options)?;
+    let mut crew = crew;
     let records = script.record_count() as u64;
     let pace = Pace::new(alloc, script.sessions(), records, options.rounds, gate)?;
-    let transcript = run_on(
-        rt,
-        alloc,
-        script,
-        options,
-        &pace,
-        &engine,
-        &mut list,
-        &mut collectors,
-    )?;
-    let totals = close(rt, &engine, list.into_vec(), collectors);
+    let plan = Plan {
+        gate: &pace,
+        rounds: options.rounds,
+        long: options.long,
+    };
+    let transcript = run_on(rt, alloc, script, &plan, &engine, &mut crew)?;
+    let totals = close(rt, &engine, crew.sessions, crew.collectors);
     let text = transcript.with_totals(&totals)?;
     Ok(text)
 }

@@ -8,7 +8,7 @@ ghost use Rattle.hg_run.specs.Words.{AsksFor, IsMaking, IsReading};
 ghost use Rattle.hg_run.specs.Serving.{Comes, IsScriptIn, IsUnlessNoMemory};
 ghost use Rattle.hg_streams.specs.Streams.{HasGiven, steady_sink, steady_source};
 
-use crate::serving::serve;
+use crate::steps::serve;
 use hg_base::{Gate, MOST_SCRIPT_BYTES, SteadySink, SteadySource};
 use hg_streams::Status;
 use std::alloc::Global;
@@ -34,13 +34,18 @@ pub fn serve_steadily<R: Threads + Wait + Sync, G: Gate + Sync>(
     ensures no_more { HasGiven (MOST_SCRIPT_BYTES + 1) (steady_source source.old source.new) }
 
     // The bytes of the source decide.
-    ensures complete { (script : List ℕ) → AsksFor (map string_bytes words.now) (λ task. IsScriptIn task source.old.left script)
-        → length source.old.left ≤ MOST_SCRIPT_BYTES → refusal_of (rows_of script) ≡ None → IsUnlessNoMemory result Status.Done }
-    ensures bad_script { (script : List ℕ) (line : ℕ) (code : Code) → AsksFor (map string_bytes words.now) (λ task. IsScriptIn task source.old.left script)
-        → length source.old.left ≤ MOST_SCRIPT_BYTES → refusal_of (rows_of script) ≡ Some (line, code)
-        → IsUnlessNoMemory result (Status.BadScript line code) }
-    ensures too_long { AsksFor (map string_bytes words.now) IsReading → MOST_SCRIPT_BYTES < length source.old.left
-        → IsUnlessNoMemory result Status.TooLong }
+    ensures complete { (script : List ℕ) →
+        AsksFor (map string_bytes words.now) (λ task. IsScriptIn task source.old.left script) →
+        length source.old.left ≤ MOST_SCRIPT_BYTES → refusal_of (rows_of script) ≡ None →
+        IsUnlessNoMemory result Status.Done }
+    ensures bad_script { (script : List ℕ) (line : ℕ) (code : Code) →
+        AsksFor (map string_bytes words.now) (λ task. IsScriptIn task source.old.left script) →
+        length source.old.left ≤ MOST_SCRIPT_BYTES →
+        refusal_of (rows_of script) ≡ Some (line, code) →
+        IsUnlessNoMemory result (Status.BadScript line code) }
+    ensures too_long { AsksFor (map string_bytes words.now) IsReading →
+        MOST_SCRIPT_BYTES < length source.old.left →
+        IsUnlessNoMemory result Status.TooLong }
     ensures loaded { AsksFor (map string_bytes words.now) IsMaking →
         IsUnlessNoMemory result Status.Done }
 {

@@ -9,12 +9,14 @@ use Rattle.hg_run.specs.Printing.{AreTotalsOf, HasTotalsBy}
 use Rattle.hg_run.specs.Words.{Settings, settings_in}
 use Rattle.hg_run.proofs.load.load.Goals as goal
 
-on_totals : {X E : Type 0} (seed : ℕ) (settings : Settings) (totals : Totals) (r : Result X E) (items : X → List ℕ) → HasTotalsBy seed settings totals → IfOk r (λ text. items text ≡ flat_map record_bytes (totals_records totals)) → IfOk r (λ text. AreTotalsOf seed settings (items text))
+on_totals : {X E : Type 0} (seed : ℕ) (settings : Settings) (totals : Totals) (r : Result X E) (items : X → List ℕ) → HasTotalsBy seed settings totals →
+    IfOk r (λ text. items text ≡ flat_map record_bytes (totals_records totals)) → IfOk r (λ text. AreTotalsOf seed settings (items text))
 on_totals seed settings totals (Ok text) items h same = record {
   script = h.script;
   made = h.made;
   printed = record { lines = h.has.lines; totals = totals };
   sound = h.has.sound;
+  exact = h.has.exact;
   fit = h.has.fit;
   rounds = h.has.rounds;
   same = same;

@@ -20,13 +20,14 @@ pub returns-clause-writes : goal.returns-clause-writes
 returns-clause-writes g c = λ e. let k = subst (Comes _ _ _) e c.serve.ensures.comes in never k.holds.failed
 
 pub returns-clause-complete : goal.returns-clause-complete
-returns-clause-complete g c script within short valid = c.serve.ensures.complete c.args.source.now.left script within (gives c.args.source.now c.serve.new.source) short valid never
+returns-clause-complete g c script within short valid = c.serve.ensures.decided.complete c.args.source.now.left script within (gives c.args.source.now c.serve.new.source) short valid never
 
 pub returns-clause-bad_script : goal.returns-clause-bad_script
-returns-clause-bad_script g c script line code within short refused = c.serve.ensures.bad_script c.args.source.now.left script line code within (gives c.args.source.now c.serve.new.source) short refused
+returns-clause-bad_script g c script line code within short refused = c.serve.ensures.decided.bad_script c.args.source.now.left script line code within
+    (gives c.args.source.now c.serve.new.source) short refused
 
 pub returns-clause-too_long : goal.returns-clause-too_long
-returns-clause-too_long g c reading long = c.serve.ensures.too_long c.args.source.now.left reading (gives c.args.source.now c.serve.new.source) long
+returns-clause-too_long g c reading long = c.serve.ensures.decided.too_long c.args.source.now.left reading (gives c.args.source.now c.serve.new.source) long
 
 pub returns-clause-loaded : goal.returns-clause-loaded
-returns-clause-loaded g c making = c.serve.ensures.loaded making never
+returns-clause-loaded g c making = c.serve.ensures.decided.loaded making never

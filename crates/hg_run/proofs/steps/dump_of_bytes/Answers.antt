@@ -3,7 +3,7 @@ use Rattle.std.specs.Prelude.{Err, IfErr}
 use Rattle.hg_base.specs.Script.{run}
 use Rattle.hg_run.specs.Serving.{RefusesBytes}
 use Rattle.hg_run.specs.Words.{dumps, settings_in}
-use Rattle.hg_run.proofs.serving.dump_of_bytes.Goals as goal
+use Rattle.hg_run.proofs.steps.dump_of_bytes.Goals as goal
 
 pub returns-in_err-script-clause-refused : goal.returns-in_err-script-clause-refused
 returns-in_err-script-clause-refused g c =

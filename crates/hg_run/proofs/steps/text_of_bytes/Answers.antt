@@ -2,7 +2,7 @@ use Rattle.std.proofs.Common.{◌≡◌, sym, subst, rules}
 use Rattle.std.specs.Prelude.{Err, IfErr}
 use Rattle.hg_run.specs.Serving.{RefusesBytes}
 use Rattle.hg_run.specs.Words.{reads, settings_of}
-use Rattle.hg_run.proofs.serving.text_of_bytes.Goals as goal
+use Rattle.hg_run.proofs.steps.text_of_bytes.Goals as goal
 
 pub returns-in_err-script-clause-refused : goal.returns-in_err-script-clause-refused
 returns-in_err-script-clause-refused g c =

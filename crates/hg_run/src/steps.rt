@@ -1,16 +1,15 @@
 //! The steps in their order: of a script that is run, of one that is made, and of one whose text is audited.
 
-ghost use Rattle.std.specs.Prelude.{◌≡◌, ◌+◌, ◌≤◌, ◌<◌, ℕ, List, length, map, Some, None, IfOk, IfErr, IsFalse, OnOk, string_bytes};
+ghost use Rattle.std.specs.Prelude.{◌≡◌, ◌+◌, map, None, IfOk, IfErr, IsFalse, OnOk, string_bytes};
 ghost use Rattle.hg_base.specs.Script.{run};
-ghost use Rattle.hg_script.specs.declared.code.Code.{Code};
 ghost use Rattle.hg_script.specs.Fields.{rows_of};
 ghost use Rattle.hg_script.specs.Lawful.{IsLawful};
 ghost use Rattle.hg_script.specs.Meaning.{refusal_of, script_of};
 ghost use Rattle.hg_words.specs.Options.{AreWithin, options_of};
 ghost use Rattle.hg_run.specs.Printing.{IsPrintedFor};
 ghost use Rattle.hg_run.specs.Words.{Settings, AsksFor, IsMaking, IsReading, audits, dumps, reads, settings_in, settings_of, task_of};
-ghost use Rattle.hg_run.specs.Serving.{Answers, Comes, IsDumpFor, IsScriptIn, IsTextFor, IsUnlessNoMemory, RefusesBytes, RefusesTask, WritesAll, may_write};
-ghost use Rattle.hg_streams.specs.Streams.{Gives, HasFailed, HasGiven, change_of};
+ghost use Rattle.hg_run.specs.Serving.{Answers, Comes, IsDecided, IsDumpFor, IsTextFor, IsUnlessNoMemory, RefusesBytes, RefusesTask, WritesAll, WritesExactly, may_write};
+ghost use Rattle.hg_streams.specs.Streams.{HasGiven, change_of};
 
 use crate::audit::audit_bytes;
 use crate::dump::dump_all;
@@ -122,9 +121,11 @@ fn dump_of_source<R: Threads + Wait + Sync, S: Source, G: Gate + Sync>(
     gate: &G,
 ) -> Result<Vec<u8>, Status>
     requires { AreWithin options.now }
-    ensures text { IfOk result (λ text. Answers (dumps (settings_in (run options.now.rounds) options.now))
+    ensures text { IfOk result (λ text.
+        Answers (dumps (settings_in (run options.now.rounds) options.now))
         (change_of S.left S.faults source.old source.new) text.items) }
-    ensures refused { IfErr result (RefusesTask (dumps (settings_in (run options.now.rounds) options.now))
+    ensures refused { IfErr result
+        (RefusesTask (dumps (settings_in (run options.now.rounds) options.now))
         (change_of S.left S.faults source.old source.new)) }
     ensures no_more { HasGiven (MOST_SCRIPT_BYTES + 1)
         (change_of S.left S.faults source.old source.new) }
@@ -181,7 +182,8 @@ fn outcome<R: Threads + Wait + Sync, So: Source, Si: Sink, G: Gate + Sync>(
     sink: &mut Si,
     gate: &G,
 ) -> Status
-    ensures comes { Comes (map string_bytes words.now) (change_of So.left So.faults source.old source.new)
+    ensures comes { Comes (map string_bytes words.now)
+        (change_of So.left So.faults source.old source.new)
         (change_of Si.taken Si.faults sink.old sink.new) result }
     ensures refused { options_of (map string_bytes words.now) ≡ None →
         IsUnlessNoMemory result Status.Usage }
@@ -216,13 +218,20 @@ pub fn serve<R: Threads + Wait + Sync, So: Source, Si: Sink, G: Gate + Sync>(
     sink: &mut Si,
     gate: &G,
 ) -> Status
-    // The sink took the whole text of a printed value that is sound for the script in the source, with the settings that the words ask for;
-    // or the text of the totals of one that is sound for the script of the seed; or the verdict on the text that follows the script.
+    // The sink took the whole text of a printed value that is sound for the script in the source, with the settings that the words ask
+    // for; or the text of the totals of one that is sound for the script of the seed; or the verdict on the text that follows the script.
     ensures sound { result ≡ Status.Done → AsksFor (map string_bytes words.now) (λ task.
-        WritesAll task (change_of So.left So.faults source.old source.new) (change_of Si.taken Si.faults sink.old sink.new)) }
+        WritesAll task (change_of So.left So.faults source.old source.new)
+        (change_of Si.taken Si.faults sink.old sink.new)) }
+
+    // A replay prints one text: its lines are a function of the script, but for what its reports say was removed and moved.
+    ensures exact { result ≡ Status.Done → AsksFor (map string_bytes words.now) (λ task.
+        WritesExactly task (change_of So.left So.faults source.old source.new)
+        (change_of Si.taken Si.faults sink.old sink.new)) }
 
     // Each status has its cause.
-    ensures comes { Comes (map string_bytes words.now) (change_of So.left So.faults source.old source.new)
+    ensures comes { Comes (map string_bytes words.now)
+        (change_of So.left So.faults source.old source.new)
         (change_of Si.taken Si.faults sink.old sink.new) result }
 
     // Words that ask for nothing are refused before anything is read, a script that is made needs no source, and a script is refused
@@ -238,23 +247,10 @@ pub fn serve<R: Threads + Wait + Sync, So: Source, Si: Sink, G: Gate + Sync>(
     ensures no_more { HasGiven (MOST_SCRIPT_BYTES + 1)
         (change_of So.left So.faults source.old source.new) }
 
-    // What a source holds that tells its bytes and does not fail decides the answer, where memory is found. Whether there is one hangs
-    // on the script's bytes alone, which are all of them, or those before the line that parts them.
-    ensures complete { (bytes script : List ℕ) → AsksFor (map string_bytes words.now) (λ task. IsScriptIn task bytes script)
-        → Gives (change_of So.left So.faults source.old source.new) bytes → length bytes ≤ MOST_SCRIPT_BYTES
-        → refusal_of (rows_of script) ≡ None → ¬ HasFailed (change_of Si.taken Si.faults sink.old sink.new)
-        → IsUnlessNoMemory result Status.Done }
-    ensures bad_script { (bytes script : List ℕ) (line : ℕ) (code : Code) → AsksFor (map string_bytes words.now) (λ task. IsScriptIn task bytes script)
-        → Gives (change_of So.left So.faults source.old source.new) bytes → length bytes ≤ MOST_SCRIPT_BYTES
-        → refusal_of (rows_of script) ≡ Some (line, code)
-        → IsUnlessNoMemory result (Status.BadScript line code) }
-    ensures too_long { (bytes : List ℕ) → AsksFor (map string_bytes words.now) IsReading
-        → Gives (change_of So.left So.faults source.old source.new) bytes → MOST_SCRIPT_BYTES < length bytes
-        → IsUnlessNoMemory result Status.TooLong }
-
-    // A script that is made is replayed whatever the source holds.
-    ensures loaded { AsksFor (map string_bytes words.now) IsMaking → ¬ HasFailed (change_of Si.taken Si.faults sink.old sink.new)
-        → IsUnlessNoMemory result Status.Done }
+    // What the source holds decides the answer, where memory is found.
+    ensures decided { IsDecided (map string_bytes words.now)
+        (change_of So.left So.faults source.old source.new)
+        (change_of Si.taken Si.faults sink.old sink.new) result }
 {
     outcome(rt, alloc, words, source, sink, gate)
 }
