@@ -71,6 +71,29 @@ def eight_workers_commit_beside_the_collectors():
     has(totals_of(records), made=400, left=400)
 
 
+def four_sessions_begin_and_end_beside_the_collectors():
+    """Nobody writes, so each report has the mark and the horizon 0, and whoever holds a snapshot holds 0."""
+    script = b"table,t,1\n" + b"1,begin\n2,begin\n3,begin\n4,begin\n1,rollback\n2,rollback\n3,rollback\n4,rollback\n" * 100
+    text = sound_text("run --rounds 50", script)
+    replies = list(replies_of(records_of(text)))
+    expect("the replies", 800 + 150, len(replies))
+    reports = [(record[4:], held) for record, held in replies if record[2] == b"swept"]
+    expect("the marks, the horizons and what is removed", {(b"0", b"0", b"0")}, {tuple(report) for report, _ in reports})
+    expect("the snapshots", set(), {entry[4] for _, held in reports for entry in held} - {b"0"})
+    expect("the totals", NO_TOTALS, text[-len(NO_TOTALS) :])
+
+
+def texts_of_every_length():
+    """Texts of 0 to 64 bytes are read back as they were put, and no longer one is taken."""
+    texts = [(b"0123456789" * 7)[:length] for length in range(65)]
+    script = head(2) + b"".join(b"1,put,t,%d,%d,%s\n" % (length, length, quoted(text)) for length, text in enumerate(texts))
+    rows = [[b"%d" % length, b"%d" % length, text] for length, text in enumerate(texts)]
+    expect("the rows", rows, rows_left(script))
+    for length in (65, 66):
+        script = head(2) + b"1,put,t,1,1," + quoted((b"0123456789" * 7)[:length]) + b"\n"
+        expect_end("replay", script, 3, b"script record %d: Value\n" % script.count(b"\n"))
+
+
 def rounds_remove_more_than_half():
     """Each of 400 keys is put 40 times, so 15,600 versions are old in the end. No gate holds anybody: the rounds have to come when
     sessions have written something that they can remove. The table collector's total also counts what is removed at the end, after the
@@ -172,8 +195,10 @@ TESTS = (
     (a_round_leaves_two_versions_a_key,),
     (each_session_declares_its_own_table, "replay --long 1", "run --long 1"),
     (eight_workers_commit_beside_the_collectors,),
+    (four_sessions_begin_and_end_beside_the_collectors,),
+    (texts_of_every_length,),
     (cursors_stay_beside_the_collectors, "replay --long 1", "run --long 1 --rounds 50", "run --rounds 50 --sweepers 4"),
-    (a_made_script_is_sound, *range(10)),
+    (a_made_script_is_sound, *range(10), 2**32, 2**64 - 1),
     (edited_texts_are_unsound,),
     (eight_writers_are_dumped,),
 )

@@ -64,7 +64,8 @@ each_filtered P p (x ∷ xs) h = go (p x) (each_filtered P p xs h.1)
 pub below_cut : (bound number : ℕ) (vs : List Version) → Each (IsBelow number) vs → Each (IsBelow (number + 1)) (left_by bound vs)
 below_cut bound number vs h = each_filtered (IsBelow (number + 1)) _ vs (below_next number vs h)
 
-swept_below : (horizon : ℕ) (xs : List ℕ) (n : ℕ) (up : Option ℕ) (vs : List Version) → Each (IsBelow n) vs → Each (IsBelow n) (map (λ p. p.1) (filter (λ p. not (goes_after horizon xs p)) (with_successors up vs)))
+swept_below : (horizon : ℕ) (xs : List ℕ) (n : ℕ) (up : Option ℕ) (vs : List Version) → Each (IsBelow n) vs →
+    Each (IsBelow n) (map (λ p. p.1) (filter (λ p. not (goes_after horizon xs p)) (with_successors up vs)))
 swept_below horizon xs n up [] h = tt
 swept_below horizon xs n up (v ∷ vs) h = go (not (goes_after horizon xs (up, v))) (swept_below horizon xs n (number_in v.stamp) vs h.1)
   where

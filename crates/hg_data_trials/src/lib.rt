@@ -1,24 +1,30 @@
-//! Tests of the single-threaded crates: each allocating call once with ample memory, and what their values are. What a call refuses
-//! is told by the rows of tests/, which the program is run on.
+//! Tests of the single-threaded crates, of what no row of tests/ can show: values that the program never prints.
 //!
-//!     values     rows, reports, sources and sinks
-//!     chains     one record's versions, alone and among others
-//!     scripts    each statement, whose records are whose, and the script of a seed
-//!     texts      read, and written again
+//!     calls      calls on one record's versions, as words
+//!     alone      the calls on a chain by itself
+//!     places     the same calls at a place among others
+//!     nodes      nodes that are free, and given again
+//!     rows       rows of calls, and what they answer
+//!     seeds      records of the script of a seed
+//!     streams    sources and sinks in memory
 //!     words      the options that they are
 //!
 //! No crate uses this one. The tests of many crates are in one crate, since a crate with tests is proved twice.
 #![tactic(auto)]
 
 #[cfg(test)]
-mod chains;
+mod alone;
+#[cfg(test)]
+mod calls;
+#[cfg(test)]
+mod nodes;
 #[cfg(test)]
 mod places;
 #[cfg(test)]
-mod scripts;
+mod rows;
 #[cfg(test)]
-mod texts;
+mod seeds;
 #[cfg(test)]
-mod values;
+mod streams;
 #[cfg(test)]
 mod words;

@@ -6,4 +6,4 @@ use Rattle.hg_data_trials.proofs.ChainFacts.{below_cut}
 use Rattle.hg_data_trials.proofs.places.cut_at.Goals as goal
 
 pub returns-clause-below : goal.returns-clause-below
-returns-clause-below c = subst (Each (IsBelow (c.args.number + 1))) (sym c.cut.ensures.left) (below_cut c.args.bound c.args.number (list_at c.args.chains.now c.args.place) c.requires.below)
+returns-clause-below c = subst (Each (IsBelow (c.args.number + 1))) (sym c.cut-cut.ensures.left) (below_cut c.args.bound c.args.number (list_at c.args.chains.now c.args.place) c.requires.below)

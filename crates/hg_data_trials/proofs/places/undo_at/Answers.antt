@@ -6,4 +6,5 @@ use Rattle.hg_data_trials.proofs.ChainFacts.{below_undone}
 use Rattle.hg_data_trials.proofs.places.undo_at.Goals as goal
 
 pub returns-clause-below : goal.returns-clause-below
-returns-clause-below c = subst (Each (IsBelow (c.args.number + 1))) (sym (c.undo.ensures.here ∙ ap (λ vs. drop 1 vs) c.in-Ok.ensures.ok)) (below_undone _ c.args.image c.args.number (list_at c.args.chains.now c.args.place) c.requires.below)
+returns-clause-below c = subst (Each (IsBelow (c.args.number + 1))) (sym (c.undo.ensures.here ∙ ap (λ vs. drop 1 vs) c.in-Ok.ensures.ok))
+    (below_undone _ c.args.image c.args.number (list_at c.args.chains.now c.args.place) c.requires.below)

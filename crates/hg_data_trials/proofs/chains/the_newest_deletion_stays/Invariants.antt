@@ -1,4 +1,0 @@
-use Rattle.hg_data_trials.proofs.chains.the_newest_deletion_stays.Given as goal
-
-abbrev pub ghosts-sweep : goal.ghosts-sweep
-ghosts-sweep g a = record { name = a.blank.name; parts = a.blank.parts }
