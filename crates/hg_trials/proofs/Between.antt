@@ -39,13 +39,15 @@ look_else q r vs content less = look_store q r vs content ∙ go (same_rid q r) 
     go true e = absurd (let same : q.key ≡ r.key = ap (λ (x : Rid). x.key) (same_rid_equal q r e) in omega arith)
     go false e = refl
 
-pub free_after : (key n : ℕ) (w : Writer) (rid : Rid) (image : Image) (part : BucketPart) → rid.key ≡ key → IsFreeFrom key part.content → IsFreeFrom (key + 1) (stamping n w rid (installing w rid image part)).content
+pub free_after : (key n : ℕ) (w : Writer) (rid : Rid) (image : Image) (part : BucketPart) → rid.key ≡ key → IsFreeFrom key part.content →
+    IsFreeFrom (key + 1) (stamping n w rid (installing w rid image part)).content
 free_after key n w rid image part is free q from = look_else q rid _ _ (omega arith) ∙ (look_else q rid _ _ (omega arith) ∙ free q (omega arith))
 
 -- ---- a group of one
 
 -- a session that is alone, of whose one open write this is the record, may be published once that is stamped
-pub may_alone : (j : ℕ) (s : SessionPart) (h : CommitPart) (rid : Rid) → IsSome (snapshot_in s.phase) → IsTrue (is_plain s.log) → ((r : Rid) → IsSome (open_in r s.log) → same_rid rid r ≡ true) → h.stamped ≡ []
+pub may_alone : (j : ℕ) (s : SessionPart) (h : CommitPart) (rid : Rid) → IsSome (snapshot_in s.phase) → IsTrue (is_plain s.log) →
+    ((r : Rid) → IsSome (open_in r s.log) → same_rid rid r ≡ true) → h.stamped ≡ []
     → MayPublish (flag j ((j, s) ∷ [])) (listing j rid h).stamped
 may_alone j s h rid live plain only none =
     let itself : (j == j) ≡ true = grind (arith, nat_tests) in

@@ -1,3 +1,2 @@
--- What the tests know of a new board, and of seats between two commits.
-pub mod Readiness
+-- What the tests know of seats between two commits.
 pub mod Between

@@ -1,7 +1,9 @@
 -- What a session, a bucket and the committer's seat are between two commits.
-use Rattle.std.specs.Prelude.{◌≡◌, ℕ, ◌≤◌, false, []}
+use Rattle.std.specs.Prelude.{◌≡◌, ℕ, ◌≤◌, false, [], ◌∷◌}
 use Rattle.hg_base.specs.declared.rid.Rid.{Rid}
-use Rattle.hg_core.specs.declared.phase.Phase.TheVariants.{Idle}
+use Rattle.hg_base.specs.declared.scope.Scope.TheVariants.{All}
+use Rattle.hg_core.specs.declared.log.LogEntry.TheVariants.{Began}
+use Rattle.hg_core.specs.declared.phase.Phase.TheVariants.{Idle, Live}
 use Rattle.hg_core.specs.Contents.{Content, look}
 use Rattle.hg_rule.specs.declared.passes.SessionPass.{SessionPass}
 use Rattle.hg_rule.specs.declared.passes.BucketSeat.{BucketSeat}
@@ -34,3 +36,7 @@ Rests p = ((own_session p).phase ≡ Idle) × ((own_session p).stamped ≡ false
 -- no record with this key or a greater one has a version
 abbrev pub IsFreeFrom : ℕ → Content → Type 0
 IsFreeFrom key content = (rid : Rid) → key ≤ rid.key → look rid content ≡ []
+
+-- a session whose first transaction has begun, at this snapshot, on all tables, and has done nothing
+abbrev pub HasBegun : ℕ → SessionPart → Type 0
+HasBegun at s = (s.phase ≡ Live at All) × (s.log ≡ Began at All ∷ []) × (s.stamped ≡ false)

@@ -1,3 +1,2 @@
--- What seats are before a test, and between two of its commits.
-pub mod Ready
+-- What seats are between two commits of a test, and a transaction that has begun.
 pub mod Between

@@ -13,9 +13,10 @@ ghost use Rattle.hg_rule.specs.Writes.{with_entry};
 ghost use Rattle.hg_rule.specs.Views.{number, session, HasOnlySession};
 ghost use Rattle.hg_store.specs.Stores.{store_board_id, store_buckets};
 ghost use Rattle.hg_queue.specs.Handing.{IsOpenTxOf, MayCommit};
+ghost use Rattle.hg_trials.specs.Between.{HasBegun};
 
 use hg_base::{Image, NoMemory, Rid, Row, Scope, Snapshot, TableId, Writer};
-use hg_group::{GroupList, OpenTx, Receipt, RidList};
+use hg_group::{GroupList, OpenTx, RidList};
 use hg_rule::{Board, SessionPass};
 use hg_store::Store;
 use std::alloc::Global;
@@ -47,14 +48,13 @@ fn image(alloc: Global, value: i64) -> Result<Image, NoMemory> {
     Ok(Image { row: Some(row) })
 }
 
-// Writes a record in its bucket. The answer says who writes, and whether it was stored.
+// Writes an image of a record in its bucket. The answer says who writes, and whether it was stored.
 fn write<R: Wait>(
     rt: &R,
     board: &Board,
     store: &Store,
     pass: &mut SessionPass,
-    rid: Rid,
-    image: Image,
+    asked: (Rid, Image),
     at: u64,
 ) -> (Writer, bool)
     requires board { store_board_id store.now ≡ board_id board.now }
@@ -62,18 +62,17 @@ fn write<R: Wait>(
         (store_buckets store.now ≡ (sizes_of board.now).buckets) }
     requires own { IsSessionOf (board_id board.now) (sizes_of board.now) pass.old }
     requires only { HasOnlySession (session_view pass.old) }
-    requires live { (session (session_view pass.old)).phase ≡ Live at All }
-    requires log { (session (session_view pass.old)).log ≡ Began at All ∷ [] }
-    requires unstamped { (session (session_view pass.old)).stamped ≡ false }
-    requires known { rid.table.0 < (sizes_of board.now).tables }
-    requires room { 0 < (sizes_of board.now).quota }
+    requires begun { HasBegun at (session (session_view pass.old)) }
+    requires room { (asked.0.table.0 < (sizes_of board.now).tables) ×
+        (0 < (sizes_of board.now).quota) }
     ensures own { IsSessionOf (board_id board.now) (sizes_of board.now) pass.new }
     ensures by { result.0 ≡ writer (session_view pass.old) }
     ensures stored { result.1 ≡ true →
         (session_view pass.new).parts ≡
         OfSession (number (session_view pass.old))
-        (with_entry (Wrote rid image) (session (session_view pass.old))) ∷ [] }
+        (with_entry (Wrote asked.0 asked.1) (session (session_view pass.old))) ∷ [] }
 {
+    let (rid, image) = asked;
     let by = pass.writer();
     let mut held = store.take(rt, board, store.bucket_of(rid), pass);
     let written = held.write(board, pass, rid, image, at, by);
@@ -114,7 +113,7 @@ fn put<R: Wait>(
     let at = begin(board, pass);
     let table = TableId(0);
     let rid = Rid { table, key };
-    let (writer, stored) = write(rt, board, store, pass, rid, image, at);
+    let (writer, stored) = write(rt, board, store, pass, (rid, image), at);
     if !stored {
         return Ok(None);
     }
@@ -128,6 +127,11 @@ fn put<R: Wait>(
     }))
 }
 
+// The receipts of session 2 and of session 1; the oldest context's number and its records; and that no other is left.
+const COMMITTED: &str =
+    "(Some(Receipt { number: 1, place: 0 }), Some(Receipt { number: 1, place: 1 })) 1 [Rid { table: TableId(0), key: 6 }, Rid { table: TableId(0), key: 5 }] true";
+
+// Session 2 is first in the queue, so its transaction has the first place.
 #[test]
 fn two_sessions_commit_in_one_group(rt: HostRuntime) -> Result<(), Fail> {
     let alloc = rt.alloc();
@@ -140,37 +144,26 @@ fn two_sessions_commit_in_one_group(rt: HostRuntime) -> Result<(), Fail> {
     let mut first = sessions.pop().expect(&rt, "session 1");
     let tx = put(&rt, alloc, &board, &store, &mut first, 5)?.expect(&rt, "a put");
     let other = put(&rt, alloc, &board, &store, &mut second, 6)?.expect(&rt, "a put");
-    let Ok(one) = groups.submit(&rt, &board, tx, &mut first) else {
+    let Ok(one) = groups.submit(&rt, &board, other, &mut second) else {
         panic!(rt; "no memory");
     };
-    let two = groups.submit(&rt, &board, other, &mut second);
-    let one = groups.finish(&rt, &board, &store, one, &mut first);
+    let two = groups.submit(&rt, &board, tx, &mut first);
+    let one = groups.finish(&rt, &board, &store, one, &mut second);
     let Ok(two) = two else {
         panic!(rt; "no memory");
     };
-    let two = groups.finish(&rt, &board, &store, two, &mut second);
-    assert_eq!(rt;
-        one.ok(),
-        Some(Receipt {
-            number: 1,
-            place: 0
-        })
-    );
-    assert_eq!(rt;
-        two.ok(),
-        Some(Receipt {
-            number: 1,
-            place: 1
-        })
-    );
+    let two = groups.finish(&rt, &board, &store, two, &mut first);
+    let receipts = (one.ok(), two.ok());
     let mark = board.mark(&mut collector);
     let context = groups.take_oldest(&rt, &board, mark, &mut collector);
     let context = context.expect(&rt, "a group");
-    assert_eq!(rt; (context.number, context.records.len()), (1, 2));
-    assert!(rt;
-        groups
-            .take_oldest(&rt, &board, mark, &mut collector)
-            .is_none()
-    );
+    let left = groups.take_oldest(&rt, &board, mark, &mut collector);
+    let found = format!(in alloc;
+        "{receipts:?} {} {:?} {}",
+        context.number,
+        context.records.as_slice(),
+        left.is_none()
+    )?;
+    assert_eq!(rt; found.as_str(), COMMITTED);
     Ok(())
 }

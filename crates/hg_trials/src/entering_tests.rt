@@ -21,12 +21,14 @@ ghost use Rattle.hg_rule.specs.Steps.{logging};
 ghost use Rattle.hg_rule.specs.Holding.{writer, tables};
 ghost use Rattle.hg_rule.specs.Writes.{with_entry, with_published, installing, stamping};
 ghost use Rattle.hg_rule.specs.Seats.{board_id, sizes_of, session_view, pass_view, IsPassOf, IsBucketOf, IsCommitOf};
+ghost use Rattle.hg_tracker.specs.Gathers.{tables_in};
 ghost use Rattle.hg_trials.specs.Between.{own_session, own_bucket, own_commit, IsAlone, Rests, IsFreeFrom};
 
-use hg_base::{Entry, Image, Rid, Scope, TableId};
+use hg_base::{Image, Rid, Scope, TableId};
 use hg_core::Register;
 use hg_rule::{Board, BucketSeat, CollectorPass, CommitSeat, SessionPass};
 use hg_tracker::{Gathered, Trackers};
+use std::alloc::{AllocError, Global};
 use std::snapshot::Snapshot;
 use std::test::Fail;
 
@@ -58,14 +60,14 @@ fn write(
     image: &Image,
 ) -> BucketSeat
     requires own { IsAlone (board_id board.now) (sizes_of board.now) pass.old }
-    requires live { IsSome (snapshot_in (own_session pass.old).phase) ×
-        (tables (session_view pass.old) ≡ All) }
-    requires open { IsTrue (is_plain (own_session pass.old).log) ×
-        ((own_session pass.old).stamped ≡ false) }
-    requires room { wrotes (own_session pass.old).log < (sizes_of board.now).quota }
+    requires open { (IsSome (snapshot_in (own_session pass.old).phase) ×
+        (tables (session_view pass.old) ≡ All)) ×
+        (IsTrue (is_plain (own_session pass.old).log) ×
+        ((own_session pass.old).stamped ≡ false)) }
+    requires room { (wrotes (own_session pass.old).log < (sizes_of board.now).quota) ×
+        (rid.table.0 < (sizes_of board.now).tables) }
     requires bucket { IsBucketOf (board_id board.now) bucket × (bucket.number ≡ 0) }
     requires there { bucket_of (sizes_of board.now).buckets rid ≡ 0 }
-    requires table { rid.table.0 < (sizes_of board.now).tables }
     requires free { look rid (own_bucket bucket).content ≡ [] }
     ensures parts { (session_view pass.new).parts ≡
         OfSession (number (session_view pass.old))
@@ -89,13 +91,12 @@ fn commit_alone(
     rid: Rid,
 ) -> (BucketSeat, CommitSeat)
     requires own { IsAlone (board_id board.now) (sizes_of board.now) pass.old }
-    requires live { IsSome (snapshot_in (own_session pass.old).phase) }
-    requires plain { IsTrue (is_plain (own_session pass.old).log) }
-    requires unstamped { (own_session pass.old).stamped ≡ false }
+    requires open { (IsSome (snapshot_in (own_session pass.old).phase) ×
+        IsTrue (is_plain (own_session pass.old).log)) ×
+        ((own_session pass.old).stamped ≡ false) }
     requires bucket { IsBucketOf (board_id board.now) bucket × (bucket.number ≡ 0) }
-    requires there { bucket_of (sizes_of board.now).buckets rid ≡ 0 }
-    requires mine { IsOpenBy (writer (session_view pass.old))
-        (look rid (own_bucket bucket).content) }
+    requires mine { (bucket_of (sizes_of board.now).buckets rid ≡ 0) ×
+        IsOpenBy (writer (session_view pass.old)) (look rid (own_bucket bucket).content) }
     requires only { (r : Rid) → IsSome (open_in r (own_session pass.old).log) →
         same_rid rid r ≡ true }
     requires commit { IsCommitOf (board_id board.now) commit × ((own_commit commit).stamped ≡ []) }
@@ -103,14 +104,12 @@ fn commit_alone(
         OfSession (number (session_view pass.old)) (with_published
         (suc (length (own_commit commit).history.list)) (own_session pass.old)) ∷
         [] }
-    ensures bucket { IsBucketOf (board_id board.now) result.0 × (result.0.number ≡ 0) }
-    ensures stamped { own_bucket result.0 ≡
+    ensures bucket { (IsBucketOf (board_id board.now) result.0 × (result.0.number ≡ 0)) ×
+        (own_bucket result.0 ≡
         stamping (suc (length (own_commit commit).history.list)) (writer (session_view pass.old))
-        rid (own_bucket bucket) }
+        rid (own_bucket bucket)) }
     ensures commit { IsCommitOf (board_id board.now) result.1 ×
         ((own_commit result.1).stamped ≡ []) }
-    ensures published { length (own_commit result.1).history.list ≡
-        length (own_commit commit).history.list + 1 }
     ensures own { IsAlone (board_id board.now) (sizes_of board.now) pass.new }
 {
     let session = pass.writer().session;
@@ -139,8 +138,8 @@ fn commit_one(
     requires room { (begans (own_session pass.old).log < (sizes_of board.now).quota) ×
         (wrotes (own_session pass.old).log < (sizes_of board.now).quota) }
     requires sizes { (0 < (sizes_of board.now).tables) × ((sizes_of board.now).buckets ≡ 1) }
-    requires bucket { IsBucketOf (board_id board.now) bucket × (bucket.number ≡ 0) }
-    requires free { IsFreeFrom key (own_bucket bucket).content }
+    requires bucket { (IsBucketOf (board_id board.now) bucket × (bucket.number ≡ 0)) ×
+        IsFreeFrom key (own_bucket bucket).content }
     requires commit { IsCommitOf (board_id board.now) commit × ((own_commit commit).stamped ≡ []) }
     ensures own { IsAlone (board_id board.now) (sizes_of board.now) pass.new × Rests pass.new }
     ensures counts { (begans (own_session pass.new).log ≡ begans (own_session pass.old).log + 1) ×
@@ -149,8 +148,6 @@ fn commit_one(
     ensures free { IsFreeFrom (key + 1) (own_bucket result.0).content }
     ensures commit { IsCommitOf (board_id board.now) result.1 ×
         ((own_commit result.1).stamped ≡ []) }
-    ensures history { length (own_commit result.1).history.list ≡
-        length (own_commit commit).history.list + 1 }
 {
     let table = TableId(0);
     let rid = Rid { table, key };
@@ -162,45 +159,12 @@ fn commit_one(
     seats
 }
 
-// So many transactions, each of which writes the record with the next key.
-fn commit_some(
-    board: &Board,
-    pass: &mut SessionPass,
-    bucket: BucketSeat,
-    commit: CommitSeat,
-    first: u64,
-    count: u64,
-) -> (BucketSeat, CommitSeat)
-    requires own { IsAlone (board_id board.now) (sizes_of board.now) pass.old × Rests pass.old }
-    requires room { (begans (own_session pass.old).log + count ≤ (sizes_of board.now).quota) ×
-        (wrotes (own_session pass.old).log + count ≤ (sizes_of board.now).quota) }
-    requires sizes { (0 < (sizes_of board.now).tables) × ((sizes_of board.now).buckets ≡ 1) }
-    requires keys { first + count < 2 ^ 64 }
-    requires bucket { IsBucketOf (board_id board.now) bucket × (bucket.number ≡ 0) }
-    requires free { IsFreeFrom first (own_bucket bucket).content }
-    requires commit { IsCommitOf (board_id board.now) commit × ((own_commit commit).stamped ≡ []) }
-    ensures own { IsAlone (board_id board.now) (sizes_of board.now) pass.new × Rests pass.new }
-    ensures counts { (begans (own_session pass.new).log ≡ begans (own_session pass.old).log + count)
-        × (wrotes (own_session pass.new).log ≡ wrotes (own_session pass.old).log + count) }
-    ensures bucket { IsBucketOf (board_id board.now) result.0 × (result.0.number ≡ 0) }
-    ensures free { IsFreeFrom (first + count) (own_bucket result.0).content }
-    ensures commit { IsCommitOf (board_id board.now) result.1 ×
-        ((own_commit result.1).stamped ≡ []) }
-    ensures history { length (own_commit result.1).history.list ≡
-        length (own_commit commit).history.list + count }
-{
-    let mut seats = (bucket, commit);
-    for i in 0..count {
-        seats = commit_one(board, pass, seats.0, seats.1, first + i);
-    }
-    seats
-}
-
-// The mark rises from 4 to 9 while session 1 takes a snapshot: a gather finds it entering at 4, so nothing above 4 may go, and
-// it has no entry. It goes live at 9.
+// Session 1 enters at the mark 1, and session 2 commits and begins at 2, with table 0 declared. A gather finds session 1 entering, so
+// nothing above 1 may go, and only session 2 has an entry. Then session 1 goes live at 2.
 #[test]
 fn a_session_enters_while_others_commit(rt: HostRuntime) -> Result<(), Fail> {
-    let (board, seats) = Board::new(rt.alloc(), 2, 1, 1, 9)?;
+    let (board, seats) = Board::new(rt.alloc(), 2, 1, 1, 4)?;
+    let mut gathered = Gathered::new(rt.alloc(), 2, 1)?;
     let mut passes = seats.sessions.into_vec();
     let mut buckets = seats.buckets.into_vec();
     let (Some(mut second), Some(mut first), Some(bucket)) = (
@@ -211,60 +175,69 @@ fn a_session_enters_while_others_commit(rt: HostRuntime) -> Result<(), Fail> {
         unreachable!()
     };
     let mut collector = seats.group;
-    let mut gathered = Gathered::new(rt.alloc(), 2, 1)?;
     let trackers = Trackers::new(board);
     let board = trackers.board();
-    let (bucket, commit) = commit_some(board, &mut second, bucket, seats.commit, 0, 4);
+    let (bucket, commit) = commit_one(board, &mut second, bucket, seats.commit, 0);
     board.declare(&mut first, Scope::All);
     let from = board.probe(&mut first);
-    assert_eq!(rt; from, 4);
     board.enter(&mut first, from);
-    commit_some(board, &mut second, bucket, commit, 4, 5);
+    commit_one(board, &mut second, bucket, commit, 1);
+    begin(board, &mut second, Scope::Declared(1));
     trackers.gather(&mut collector, &mut gathered);
-    assert_eq!(rt; gathered.mark(), 9);
-    assert_eq!(rt; gathered.horizon(), 4);
-    assert_eq!(rt; gathered.least(), 4);
-    assert_eq!(rt; gathered.bound(TableId(0)), 4);
-    assert_eq!(rt; gathered.entries().len(), 0);
+    let before = told(rt.alloc(), &gathered)?;
     let at = board.fix(&mut first);
-    assert_eq!(rt; at, 9);
     board.go_live(&mut first, at, Scope::All);
     trackers.gather(&mut collector, &mut gathered);
-    let live = Entry {
-        session: 1,
-        number: 9,
-        scope: Scope::All,
-        moved: false,
-    };
-    assert_eq!(rt; gathered.horizon(), 9);
-    assert_eq!(rt; gathered.entries(), [live].as_slice());
+    let after = told(rt.alloc(), &gathered)?;
+    let found = format!(in rt.alloc(); "{from}: {before}{at}: {after}")?;
+    assert_eq!(rt; found.as_str(), ENTERED);
     Ok(())
 }
 
-// Loads the mask of session 1. The pass has loaded its register alone, after the mark 4: it reads at 2, with declared tables.
+// Where session 1 enters, and where it goes live; and after each the mark, the horizon, the least snapshot, the bound of table 0, and
+// the snapshots in use.
+const ENTERED: &str = "\
+1: 2 1 1 1 [Entry { session: 2, number: 2, scope: Declared(1), moved: false }]
+2: 2 2 2 2 [Entry { session: 1, number: 2, scope: All, moved: false }, Entry { session: 2, number: 2, scope: Declared(1), moved: false }]
+";
+
+fn told(alloc: Global, gathered: &Gathered) -> Result<String, AllocError>
+    requires { 0 < tables_in gathered.now }
+{
+    format!(in alloc;
+        "{} {} {} {} {:?}\n",
+        gathered.mark(),
+        gathered.horizon(),
+        gathered.least(),
+        gathered.bound(TableId(0)),
+        gathered.entries()
+    )
+}
+
+// Loads the mask of session 1. The pass has loaded its register alone, after the mark 2: it reads at 1, with declared tables.
 // Whatever the mask is, the snapshot counts for every table until it is moved.
 fn load_mask(board: &Board, pass: &mut CollectorPass) -> u64
     requires own { IsPassOf (board_id board.now) pass.old }
     requires session { IsSession (sizes_of board.now).sessions 1 }
-    requires mark { (own_pass (pass_view pass.old)).mark ≡ 4 }
+    requires mark { (own_pass (pass_view pass.old)).mark ≡ 2 }
     requires loaded { (own_pass (pass_view pass.old)).loaded ≡
-        (1, record { register = registers.Live 2 true false; mask = None }) ∷ [] }
-    ensures horizon { horizon (record_of (own_pass (pass_view pass.new))) ≡ 4 }
+        (1, record { register = registers.Live 1 true false; mask = None }) ∷ [] }
+    ensures horizon { horizon (record_of (own_pass (pass_view pass.new))) ≡ 2 }
     ensures recorded { (table : TableId) →
-        recorded table (record_of (own_pass (pass_view pass.new))) ≡ 2 ∷ [] }
+        recorded table (record_of (own_pass (pass_view pass.new))) ≡ 1 ∷ [] }
     ensures loaded { (own_pass (pass_view pass.new)).loaded ≡
-        (1, record { register = registers.Live 2 true false; mask = Some result }) ∷ [] }
+        (1, record { register = registers.Live 1 true false; mask = Some result }) ∷ [] }
     ensures own { IsPassOf (board_id board.now) pass.new }
 {
     board.sample_mask(pass, 1)
 }
 
-// Session 1 reads at 2 and declared table 0, and the mark is 4. A pass loads the mark and the register. Before it loads the mask,
-// the session begins anew at 4, with table 1 declared. So the pass finds the newer mask beside the older number, and its move
+// Session 1 reads at 1 and declared table 0, and the mark is 2. A pass loads the mark and the register. Before it loads the mask,
+// the session begins anew at 2, with table 1 declared. So the pass finds the newer mask beside the older number, and its move
 // finds that the register shows another.
 #[test]
 fn a_session_begins_anew_between_two_loads(rt: HostRuntime) -> Result<(), Fail> {
-    let (board, seats) = Board::new(rt.alloc(), 2, 2, 1, 4)?;
+    let (board, seats) = Board::new(rt.alloc(), 2, 2, 1, 2)?;
     let mut passes = seats.sessions.into_vec();
     let mut buckets = seats.buckets.into_vec();
     let (Some(mut second), Some(mut first), Some(bucket)) = (
@@ -275,15 +248,14 @@ fn a_session_begins_anew_between_two_loads(rt: HostRuntime) -> Result<(), Fail> 
         unreachable!()
     };
     let mut collector = seats.group;
-    let (bucket, commit) = commit_some(&board, &mut second, bucket, seats.commit, 0, 2);
-    let at = begin(&board, &mut first, Scope::Declared(1));
-    assert_eq!(rt; at, 2);
-    commit_some(&board, &mut second, bucket, commit, 2, 2);
+    let (bucket, commit) = commit_one(&board, &mut second, bucket, seats.commit, 0);
+    let early = begin(&board, &mut first, Scope::Declared(1));
+    commit_one(&board, &mut second, bucket, commit, 1);
     let mark = board.mark(&mut collector);
-    assert!(rt; mark == 4);
+    assert!(rt; mark == 2);
     let register = board.sample(&mut collector, 1);
     let Register::Live {
-        number: 2,
+        number: 1,
         declared: true,
         moved: false,
     } = register
@@ -292,9 +264,9 @@ fn a_session_begins_anew_between_two_loads(rt: HostRuntime) -> Result<(), Fail> 
         return Ok(());
     };
     board.end(&mut first);
-    let at = begin(&board, &mut first, Scope::Declared(2));
-    assert_eq!(rt; at, 4);
-    assert_eq!(rt; load_mask(&board, &mut collector), 2);
-    assert!(rt; !board.move_one(&mut collector, 1, register));
+    let late = begin(&board, &mut first, Scope::Declared(2));
+    let mask = load_mask(&board, &mut collector);
+    let moves = board.move_one(&mut collector, 1, register);
+    assert_eq!(rt; [early, late, mask, u64::from(moves)], [1, 2, 2, 0]);
     Ok(())
 }

@@ -1,10 +1,15 @@
 //! Tests of the crates that threads share: locks, snapshots and commits, each crate alone and several at once, as a program would call
 //! them.
 //!
-//!     lock, seat, register, snapshot, store, queue, batch    each by its own calls, in one thread and in two or more
-//!     entering    a session enters while others commit, or begins anew while a pass looks, step by step
-//!     session     the caller that crates/hg_session/CALLING.md shows
-//!     sharing     eight threads commit at one engine
+//!     lock, store    two or more threads take locks and buckets
+//!     register       its word
+//!     seat           seats move to one pass
+//!     batch          two sessions commit in one group, one step after the other
+//!     entering       a session enters while others commit, or begins anew while a pass looks, step by step
+//!     session        the caller that crates/hg_session/CALLING.md shows
+//!     sharing        eight threads commit at one engine
+//!
+//! What a script and its text can show is a row of tests/.
 //!
 //! No crate uses this one.
 #![tactic(auto)]
@@ -16,8 +21,6 @@ mod entering_tests;
 #[cfg(test)]
 mod lock_tests;
 #[cfg(test)]
-mod queue_tests;
-#[cfg(test)]
 mod register_tests;
 #[cfg(test)]
 mod seat_tests;
@@ -25,7 +28,5 @@ mod seat_tests;
 mod session_tests;
 #[cfg(test)]
 mod sharing_tests;
-#[cfg(test)]
-mod snapshot_tests;
 #[cfg(test)]
 mod store_tests;

@@ -9,7 +9,7 @@ use std::sync::Wait;
 use std::sync::atomic::AtomicU64;
 use std::sync::atomic::Ordering::SeqCst;
 use std::test::Fail;
-use std::thread::{join, map_indices, sleep, yield_now};
+use std::thread::{Threads, map_indices, sleep, yield_now};
 use std::time::Duration;
 
 // A sum, of a list with a number, at a place there.
@@ -62,17 +62,31 @@ fn add<R: Wait>(rt: &R, locks: &Tills, lock: usize, amount: u64) -> (usize, u64)
     found
 }
 
+fn counted(alloc: Global, count: usize) -> Result<usize, Fail> {
+    Ok(open(alloc, 7, count)?.count())
+}
+
 #[test]
 fn each_value_lies_at_its_place(rt: HostRuntime) -> Result<(), Fail> {
-    for count in 0..4 {
-        let locks = open(rt.alloc(), 7, count)?;
-        assert_eq!(rt; locks.count(), count);
-    }
-    let locks = open(rt.alloc(), 7, 3)?;
-    // place, amount, sum
-    for (lock, amount, sum) in [(0, 5, 5), (2, 1, 1), (0, 2, 7), (1, 0, 0), (2, 3, 4)] {
-        assert_eq!(rt; add(&rt, &locks, lock, amount), (lock, sum));
-    }
+    let alloc = rt.alloc();
+    let counts = [
+        counted(alloc, 0)?,
+        counted(alloc, 1)?,
+        counted(alloc, 2)?,
+        counted(alloc, 3)?,
+    ];
+    let locks = open(alloc, 7, 3)?;
+    let sums = [
+        add(&rt, &locks, 0, 5),
+        add(&rt, &locks, 2, 1),
+        add(&rt, &locks, 0, 2),
+        add(&rt, &locks, 1, 0),
+        add(&rt, &locks, 2, 3),
+    ];
+    assert_eq!(rt;
+        (counts, sums),
+        ([0, 1, 2, 3], [(0, 5), (2, 1), (0, 7), (1, 0), (2, 4)])
+    );
     Ok(())
 }
 
@@ -89,51 +103,13 @@ fn add_ones<R: Wait>(rt: &R, locks: &Tills, lock: usize, times: u64)
 fn many_threads_add_to_one_sum(rt: HostRuntime) -> Result<(), Fail> {
     let locks = open(rt.alloc(), 7, 2)?;
     let done = map_indices(&rt, rt.alloc(), 8, &|_| add_ones(&rt, &locks, 1, 20_000))?;
-    assert_eq!(rt; done.len(), 8);
-    assert_eq!(rt; add(&rt, &locks, 1, 0), (1, 160_000));
-    assert_eq!(rt; add(&rt, &locks, 0, 0), (0, 0));
+    let found = (done.len(), add(&rt, &locks, 1, 0), add(&rt, &locks, 0, 0));
+    assert_eq!(rt; found, (8, (1, 160_000), (0, 0)));
     Ok(())
 }
 
 // How often a thread looks for another before it gives up.
 const TURNS: u64 = 10_000_000;
-
-// Takes a lock, says so, and gives it back once it was said of the other lock, too. False where that wasn't seen.
-fn hold_beside<R: Wait>(
-    rt: &R,
-    locks: &Tills,
-    lock: usize,
-    mine: &AtomicU64,
-    other: &AtomicU64,
-) -> bool
-    requires { lock < count_of locks.now }
-{
-    let (till, loan) = locks.take(rt, lock);
-    mine.store(1, SeqCst);
-    let mut seen = false;
-    for _ in 0..TURNS {
-        if other.load(SeqCst) == 1 {
-            seen = true;
-            break;
-        }
-        yield_now();
-    }
-    locks.give(till, loan);
-    seen
-}
-
-#[test]
-fn two_locks_are_held_at_once(rt: HostRuntime) -> Result<(), Fail> {
-    let locks = open(rt.alloc(), 7, 2)?;
-    let (first, second) = (AtomicU64::new(0), AtomicU64::new(0));
-    let seen = join(
-        &rt,
-        || hold_beside(&rt, &locks, 0, &first, &second),
-        || hold_beside(&rt, &locks, 1, &second, &first),
-    );
-    assert_eq!(rt; seen, (true, true));
-    Ok(())
-}
 
 // Takes the lock, says so, and keeps it while the others fall asleep.
 fn hold_for_a_while<R: Wait + Clock>(rt: &R, locks: &Tills, lock: usize, taken: &AtomicU64)
@@ -158,26 +134,39 @@ fn add_behind<R: Wait>(rt: &R, locks: &Tills, lock: usize, taken: &AtomicU64)
     add(rt, locks, lock, 1);
 }
 
+// One thread holds the lock while three wait for it. The answer is how many threads ended, and the sum.
+fn woken<R: Threads + Wait + Clock + Sync>(
+    rt: &R,
+    alloc: Global,
+    locks: &Tills,
+    lock: usize,
+) -> Result<(usize, u64), Fail>
+    requires { lock < count_of locks.now }
+{
+    let taken = AtomicU64::new(0);
+    let done = map_indices(
+        rt,
+        alloc,
+        4,
+        &|index| {
+            if index == 0 {
+                hold_for_a_while(rt, locks, lock, &taken);
+            } else {
+                add_behind(rt, locks, lock, &taken);
+            }
+        },
+    )?;
+    Ok((done.len(), add(rt, locks, lock, 0).1))
+}
+
 // A wake that is forgotten leaves this test asleep, and so does one at the other lock.
 #[test]
 fn each_sleeper_is_woken(rt: HostRuntime) -> Result<(), Fail> {
     let locks = open(rt.alloc(), 7, 2)?;
-    for lock in [0, 1] {
-        let taken = AtomicU64::new(0);
-        let done = map_indices(
-            &rt,
-            rt.alloc(),
-            4,
-            &|index| {
-                if index == 0 {
-                    hold_for_a_while(&rt, &locks, lock, &taken);
-                } else {
-                    add_behind(&rt, &locks, lock, &taken);
-                }
-            },
-        )?;
-        assert_eq!(rt; done.len(), 4);
-        assert_eq!(rt; add(&rt, &locks, lock, 0), (lock, 3));
-    }
+    let found = [
+        woken(&rt, rt.alloc(), &locks, 0)?,
+        woken(&rt, rt.alloc(), &locks, 1)?,
+    ];
+    assert_eq!(rt; found, [(4, 3), (4, 3)]);
     Ok(())
 }

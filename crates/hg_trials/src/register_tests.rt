@@ -1,25 +1,44 @@
+use hg_base::NoMemory;
 use hg_core::Register;
+use std::alloc::Global;
+use std::test::Fail;
 
-// Each row can be added up by hand: the number times 2^20, 8 where moved, 4 where declared, the tag.
-#[test]
-fn words_of_registers(rt: HostRuntime) {
-    let live = |number, declared, moved| Register::Live {
-        number,
-        declared,
-        moved,
-    };
-    for (register, word) in [
-        (Register::Idle, 0),
-        (Register::Entering(0), 0x00_0001),
-        (Register::Entering(5), 0x50_0001),
-        (live(0, false, false), 0x00_0002),
-        (live(3, false, false), 0x30_0002),
-        (live(3, true, false), 0x30_0006),
-        (live(3, true, true), 0x30_000e),
-        (live(0xfff_ffff_ffff, false, false), 0xffff_ffff_fff0_0002),
-        (live(0xfff_ffff_ffff, true, true), 0xffff_ffff_fff0_000e),
+// A word, its register, and the word of that again. Each can be added up by hand: the number times 2^20, 8 where moved, 4 where
+// declared, the tag.
+const WORDS: &str = "\
+0x0 = Idle = 0x0
+0x1 = Entering(0) = 0x1
+0x500001 = Entering(5) = 0x500001
+0x2 = Live { number: 0, declared: false, moved: false } = 0x2
+0x300002 = Live { number: 3, declared: false, moved: false } = 0x300002
+0x300006 = Live { number: 3, declared: true, moved: false } = 0x300006
+0x30000e = Live { number: 3, declared: true, moved: true } = 0x30000e
+0xfffffffffff00002 = Live { number: 17592186044415, declared: false, moved: false } = 0xfffffffffff00002
+0xfffffffffff0000e = Live { number: 17592186044415, declared: true, moved: true } = 0xfffffffffff0000e
+";
+
+fn registers_told(alloc: Global) -> Result<String, NoMemory> {
+    let mut told = String::new(alloc);
+    for word in [
+        0,
+        1,
+        0x50_0001,
+        2,
+        0x30_0002,
+        0x30_0006,
+        0x30_000e,
+        0xffff_ffff_fff0_0002,
+        0xffff_ffff_fff0_000e,
     ] {
-        assert_eq!(rt; register.word(), word);
-        assert_eq!(rt; Register::from_word(word), register);
+        let register = Register::from_word(word);
+        let again = register.word();
+        write!(told, "{word:#x} = {register:?} = {again:#x}\n")?;
     }
+    Ok(told)
+}
+
+#[test]
+fn words_of_registers(rt: HostRuntime) -> Result<(), Fail> {
+    assert_eq!(rt; registers_told(rt.alloc())?.as_str(), WORDS);
+    Ok(())
 }

@@ -11,13 +11,19 @@ pub submit-two-requires-clause-list : goal.submit-two-requires-clause-list
 submit-two-requires-clause-list g c = (c.in_ok-groups.ensures.board (board_id c.in_ok-board.board) c.in_ok-board.ensures.commit, search rules)
 
 pub finish-one-requires-clause-engine : goal.finish-one-requires-clause-engine
-finish-one-requires-clause-engine g c = ((c.in_ok-store.ensures.board (board_id c.in_ok-board.board) c.in_ok-board.ensures.buckets.1, search rules, search rules), (c.in_ok-groups.ensures.board (board_id c.in_ok-board.board) c.in_ok-board.ensures.commit, search rules))
+finish-one-requires-clause-engine g c = (
+  (c.in_ok-store.ensures.board (board_id c.in_ok-board.board) c.in_ok-board.ensures.buckets.1, search rules, search rules),
+  (c.in_ok-groups.ensures.board (board_id c.in_ok-board.board) c.in_ok-board.ensures.commit, search rules),
+)
 
 pub finish-two-requires-clause-engine : goal.finish-two-requires-clause-engine
-finish-two-requires-clause-engine g c = ((c.in_ok-store.ensures.board (board_id c.in_ok-board.board) c.in_ok-board.ensures.buckets.1, search rules, search rules), (c.in_ok-groups.ensures.board (board_id c.in_ok-board.board) c.in_ok-board.ensures.commit, search rules))
+finish-two-requires-clause-engine g c = (
+  (c.in_ok-store.ensures.board (board_id c.in_ok-board.board) c.in_ok-board.ensures.buckets.1, search rules, search rules),
+  (c.in_ok-groups.ensures.board (board_id c.in_ok-board.board) c.in_ok-board.ensures.commit, search rules),
+)
 
 pub take_oldest-context-requires-clause-board : goal.take_oldest-context-requires-clause-board
 take_oldest-context-requires-clause-board g c = c.in_ok-groups.ensures.board (board_id c.in_ok-board.board) c.in_ok-board.ensures.commit
 
-pub take_oldest-requires-clause-board : goal.take_oldest-requires-clause-board
-take_oldest-requires-clause-board g c = c.in_ok-groups.ensures.board (board_id c.in_ok-board.board) c.in_ok-board.ensures.commit
+pub take_oldest-left-requires-clause-board : goal.take_oldest-left-requires-clause-board
+take_oldest-left-requires-clause-board g c = c.in_ok-groups.ensures.board (board_id c.in_ok-board.board) c.in_ok-board.ensures.commit

@@ -15,4 +15,4 @@ publish-requires-clause-may c =
     let list : (commit v).stamped ≡ (listing j c.args.rid (own_commit c.args.commit)).stamped = search rules in
     subst (λ l. MayPublish (members (beyond v)) l) (sym list)
     (subst (λ (ms : Members). MayPublish ms (listing j c.args.rid (own_commit c.args.commit)).stamped) (sym who)
-    (may_alone j (own_session c.args.pass.now) (own_commit c.args.commit) c.args.rid c.requires.live c.requires.plain c.requires.only c.requires.commit.1))
+    (may_alone j (own_session c.args.pass.now) (own_commit c.args.commit) c.args.rid c.requires.open.0.0 c.requires.open.0.1 c.requires.only c.requires.commit.1))
