@@ -6,7 +6,7 @@ use crate::order::Order;
 use crate::order_tests::{BETWEEN, MEETING, MEETING_HOLDS, TWO_PUTS, is_meeting};
 use hg_audit::{Verdict, audit};
 use hg_base::{DEFAULT_BUCKETS, DEFAULT_LONG, DEFAULT_ROUNDS};
-use hg_run::{close, dump_on, open_beside, open_for, replay_on, run_on};
+use hg_run::{Plan, Reader, close, dump_on, open_beside, open_for, replay_on, run_on};
 use hg_script::{Script, read_script};
 use hg_words::{Command, Options};
 use std::alloc::Global;
@@ -29,18 +29,10 @@ fn replayed<R: Threads + Wait + Sync>(
         rounds: DEFAULT_ROUNDS,
         sweepers: 1,
     };
-    let (engine, list, collectors) = open_for(alloc, script, &options)?;
-    let (mut list, mut collectors) = (list, collectors);
-    let transcript = replay_on(
-        rt,
-        alloc,
-        script,
-        &options,
-        &engine,
-        &mut list,
-        &mut collectors,
-    )?;
-    let totals = close(rt, &engine, list.into_vec(), collectors);
+    let (engine, crew) = open_for(alloc, script, &options)?;
+    let mut crew = crew;
+    let transcript = replay_on(rt, alloc, script, &options, &engine, &mut crew)?;
+    let totals = close(rt, &engine, crew.sessions, crew.collectors);
     Ok(transcript.with_totals(&totals)?)
 }
 
@@ -68,19 +60,15 @@ fn driven<R: Threads + Wait + Sync>(
         rounds: 0,
         sweepers: 1,
     };
-    let (engine, list, collectors) = open_for(alloc, script, &options)?;
-    let (mut list, mut collectors) = (list, collectors);
-    let transcript = run_on(
-        rt,
-        alloc,
-        script,
-        &options,
-        order,
-        &engine,
-        &mut list,
-        &mut collectors,
-    )?;
-    let totals = close(rt, &engine, list.into_vec(), collectors);
+    let (engine, crew) = open_for(alloc, script, &options)?;
+    let mut crew = crew;
+    let plan = Plan {
+        gate: order,
+        rounds: options.rounds,
+        long: options.long,
+    };
+    let transcript = run_on(rt, alloc, script, &plan, &engine, &mut crew)?;
+    let totals = close(rt, &engine, crew.sessions, crew.collectors);
     Ok(transcript.with_totals(&totals)?)
 }
 
@@ -111,20 +99,19 @@ fn dumped<R: Threads + Wait + Sync>(
         rounds: 0,
         sweepers: 1,
     };
-    let (engine, list, collectors, extra) = open_beside(alloc, script, &options)?;
-    let (mut list, mut collectors, mut extra) = (list, collectors, extra);
-    let (_, at) = dump_on(
-        rt,
+    let (engine, crew, extra) = open_beside(alloc, script, &options)?;
+    let (mut crew, mut extra) = (crew, extra);
+    let reader = Reader {
         alloc,
+        engine: &engine,
         script,
-        &options,
-        order,
-        &engine,
-        &mut list,
-        &mut collectors,
-        &mut extra,
-        into,
-    )?;
+    };
+    let plan = Plan {
+        gate: order,
+        rounds: options.rounds,
+        long: options.long,
+    };
+    let (_, at) = dump_on(rt, &reader, &plan, &mut crew, &mut extra, into)?;
     Ok(at)
 }
 

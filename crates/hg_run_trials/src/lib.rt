@@ -3,6 +3,7 @@
 //!
 //!     serve_tests     sources and sinks that fail, that watch how they are called, and that never fail
 //!     order_tests     workers that are held, so that one schedule alone is possible
+//!     round_tests     the same, of rounds that are made while a session stays
 //!     driver_tests    the drivers by themselves, each once
 //!     order           a gate that holds workers
 //!     watched         a source and a sink that watch how they are called
@@ -16,6 +17,8 @@ mod driver_tests;
 mod order;
 #[cfg(test)]
 mod order_tests;
+#[cfg(test)]
+mod round_tests;
 #[cfg(test)]
 mod serve_tests;
 #[cfg(test)]
