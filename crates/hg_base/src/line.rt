@@ -11,7 +11,7 @@ use std::alloc::Global;
 use std::marker::Model;
 
 /// What a statement is answered.
-#[derive(Debug, Drop)]
+#[derive(Drop)]
 pub enum Answer {
     /// The snapshot of the transaction.
     Begun(u64),
@@ -39,7 +39,7 @@ pub enum Answer {
 }
 
 /// An answer, with the snapshot and the commit number of a statement that is a transaction of its own.
-#[derive(Debug, Drop)]
+#[derive(Drop)]
 pub struct Reply {
     pub at: Option<u64>,
     pub answer: Answer,
@@ -47,7 +47,7 @@ pub struct Reply {
 }
 
 /// The reply to a session's record. The reports of a run have session 0, and the round as their place.
-#[derive(Debug, Drop)]
+#[derive(Drop)]
 pub struct Line {
     pub session: u32,
     pub place: u64,
@@ -55,7 +55,7 @@ pub struct Line {
 }
 
 /// Lines in the order in which they are printed.
-#[derive(Debug, Drop)]
+#[derive(Drop)]
 pub struct LineList {
     lines: Vec<Line>,
 }
@@ -119,7 +119,7 @@ pub struct Totals {
 }
 
 /// All that a run prints.
-#[derive(Debug, Drop)]
+#[derive(Drop)]
 pub struct Printed {
     pub lines: LineList,
     pub totals: Totals,

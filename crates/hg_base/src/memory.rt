@@ -12,7 +12,7 @@ use std::alloc::Global;
 use std::marker::Model;
 
 /// Gives bytes that lie in memory, at most `most` of them a call. Calls are numbered from 1, and those listed fail.
-#[derive(Debug, Drop)]
+#[derive(Drop)]
 pub struct MemorySource {
     bytes: Vec<u8>,
     at: usize,
@@ -101,7 +101,7 @@ impl Source for MemorySource {
 
 /// Takes bytes into the room that was reserved, at most `most` of them a call. Calls are numbered from 1, and those
 /// listed fail, as does a call past the room.
-#[derive(Debug, Drop)]
+#[derive(Drop)]
 pub struct MemorySink {
     bytes: Vec<u8>,
     room: usize,

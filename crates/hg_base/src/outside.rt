@@ -48,7 +48,7 @@ pub trait Gate {
 }
 
 /// Holds nobody.
-#[derive(Clone, Copy, Debug)]
+#[derive(Clone, Copy)]
 pub struct NoGate;
 
 impl Gate for NoGate {

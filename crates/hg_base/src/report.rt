@@ -18,7 +18,7 @@ pub enum Kind {
 
 /// A live snapshot that a pass met in a session's register. Where the session began anew before its mask was read, the scope may be
 /// that of its later transaction.
-#[derive(Clone, Copy, Debug, PartialEq, Eq)]
+#[derive(Clone, Copy, PartialEq, Eq)]
 pub struct Entry {
     pub session: u32,
     pub number: u64,
@@ -28,7 +28,7 @@ pub struct Entry {
 }
 
 /// An entry as it is printed.
-#[derive(Clone, Copy, Debug, PartialEq, Eq)]
+#[derive(Clone, Copy, PartialEq, Eq)]
 pub struct Told {
     pub session: u32,
     pub number: u64,
@@ -36,7 +36,7 @@ pub struct Told {
 }
 
 /// Entries by ascending session. A list has its room from when it is made, and can be filled again.
-#[derive(Debug, Drop)]
+#[derive(Drop)]
 pub struct EntryList {
     entries: Vec<Entry>,
 }
@@ -93,7 +93,7 @@ impl EntryList {
 }
 
 /// Told entries by ascending session.
-#[derive(Debug, Drop)]
+#[derive(Drop)]
 pub struct ToldList {
     told: Vec<Told>,
 }
@@ -139,7 +139,7 @@ impl ToldList {
 
 /// A pass as its collector lends it: the mark and horizon of its gather, how many versions it removed, and the live
 /// snapshots that it met.
-#[derive(Debug, Drop)]
+#[derive(Drop)]
 pub struct Report {
     pub kind: Kind,
     pub mark: u64,
@@ -149,7 +149,7 @@ pub struct Report {
 }
 
 /// A report as it is printed.
-#[derive(Debug, Drop)]
+#[derive(Drop)]
 pub struct Sweep {
     pub kind: Kind,
     pub mark: u64,

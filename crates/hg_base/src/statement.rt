@@ -26,7 +26,7 @@ pub enum Statement {
 }
 
 /// A record of a session: its place among all records of the script, counted from 1, the session and its statement.
-#[derive(Debug, Drop)]
+#[derive(Drop)]
 pub struct Record {
     pub place: u64,
     pub session: u32,

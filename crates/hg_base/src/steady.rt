@@ -12,7 +12,7 @@ use std::alloc::Global;
 use std::marker::Model;
 
 /// Gives bytes that lie in memory, at most `most` of them a call.
-#[derive(Debug, Drop)]
+#[derive(Drop)]
 pub struct SteadySource {
     bytes: Vec<u8>,
     at: usize,
@@ -64,7 +64,7 @@ impl Source for SteadySource {
 ///
 /// It never tells as a sink what it took: a sink that tells has to tell for good, and this one keeps no more than its room holds.
 /// `bytes` lends what was kept.
-#[derive(Debug, Drop)]
+#[derive(Drop)]
 pub struct SteadySink {
     bytes: Vec<u8>,
     room: usize,

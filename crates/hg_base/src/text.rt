@@ -7,7 +7,7 @@ use crate::limits::MOST_TEXT_BYTES;
 use std::marker::Model;
 
 /// From 0 to 64 bytes, of any values: they need not be UTF-8. They lie in the value itself, and take no block of the heap.
-#[derive(Debug, Drop)]
+#[derive(Drop)]
 pub struct Text {
     bytes: [u8; MOST_TEXT_BYTES],
     len: u8,

@@ -6,14 +6,14 @@ ghost use Rattle.hg_base.specs.Values.{is_text, kind_of, number_of};
 use crate::text::Text;
 
 /// What a column holds in each row.
-#[derive(Clone, Copy, Debug, PartialEq, Eq)]
+#[derive(Clone, Copy, PartialEq, Eq)]
 pub enum Column {
     Number,
     Text,
 }
 
 /// What a row holds in one column.
-#[derive(Debug, Drop)]
+#[derive(Drop)]
 pub enum Value {
     Number(i64),
     Text(Text),

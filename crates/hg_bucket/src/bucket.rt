@@ -24,7 +24,7 @@ use std::marker::Model;
 use std::sync::ledger::Ledger;
 
 /// The records of a bucket, with counters of their versions.
-#[derive(Debug, Drop)]
+#[derive(Drop)]
 pub struct Bucket {
     records: Records,
     made: u64,

@@ -21,7 +21,7 @@ use hg_chain::Chains;
 use hg_space::{RidIndex, Roster, TableSpace};
 
 /// A record, and its place.
-#[derive(Clone, Copy, Debug)]
+#[derive(Clone, Copy)]
 pub(crate) struct Placed {
     pub rid: Rid,
     pub place: u64,

@@ -19,7 +19,7 @@ use std::alloc::Global;
 use std::marker::Model;
 
 /// Records, each with its versions.
-#[derive(Debug, Drop)]
+#[derive(Drop)]
 pub(crate) struct Records {
     pub index: RidIndex,
     pub space: TableSpace,

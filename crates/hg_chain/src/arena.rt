@@ -11,7 +11,7 @@ use hg_base::{Image, Writer};
 use std::alloc::Global;
 
 /// A head for each place up to some number, and the free nodes as one more strand.
-#[derive(Debug, Drop)]
+#[derive(Drop)]
 pub(crate) struct Arena {
     pub heads: Vec<Head>,
     pub nodes: Vec<Node>,

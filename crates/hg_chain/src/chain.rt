@@ -17,7 +17,7 @@ use std::marker::Model;
 use std::sync::ledger::Ledger;
 
 /// A record's versions, newest first.
-#[derive(Debug, Drop)]
+#[derive(Drop)]
 pub struct Chain {
     versions: VecDeque<Version>,
 }

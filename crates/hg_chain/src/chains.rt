@@ -20,7 +20,7 @@ use std::marker::Model;
 use std::sync::ledger::Ledger;
 
 /// A chain of versions for each place.
-#[derive(Debug, Drop)]
+#[derive(Drop)]
 pub struct Chains {
     arena: Arena,
 }

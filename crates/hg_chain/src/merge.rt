@@ -11,7 +11,7 @@ use std::sync::ledger::Ledger;
 
 /// Where a merge stands: how many snapshots aren't passed, and the number of the version that was settled last. One
 /// turn settles one version or passes one snapshot.
-#[derive(Clone, Copy, Debug)]
+#[derive(Clone, Copy)]
 pub struct Merge {
     pub left: usize,
     pub successor: Option<u64>,

@@ -10,7 +10,7 @@ use std::mem::size_of;
 /// A version and the node behind it. The numbers of its writer stand apart from one another, so that a node has no more
 /// than 64 bytes. Whether the version is an open write is known where the first of a chain is: then `number` says
 /// nothing. A free node has no image.
-#[derive(Debug, Drop)]
+#[derive(Drop)]
 pub(crate) struct Node {
     pub next: u32,
     pub session: u32,
@@ -22,14 +22,14 @@ pub(crate) struct Node {
 const _: () = prove!(size_of::<Node>() <= 64);
 
 /// So many nodes from the first on, each of which names the next.
-#[derive(Clone, Copy, Debug)]
+#[derive(Clone, Copy)]
 pub(crate) struct Strand {
     pub first: u32,
     pub count: u32,
 }
 
 /// The chain of a place, and whether its first version is an open write.
-#[derive(Clone, Copy, Debug)]
+#[derive(Clone, Copy)]
 pub(crate) struct Head {
     pub strand: Strand,
     pub is_open: bool,

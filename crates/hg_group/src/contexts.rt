@@ -19,7 +19,7 @@ use std::snapshot::Snapshot;
 use std::sync::Wait;
 
 /// A group that was published, with the records that it wrote, for the collector that goes by groups.
-#[derive(Debug, Drop)]
+#[derive(Drop)]
 pub struct GroupContext {
     pub number: u64,
     pub records: RidList,

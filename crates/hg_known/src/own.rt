@@ -18,7 +18,7 @@ use std::marker::Model;
 use std::ops::Bound;
 
 /// A transaction of a session. Ordered by session, and then by number.
-#[derive(Clone, Copy, Debug, PartialEq, Eq, PartialOrd, Ord)]
+#[derive(Clone, Copy, PartialEq, Eq, PartialOrd, Ord)]
 pub struct Tx {
     pub session: u32,
     pub number: u64,

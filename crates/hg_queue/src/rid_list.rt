@@ -10,7 +10,7 @@ use std::marker::Model;
 
 /// Records by their ids. A place can be reserved before it is used, so that what comes between can't fail. One record lies in
 /// the list itself: the transaction of a lone statement takes no block of the heap.
-#[derive(Debug, Drop)]
+#[derive(Drop)]
 pub struct RidList {
     rids: SmallVec<Rid, 1>,
 }

@@ -11,7 +11,7 @@ use hg_base::Rid;
 pub(crate) const WAYS: usize = 8;
 
 /// What a bin says of a record: its place; that it has none; or nothing.
-#[derive(Clone, Copy, Debug)]
+#[derive(Clone, Copy)]
 pub(crate) enum Finding {
     There(u32),
     Absent,

@@ -16,7 +16,7 @@ use std::collections::BTreeMap;
 use std::marker::Model;
 
 /// A place for each record, and no place for two.
-#[derive(Debug, Drop)]
+#[derive(Drop)]
 pub struct RidIndex {
     places: BTreeMap<Rid, u32>,
     slots: Slots,

@@ -10,21 +10,21 @@ use std::alloc::Global;
 use std::marker::Model;
 
 /// A record that a list has, and its place.
-#[derive(Clone, Copy, Debug)]
+#[derive(Clone, Copy)]
 pub(crate) struct Listed {
     key: u64,
     place: u64,
 }
 
 /// Where the record of a place stands: in which table's list, and at which index.
-#[derive(Clone, Copy, Debug)]
+#[derive(Clone, Copy)]
 pub(crate) struct Standing {
     table: TableId,
     at: u32,
 }
 
 /// For each table a list of some of its records.
-#[derive(Debug, Drop)]
+#[derive(Drop)]
 pub struct Roster {
     lists: Vec<Vec<Listed>>,
     standings: Vec<Standing>,

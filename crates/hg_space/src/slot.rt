@@ -6,7 +6,7 @@ ghost use Rattle.hg_space.specs.Slots.{is_of, is_used, is_empty, used_by, withou
 use hg_base::{Rid, TableId};
 
 /// Whether a slot has a record. `Left`: its record was taken out of a full bin, of which some records may be in the order alone.
-#[derive(Clone, Copy, Debug)]
+#[derive(Clone, Copy)]
 pub(crate) enum State {
     Empty,
     Left,
@@ -14,7 +14,7 @@ pub(crate) enum State {
 }
 
 /// A record and its place, if the slot is used.
-#[derive(Clone, Copy, Debug)]
+#[derive(Clone, Copy)]
 pub(crate) struct Slot {
     pub(crate) key: u64,
     pub(crate) place: u32,

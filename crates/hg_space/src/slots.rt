@@ -14,7 +14,7 @@ use std::collections::BTreeMap;
 use std::marker::Model;
 
 /// Bins of slots. A record may be in one bin only, which its hash tells.
-#[derive(Debug, Drop)]
+#[derive(Drop)]
 pub(crate) struct Slots {
     bins: Vec<[Slot; WAYS]>,
 }

@@ -13,7 +13,7 @@ use std::marker::Model;
 use std::mem;
 
 /// Places for images.
-#[derive(Debug, Drop)]
+#[derive(Drop)]
 pub struct TableSpace {
     slots: Vec<Place>,
     first: Option<u64>,

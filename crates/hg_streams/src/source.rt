@@ -9,7 +9,7 @@ use hg_base::{Failed, MOST_SCRIPT_BYTES, Source};
 use std::alloc::{AllocError, Global};
 
 /// Why a source was not read to its end.
-#[derive(Clone, Copy, Debug, PartialEq, Eq)]
+#[derive(Clone, Copy, PartialEq, Eq)]
 pub enum ReadError {
     Fault,
     TooLong,
