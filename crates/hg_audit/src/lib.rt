@@ -28,4 +28,4 @@ mod verdict;
 
 pub use fault::{Found, what_is_right_is_sound};
 pub use shape::Command;
-pub use verdict::{Verdict, Why, audit};
+pub use verdict::{Verdict, Why, audit, verdict_line};

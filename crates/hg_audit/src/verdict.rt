@@ -1,6 +1,6 @@
 //! What an audit answers: that a text is sound, or what fails first and the record of the text that shows it.
 
-ghost use Rattle.std.specs.Prelude.{◌≡◌, ◌↔◌, List, length, take, IfOk};
+ghost use Rattle.std.specs.Prelude.{◌≡◌, ◌↔◌, ◌++◌, List, length, take, IfOk, codes, string_bytes};
 ghost use Rattle.std.specs.List.{flat_map};
 ghost use Rattle.hg_base.specs.declared.line.Printed as base;
 ghost use Rattle.hg_base.specs.Lists.{Each};
@@ -11,7 +11,7 @@ ghost use Rattle.hg_script.specs.Lawful.{IsLawful};
 ghost use Rattle.hg_known.specs.Lines.{OpensKnown};
 ghost use Rattle.hg_audit.specs.declared.verdict.Verdict.TheVariants as verdicts;
 ghost use Rattle.hg_audit.specs.Found.{IsFound};
-ghost use Rattle.hg_audit.specs.Verdict.{IsFinding, IsVerdict, IsOfRun, IsAudit, IsSoundText, first_record, last_record};
+ghost use Rattle.hg_audit.specs.Verdict.{IsFinding, IsVerdict, IsOfRun, IsAudit, IsSoundText, first_record, last_record, verdict_text};
 
 use crate::fault::{Found, find_fault};
 use crate::shape::{Command, has_session_report};
@@ -77,6 +77,14 @@ impl fmt::Display for Verdict {
             Verdict::Unsound { line, why } => write!(f, "unsound,{line},{why}"),
         }
     }
+}
+
+/// The verdict as a line, with its line feed.
+pub fn verdict_line(alloc: Global, verdict: Verdict) -> Result<String, NoMemory>
+    ensures { IfOk result (λ text. string_bytes text ≡ verdict_text verdict ++ codes "\n") }
+{
+    let text = format!(in alloc; "{verdict}\n")?;
+    Ok(text)
 }
 
 // How many records of the text a line has.

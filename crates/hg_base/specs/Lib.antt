@@ -21,4 +21,3 @@ pub mod Faults
 pub mod Memory
 pub mod Packed
 pub mod Storage
-pub mod Standard

@@ -1,24 +1,15 @@
 //! From a script and a text to the line of the verdict on the text.
 
-ghost use Rattle.std.specs.Prelude.{◌≡◌, ◌++◌, IfOk, IfErr, codes, string_bytes};
-ghost use Rattle.hg_audit.specs.Verdict.{verdict_text};
+ghost use Rattle.std.specs.Prelude.{IfOk, IfErr};
 ghost use Rattle.hg_run.specs.Judging.{IsJudgedBy};
 ghost use Rattle.hg_run.specs.Serving.{RefusesBytes};
 ghost use Rattle.hg_run.specs.Words.{audits};
 
-use hg_audit::{Verdict, audit};
-use hg_base::NoMemory;
+use crate::parts::part;
+use crate::status::Status;
+use hg_audit::{audit, verdict_line};
 use hg_script::read_script;
-use hg_streams::{Status, part};
 use std::alloc::Global;
-
-// The line of a verdict.
-fn verdict_line(alloc: Global, verdict: Verdict) -> Result<String, NoMemory>
-    ensures { IfOk result (λ text. string_bytes text ≡ verdict_text verdict ++ codes "\n") }
-{
-    let text = format!(in alloc; "{verdict}\n")?;
-    Ok(text)
-}
 
 /// The line of the verdict on the text that follows the script.
 pub(crate) fn audit_bytes(alloc: Global, bytes: &[u8]) -> Result<Vec<u8>, Status>

@@ -10,9 +10,10 @@
 //!     dump_all        the script         the text of a run, with two dumps
 //!     write_all       the text           Done               WriteFault
 //!
-//! `dump` is a `run` during which one more session, the reader, reads all tables. `load` has a seed instead of a source: the steps between the first and the last are `make_script`, a replay, and the text of its
-//! totals only. For `audit` the bytes are split at a line `====` (`part`) into a script, which is read as above, and a text, which is
-//! checked against it; the text that is written is the verdict. Running out of memory may end every step but the last. The text is
+//! `dump` is a `run` during which one more session, the reader, reads all tables. `load` has a seed instead of a source: the steps
+//! between the first and the last are `make_script`, a replay, and the text of its totals only. For `audit` the bytes are split at a
+//! line `====` (`part`) into a script, which is read as above, and a text, which is checked against it; the text that is written is
+//! the verdict. Running out of memory may end every step but the last. The text is
 //! complete before its first byte is written. So a refused script has run nothing, and what a sink took is a prefix of the text of a
 //! whole run.
 //!
@@ -23,23 +24,33 @@
 //! seed. For `audit` it says whether the text after the script is sound for it, and if not, what fails first. For `dump` the value is
 //! sound next to a reader of all tables at a snapshot, and two dumps of the history that it prints follow: at that snapshot, and at the
 //! end.
+//!
+//! A source is read to its end (`read_all`), and a text is written to a sink (`write_all`). Both count their faults, and may tell their
+//! bytes. What was read is a prefix of what the source had (`HasGiven`), and what a sink took is a prefix of the text: the whole text,
+//! unless the sink failed. `Status` says how a call ended.
 #![tactic(auto)]
 
 mod audit;
 mod dump;
 mod laws;
 mod load;
+mod parts;
 mod replay;
 mod run;
+mod sink;
+mod source;
+mod standard;
+mod status;
 mod steady;
 mod steps;
 
 pub use hg_collectors::{Collectors, IntervalWorker, Plan};
 pub use hg_drivers::{Reader, close, dump_on, open_beside, open_for, replay_on, run_on};
 pub use hg_fit::{rows_have_their_columns, what_is_sound_fits};
-pub use hg_streams::Status;
 pub use laws::{
     replays_print_the_same, text_determines_what_was_printed, what_is_sound_with_a_reader_fits,
 };
+pub use standard::{StdinSource, StdoutSink};
+pub use status::Status;
 pub use steady::serve_steadily;
 pub use steps::serve;

@@ -128,8 +128,8 @@ fn put_at(alloc: Global, version: u8, tables: &Tables, row: &ByteRecord) -> Resu
     let table = tables.find(field(row, 2));
     Ok(Ask::Put {
         table,
-        key: read_natural(field(row, 3)),
         values: Values::read(alloc, version, kinds_at(tables.as_slice(), table), row)?,
+        key: read_natural(field(row, 3)),
     })
 }
 

@@ -8,8 +8,8 @@ use Rattle.hg_base.proofs.RidOrder.{rids_equiv}
 use Rattle.hg_space.specs.declared.slot.Slot.{Slot}
 use Rattle.hg_space.specs.declared.slot.State.{State}
 use Rattle.hg_space.specs.declared.slot.State.TheVariants.{Empty, Left, Used}
-use Rattle.hg_space.specs.declared.bin.Finding.{Finding}
-use Rattle.hg_space.specs.declared.bin.Finding.TheVariants.{There}
+use Rattle.hg_space.specs.declared.slots.Finding.{Finding}
+use Rattle.hg_space.specs.declared.slots.Finding.TheVariants.{There}
 use Rattle.hg_space.specs.Slots.{has_record, was_never_used, is_used, is_empty, is_of, used_by, left_by, look_from, put_in, without, taken_out, Fits}
 
 -- a slot with a record is no other record's

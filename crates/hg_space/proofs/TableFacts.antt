@@ -15,7 +15,7 @@ use Rattle.hg_base.specs.RidOrder.{rid_cmp}
 use Rattle.hg_base.proofs.HistoryFacts.{same_rid_equal}
 use Rattle.hg_base.proofs.RidOrder.{at_rid, is_same, rids_equiv}
 use Rattle.hg_space.specs.declared.slot.Slot.{Slot}
-use Rattle.hg_space.specs.declared.bin.Finding.{Finding}
+use Rattle.hg_space.specs.declared.slots.Finding.{Finding}
 use Rattle.hg_space.specs.Index.{place_of}
 use Rattle.hg_space.specs.Slots.{is_used, used_by, look_from, put_in, bin_of, look_at, Fits, StayFit, AreFaithful}
 use Rattle.hg_space.proofs.IndexFacts.{Changed}

@@ -6,8 +6,8 @@ use Rattle.hg_base.specs.History.{same_rid}
 use Rattle.hg_space.specs.declared.slot.Slot.{Slot}
 use Rattle.hg_space.specs.declared.slot.State.{State}
 use Rattle.hg_space.specs.declared.slot.State.TheVariants.{Empty, Left, Used}
-use Rattle.hg_space.specs.declared.bin.Finding.{Finding}
-use Rattle.hg_space.specs.declared.bin.Finding.TheVariants.{There, Absent, Unknown}
+use Rattle.hg_space.specs.declared.slots.Finding.{Finding}
+use Rattle.hg_space.specs.declared.slots.Finding.TheVariants.{There, Absent, Unknown}
 use Rattle.hg_space.specs.Index.{place_of}
 
 -- ---- a slot

@@ -8,8 +8,7 @@ ghost use Rattle.hg_base.specs.History.{same_rid};
 ghost use Rattle.hg_base.specs.RidOrder.{rid_cmp};
 ghost use Rattle.hg_space.specs.Index.{place_of, HasPlace, IsIndex, IsNextKey};
 
-use crate::bin::Finding;
-use crate::slots::Slots;
+use crate::slots::{Finding, Slots};
 use hg_base::{NoMemory, Rid, TableId};
 use std::alloc::Global;
 use std::collections::BTreeMap;

@@ -33,7 +33,6 @@
 //! record once.
 #![tactic(auto)]
 
-mod bin;
 mod index;
 mod laws;
 mod place;

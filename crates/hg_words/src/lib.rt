@@ -17,8 +17,7 @@
 #![tactic(auto)]
 
 mod line;
-mod matches;
 mod options;
 
-pub use matches::read_words;
+pub use line::read_words;
 pub use options::{Command, Options, WordsRefusal};
