@@ -2,11 +2,8 @@
 
 ghost use Rattle.std.specs.Prelude.{◌≡◌, ◌+◌, ◌*◌, ◌≤◌, length, map, IfOk};
 ghost use Rattle.hg_script.specs.Lawful.{IsLawful};
-ghost use Rattle.hg_session.specs.declared.engine.Engine.{Engine};
 ghost use Rattle.hg_session.specs.Engines.{engine_sizes};
-ghost use Rattle.hg_session.specs.Passing.{AreAlone};
 ghost use Rattle.hg_words.specs.Options.{AreWithin};
-ghost use Rattle.hg_drivers.specs.Collecting.{AreCollectors, passes_of};
 ghost use Rattle.hg_drivers.specs.Driven.{IsOpenedFor, IsOpenedWith, sessions_in};
 ghost use Rattle.hg_drivers.specs.Reader.{IsOpenedBeside};
 
@@ -45,33 +42,6 @@ fn sweepers_of(options: &Options) -> u32
     }
 }
 
-// The collectors of an engine. If `sweepers` is above 1, a team of that many helpers makes the interval rounds.
-fn collectors_of(
-    alloc: Global,
-    passes: Passes,
-    sweepers: u32,
-    sessions: u32,
-    tables: u32,
-) -> Result<Collectors, NoMemory>
-    requires tables { tables ≤ 64 }
-    requires sweepers { sweepers ≤ 16 }
-    ensures same { IfOk result (λ c. passes_of c ≡ passes) }
-    ensures own { (e : Engine) → AreAlone e passes → (engine_sizes e).sessions ≡ sessions →
-        (engine_sizes e).tables ≡ tables → IfOk result (AreCollectors e) }
-{
-    let Passes {
-        group,
-        table,
-        interval,
-    } = passes;
-    let room = Room {
-        sessions,
-        tables,
-        sweepers,
-    };
-    Collectors::new(alloc, group, table, interval, room)
-}
-
 // An engine for the tables of a script, with so many sessions more than the script has. A session may run as many statements as the
 // script has, and two more for each of the further sessions.
 fn open_with(
@@ -93,8 +63,17 @@ fn open_with(
     // A session has at most all records, and each begins one transaction and stores one write at most.
     let quota = (script.record_count() as u64 + 2 * more as u64).max(1);
     let (engine, list, passes) = Engine::open(alloc, sessions, &tables, options.buckets, quota)?;
-    let sweepers = sweepers_of(options);
-    let collectors = collectors_of(alloc, passes, sweepers, sessions, tables.len() as u32)?;
+    let Passes {
+        group,
+        table,
+        interval,
+    } = passes;
+    let room = Room {
+        sessions,
+        tables: tables.len() as u32,
+        sweepers: sweepers_of(options),
+    };
+    let collectors = Collectors::new(alloc, group, table, interval, room)?;
     let crew = Crew {
         sessions: list.into_vec(),
         collectors,

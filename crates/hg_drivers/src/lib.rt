@@ -11,7 +11,6 @@
 //! early, and leaves no transaction and no cursor open.
 #![tactic(auto)]
 
-mod ask;
 mod beside;
 mod crew;
 mod dump;
@@ -20,7 +19,6 @@ mod engine;
 mod gc;
 mod loan;
 mod pass;
-mod play;
 mod reader;
 mod replay;
 mod reply;

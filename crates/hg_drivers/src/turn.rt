@@ -19,7 +19,7 @@ ghost use Rattle.hg_drivers.specs.Listed.{ArePlaced, AreReady, HasChangedAt, Has
 ghost use Rattle.hg_drivers.specs.Meeting.{HaveMet};
 ghost use Rattle.hg_drivers.specs.Asked.{IsAnswered, IsOnTables, MayAsk, Replies, collector_asked};
 
-use crate::ask::ask;
+use crate::reply::ask;
 use hg_base::{Answer, NoMemory, Reply, Statement};
 use hg_session::{Engine, Session};
 use std::sync::Wait;

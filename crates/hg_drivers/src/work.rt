@@ -9,10 +9,9 @@ ghost use Rattle.hg_session.specs.Sessions.{IsOf, number_of, left_of};
 ghost use Rattle.hg_drivers.specs.Asked.{IsOnTables, MayAsk};
 ghost use Rattle.hg_drivers.specs.Working.{HasTaken};
 
-use crate::ask::ask;
 use crate::end::close_one;
-use crate::play::asked;
-use crate::reply::inside;
+use crate::replay::asked;
+use crate::reply::{ask, inside};
 use hg_base::{Answer, Gate, Line, NoMemory, Record, Reply, Statement};
 use hg_script::RecordList;
 use hg_session::{Engine, Session};

@@ -5,10 +5,11 @@ use Rattle.hg_base.specs.declared.statement.Record.{Record}
 use Rattle.hg_rule.specs.declared.view.Sizes.{Sizes}
 use Rattle.hg_rule.specs.New.{EachFrom}
 use Rattle.hg_session.specs.declared.session.Session.{Session}
-use Rattle.hg_session.specs.Engines.{engine_sizes}
+use Rattle.hg_session.specs.Engines.{engine_board_id, engine_sizes}
 use Rattle.hg_session.specs.Opened.{IsNewOf}
-use Rattle.hg_drivers.specs.Collecting.{removed_in}
+use Rattle.hg_drivers.specs.Collecting.{passes_of, removed_in}
 use Rattle.hg_fit.proofs.Sessions.{sessions_within}
+use Rattle.hg_drivers.proofs.Alone.{lone}
 use Rattle.hg_drivers.proofs.Closes.{new_removed}
 use Rattle.hg_drivers.proofs.Hiring.{few}
 use Rattle.hg_drivers.proofs.engine.open_with.Goals as goal
@@ -32,6 +33,11 @@ returns-clause-opened c =
     let size : (engine_sizes e).sessions ≡ c.sessions.result + c.args.more = ap (λ (z : Sizes). z.sessions) c.in_ok-engine.ensures.sizes in
     let quota : (engine_sizes e).quota ≡ c.max-quota.result = ap (λ (z : Sizes). z.quota) c.in_ok-engine.ensures.sizes in
     let all : length c.args.script.now.records ≤ (engine_sizes e).quota = omega (arith, quota, c.max-quota.ensures, c.record_count.ensures.same) in
+    let t = engine_board_id e in
+    let passes = c.in_ok-engine.passes in
+    let alone = c.in_ok-engine.ensures.alone in
+    let is = c.in_ok-collectors.ensures.same in
+    let same : passes_of c.in_ok-collectors.collectors ≡ passes = λ i. record { group = is.0 i; table = is.1.0 i; interval = is.1.1 i } in
     record {
       sessions_are = omega (arith, size, c.sessions.ensures);
       tables = (search rules);
@@ -40,8 +46,9 @@ returns-clause-opened c =
       statements = λ j. let fewer = few (λ (r : Record). r.session == j) c.args.script.now.records in omega (arith, fewer, all);
       all = ap (λ (l : List Session). length l) c.into_vec.ensures ∙ (c.in_ok-engine.ensures.count ∙ sym size);
       new = subst (EachFrom (IsNewOf e (engine_sizes e).quota) 1) (sym c.into_vec.ensures) (subst (λ q. EachFrom (IsNewOf e q) 1 c.in_ok-engine.list) (sym quota) c.in_ok-engine.ensures.sessions);
-      collectors_are = c.in_ok-collectors.ensures.own e c.in_ok-engine.ensures.alone size (search rules);
-      none = λ k. ap (removed_in k) c.in_ok-collectors.ensures.same ∙ new_removed e c.in_ok-engine.passes k c.in_ok-engine.ensures.passes;
+      collectors_are = c.in_ok-collectors.ensures.own t (engine_sizes e)
+          (lone t 0 passes.group alone.group, lone t 1 passes.table alone.table, lone t 2 passes.interval alone.interval) size (search rules);
+      none = λ k. ap (removed_in k) same ∙ new_removed e passes k c.in_ok-engine.ensures.passes;
     }
 
 pub returns-clause-reads : goal.returns-clause-reads

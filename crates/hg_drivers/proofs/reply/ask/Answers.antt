@@ -12,7 +12,7 @@ use Rattle.hg_drivers.specs.Asked.{IsAnswered, MayAsk}
 use Rattle.hg_drivers.proofs.Cursors.{answered_fetch, any_rest, none_read, some_plain, some_write}
 use Rattle.hg_drivers.proofs.Refused.{number_got, number_scanned, number_put, number_deleted}
 use Rattle.hg_drivers.proofs.Told.{none_is, told}
-use Rattle.hg_drivers.proofs.ask.ask.Goals as goal
+use Rattle.hg_drivers.proofs.reply.ask.Goals as goal
 
 pub returns-in-Get-clause-answers : goal.returns-in-Get-clause-answers
 returns-in-Get-clause-answers g c =

@@ -1,7 +1,7 @@
 use Rattle.std.proofs.Common.{◌≡◌, drop}
 use Rattle.hg_drivers.specs.Collecting.{AreCollectors}
 use Rattle.hg_drivers.proofs.Going.{Going}
-use Rattle.hg_drivers.proofs.play.play.Given as goal
+use Rattle.hg_drivers.proofs.replay.play.Given as goal
 
 -- the replay goes on with the records that are left
 abbrev pub invariant-loop-next : goal.invariant-loop-next

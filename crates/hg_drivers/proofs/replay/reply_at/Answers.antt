@@ -8,7 +8,7 @@ use Rattle.hg_drivers.proofs.Asking.{gc_is, none_told, none_reported, ready_fewe
 use Rattle.hg_collectors.proofs.Among.{if_ok}
 use Rattle.hg_drivers.proofs.Cursors.{any_cursors, reads_in, rests_in}
 use Rattle.hg_collectors.proofs.Driving.{made_none}
-use Rattle.hg_drivers.proofs.play.reply_at.Goals as goal
+use Rattle.hg_drivers.proofs.replay.reply_at.Goals as goal
 
 pub returns-in-Some-clause-replied : goal.returns-in-Some-clause-replied
 returns-in-Some-clause-replied g c =

@@ -11,7 +11,7 @@ use Rattle.hg_drivers.specs.Asked.{IsOnTables}
 use Rattle.hg_drivers.specs.Listed.{AreReady, none_left}
 use Rattle.hg_collectors.specs.declared.collectors.Collectors.{Collectors}
 use Rattle.hg_drivers.proofs.Going.{Going, are_placed, going_first, going_turned, going_on, going_last, ready_less, ready_one_more, may_ask, on_tables}
-use Rattle.hg_drivers.proofs.play.play.Goals as goal
+use Rattle.hg_drivers.proofs.replay.play.Goals as goal
 
 -- the next record, and those behind it
 at : (e : Engine) (long : ℕ) (before now : Collectors) (list : List Session) (last : ℕ) (lines : List Line) (script : Script) (i : ℕ) (r : Record) →
