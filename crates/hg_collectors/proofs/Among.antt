@@ -11,11 +11,6 @@ of_among P a [] h i = absurd i
 of_among P a (x ∷ xs) h (inl e) = subst P e h.0
 of_among P a (x ∷ xs) h (inr i) = of_among P a xs h.1 i
 
-pub among_left : {A : Type 0} (a : A) (xs ys : List A) → IsAmong a xs → IsAmong a (xs ++ ys)
-among_left a [] ys i = absurd i
-among_left a (x ∷ xs) ys (inl e) = inl e
-among_left a (x ∷ xs) ys (inr i) = inr (among_left a xs ys i)
-
 pub among_right : {A : Type 0} (a : A) (xs ys : List A) → IsAmong a ys → IsAmong a (xs ++ ys)
 among_right a [] ys i = i
 among_right a (x ∷ xs) ys i = inr (among_right a xs ys i)

@@ -20,6 +20,7 @@ use Rattle.hg_rule.specs.declared.view.Event.{Event}
 use Rattle.hg_rule.specs.Rounds.{IsRoundOf, IsReportOf, entries_of, gone_in}
 use Rattle.hg_rule.specs.Views.{number, pass, pass_there, first_in, others, seeing}
 use Rattle.hg_rule.proofs.Rounds.{told_is}
+use Rattle.hg_rule.proofs.Lists.{among_left}
 use Rattle.hg_tracker.specs.Begun.{AtMost, SawGroups, gathering}
 use Rattle.hg_tracker.specs.Gathers.{IsFull, IsLoaded}
 use Rattle.hg_tracker.specs.Tries.{is_long, moved_by}
@@ -31,7 +32,6 @@ use Rattle.hg_sweep.specs.Teams.{SweepsBeside}
 use Rattle.hg_gc_group.specs.Collectors.{Collects}
 use Rattle.hg_core.specs.Counters.{removed_all}
 use Rattle.hg_collectors.specs.Swept.{HasSwept, swept_by}
-use Rattle.hg_collectors.proofs.Among.{among_left}
 
 -- ---- visits
 

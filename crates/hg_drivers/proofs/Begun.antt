@@ -15,12 +15,12 @@ use Rattle.hg_rule.specs.declared.view.Sight.TheVariants.{Did}
 use Rattle.hg_rule.specs.declared.view.View.{View}
 use Rattle.hg_rule.specs.Facts.{StartsWith, IsAmong, HasBegun, Known, Stands}
 use Rattle.hg_rule.specs.Rules.{IsTrueOf}
-use Rattle.hg_rule.proofs.Lists.{each_map}
+use Rattle.hg_rule.proofs.Lists.{each_map, among_left}
 use Rattle.hg_headline.specs.Counted.{Closes}
 use Rattle.hg_session.specs.Finished.{AreAmong, AreDone}
 use Rattle.hg_drivers.specs.Closed.{HasCome}
 use Rattle.hg_collectors.specs.Rounding.{BeganIn}
-use Rattle.hg_collectors.proofs.Among.{of_among, among_left}
+use Rattle.hg_collectors.proofs.Among.{of_among}
 
 pub each_among : {A : Type 0} (P : A → Type 0) (xs : List A) → ((x : A) → IsAmong x xs → P x) → Each P xs
 each_among P [] f = tt

@@ -23,8 +23,9 @@ use Rattle.hg_rule.specs.Agreed.{IsMet}
 use Rattle.hg_rule.specs.Facts.{EndsWith, IsAmong, IsHeard, Shown}
 use Rattle.hg_rule.specs.Moves.{joined, put_in}
 use Rattle.hg_rule.specs.Views.{number, session}
+use Rattle.hg_rule.proofs.Lists.{among_left}
 use Rattle.hg_store.proofs.Firsts.{known_at}
-use Rattle.hg_collectors.proofs.Among.{among_left, among_right}
+use Rattle.hg_collectors.proofs.Among.{among_right}
 use Rattle.hg_session.specs.declared.engine.Engine.{Engine}
 use Rattle.hg_session.specs.declared.session.Session.{Session}
 use Rattle.hg_session.specs.Engines.{engine_sizes}

@@ -15,6 +15,7 @@ use Rattle.hg_rule.specs.Facts.{IsAmong, StartsWith, Shown, groups, IsHeard}
 use Rattle.hg_rule.specs.Moves.{joined, meeting, put_in}
 use Rattle.hg_rule.specs.Agreed.{IsMet}
 use Rattle.hg_rule.specs.Views.{number, session, HasOnlySession}
+use Rattle.hg_rule.proofs.Lists.{among_left}
 use Rattle.hg_tracker.specs.Begun.{AtMost}
 use Rattle.hg_store.specs.Ends.{HasNoEnd}
 use Rattle.hg_headline.specs.Logged.{Logged}
@@ -23,7 +24,7 @@ use Rattle.hg_headline.specs.Following.{AreUpTo, IsOver, KnowsOpen}
 use Rattle.hg_headline.proofs.OpenWrites.{knows_open}
 use Rattle.hg_headline.proofs.OverBuckets.{state_logged}
 use Rattle.hg_session.specs.Finished.{AreAmong}
-use Rattle.hg_collectors.proofs.Among.{of_among, among_left, among_right}
+use Rattle.hg_collectors.proofs.Among.{of_among, among_right}
 use Rattle.hg_drivers.specs.Heard.{HasLog, HasHeard, HasSeen}
 
 -- ---- what is known of every log

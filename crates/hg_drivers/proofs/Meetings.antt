@@ -7,12 +7,13 @@ use Rattle.hg_rule.specs.Agreed.{AgreesWith, PartAgrees}
 use Rattle.hg_rule.specs.Facts.{IsAmong}
 use Rattle.hg_rule.specs.Moves.{meeting}
 use Rattle.hg_rule.specs.Views.{session, pass}
+use Rattle.hg_rule.proofs.Lists.{among_left}
 use Rattle.hg_session.specs.declared.session.Session.{Session}
 use Rattle.hg_session.specs.Sessions.{view_of, number_of, left_of, cursor_of}
 use Rattle.hg_session.specs.Finished.{AreAmong}
 use Rattle.hg_collectors.specs.Swept.{HasMetSessions}
 use Rattle.hg_drivers.specs.Meeting.{HasMetPass}
-use Rattle.hg_collectors.proofs.Among.{among_left, among_right}
+use Rattle.hg_collectors.proofs.Among.{among_right}
 
 -- ---- a session meets a pass
 

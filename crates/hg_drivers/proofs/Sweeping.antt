@@ -23,6 +23,7 @@ use Rattle.hg_rule.specs.Agreed.{RecordAgrees}
 use Rattle.hg_rule.specs.Facts.{IsAmong, heard, IsHeard}
 use Rattle.hg_rule.specs.Rounds.{round_record, round_told}
 use Rattle.hg_rule.specs.Views.{part_number, session, session_there, first_in, pass, pass_there}
+use Rattle.hg_rule.proofs.Lists.{among_left}
 use Rattle.hg_tracker.specs.Entries.{down_from}
 use Rattle.hg_headline.specs.Met.{IsMetReport}
 use Rattle.hg_core.proofs.Answering.{not_alone}
@@ -43,7 +44,6 @@ use Rattle.hg_drivers.specs.Meeting.{HasMetPass}
 use Rattle.hg_drivers.proofs.Cursors.{cursors_kept, cursors_same, put_still}
 use Rattle.hg_drivers.proofs.Gathering.{ShowsLog, ShowLogs, reached, at_rest, all_show, none_enters, held_are, moved_are}
 use Rattle.hg_drivers.proofs.Hearing.{heard_kept, over_at_most, seen_among}
-use Rattle.hg_collectors.proofs.Among.{among_left}
 use Rattle.hg_drivers.proofs.Listing.{by_two, log_at, logs_same}
 use Rattle.hg_collectors.proofs.Meetings.{met_none, met_more}
 use Rattle.hg_drivers.proofs.Caught.{caught_kept}

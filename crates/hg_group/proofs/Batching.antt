@@ -21,7 +21,7 @@ use Rattle.hg_rule.specs.Holding.{beyond, farther, bucket, bucket_number, commit
 use Rattle.hg_rule.specs.Places.{arrive_first, HoldsBucket}
 use Rattle.hg_rule.specs.Handing.{Members, members, lent, who, part_of, writer_at, hands_back}
 use Rattle.hg_rule.specs.Seats.{BoardId, session_view, session_rest, IsSeatOf, IsAwayOf}
-use Rattle.hg_rule.proofs.Grouping.{each_part, each_lent}
+use Rattle.hg_rule.proofs.Members.{each_part, each_lent}
 use Rattle.hg_rule.proofs.Holders.{still_away}
 use Rattle.hg_store.specs.Stores.{Takes}
 use Rattle.hg_store.proofs.Holding.{held_is}

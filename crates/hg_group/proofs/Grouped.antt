@@ -19,7 +19,7 @@ use Rattle.hg_rule.specs.Facts.{Shown}
 use Rattle.hg_rule.specs.Rules.{IsBacked}
 use Rattle.hg_rule.specs.Handing.{Members, lent, who, group_of}
 use Rattle.hg_rule.proofs.Counts.{expected_small}
-use Rattle.hg_rule.proofs.Grouping.{none_twice}
+use Rattle.hg_rule.proofs.Members.{none_twice}
 use Rattle.hg_queue.specs.declared.open_tx.OpenTx.{OpenTx}
 use Rattle.hg_group.specs.declared.receipt.Receipt.{Receipt}
 use Rattle.hg_core.specs.Commits.{commits_in}

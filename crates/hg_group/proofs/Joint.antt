@@ -22,8 +22,9 @@ use Rattle.hg_rule.specs.Holding.{beyond, commit}
 use Rattle.hg_rule.specs.Places.{without_commit}
 use Rattle.hg_rule.specs.Writes.{with_published}
 use Rattle.hg_rule.specs.Handing.{Members, members, lent, who, numbered, hears, group_of, publishing, Publishes}
+use Rattle.hg_rule.proofs.Lists.{among_left}
 use Rattle.hg_rule.proofs.Found.{inside_is}
-use Rattle.hg_rule.proofs.Grouping.{there, each_in}
+use Rattle.hg_rule.proofs.Members.{there, each_in}
 use Rattle.hg_queue.specs.declared.open_tx.OpenTx.{OpenTx}
 use Rattle.hg_core.specs.Commits.{commits_in}
 use Rattle.hg_group.specs.Batch.{AreTaken, Stamped, all_pairs, bare, HasGroup, HasBatch}
@@ -96,11 +97,6 @@ same_of : {A : Type 0} (f : Members → A) → ((ms : Members) → f (bare ms) �
 same_of f g ms ns e = sym (g ms) ∙ (ap f e ∙ g ns)
 
 -- ---- what was seen
-
-among_left : {A : Type 0} (a : A) (xs ys : List A) → IsAmong a xs → IsAmong a (xs ++ ys)
-among_left a [] ys m = absurd m
-among_left a (x ∷ xs) ys (inl e) = inl e
-among_left a (x ∷ xs) ys (inr m) = inr (among_left a xs ys m)
 
 among_right : {A : Type 0} (a : A) (xs ys : List A) → IsAmong a ys → IsAmong a (xs ++ ys)
 among_right a [] ys m = m

@@ -15,7 +15,7 @@ use Rattle.hg_rule.specs.declared.view.CommitPart.{CommitPart}
 use Rattle.hg_rule.specs.declared.view.View.{View}
 use Rattle.hg_rule.specs.Holding.{beyond, commit}
 use Rattle.hg_rule.specs.Handing.{Members, members, MayPublish}
-use Rattle.hg_rule.proofs.Grouping.{each_two}
+use Rattle.hg_rule.proofs.Members.{each_two}
 use Rattle.hg_queue.specs.declared.open_tx.OpenTx.{OpenTx}
 use Rattle.hg_group.specs.Batch.{IsTaken, AreTaken, with_session, all_pairs, bare, Stamped}
 use Rattle.hg_group.proofs.Recording.{among_at}

@@ -29,7 +29,7 @@ use Rattle.hg_rule.proofs.Counts.{away_same}
 use Rattle.hg_rule.proofs.Keeps.{keep}
 use Rattle.hg_rule.proofs.Registers.{loaded_words}
 use Rattle.hg_rule.proofs.Owned.{Leaves, leaves_only, own_second}
-use Rattle.hg_rule.proofs.Playing.{own_pass, history_at, log_stays}
+use Rattle.hg_rule.proofs.Evidence.{own_pass, history_at, log_stays}
 
 -- the words after the mark was stored
 pub marked_words : (z : Sizes) (c d : CoreState) (ws : List ℕ) (x : ℕ) → d.mark ≡ x → d.register ≡ c.register → d.mask ≡ c.mask → ShowsWords z c ws → ShowsWords z d (set ws 0 x)

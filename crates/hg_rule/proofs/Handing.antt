@@ -28,7 +28,7 @@ use Rattle.hg_rule.proofs.Lists.{starts_same, each_append}
 use Rattle.hg_rule.proofs.Keeps.{keep, turn, true_on, may_split, may_join}
 use Rattle.hg_rule.proofs.Registers.{loaded_words}
 use Rattle.hg_rule.proofs.Shifts.{second_count, second_shares, second_each}
-use Rattle.hg_rule.proofs.Playing.{own_session, history_at, log_stays}
+use Rattle.hg_rule.proofs.Evidence.{own_session, history_at, log_stays}
 
 -- the two halves of a session's part count as the part does
 pub halves : (k : Key) (j : ℕ) (a b s : SessionPart) (n : ℕ) → count k (Away j a n ∷ Lent j b ∷ []) ≡ count k (OfSession j s ∷ [])

@@ -10,17 +10,28 @@ pub mod Agreements
 pub mod Found
 -- Each step keeps the rule.
 pub mod Keeps
-pub mod Playing
+pub mod Evidence
+pub mod Entrance
+pub mod Lifetimes
+pub mod Records
+pub mod Exchange
+pub mod Ranges
 pub mod Looks
 pub mod Works
 pub mod Commits
 pub mod Reclaims
-pub mod Grouping
+pub mod Members
+pub mod Stamps
+pub mod Publication
 -- Each move of a seat keeps it.
 pub mod Shifts
 pub mod Turning
 pub mod Handing
-pub mod Halving
+-- A pass is split, and two are united.
+pub mod Uses
+pub mod Branches
+pub mod Unity
+pub mod Unions
 -- A new board, boards at rest, and a round.
 pub mod Opening
 pub mod Rounds

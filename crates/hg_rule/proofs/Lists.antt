@@ -1,7 +1,7 @@
--- Lists that grow, and a fact of each element.
-use Rattle.std.proofs.Common.{List, [], ◌∷◌, ◌++◌, refl, sym, ap, ◌∙◌, append_assoc, append-nil}
+-- Lists that grow, a fact of each element, and one of the elements.
+use Rattle.std.proofs.Common.{inl, inr, List, [], ◌∷◌, ◌++◌, refl, sym, ap, ◌∙◌, append_assoc, append-nil}
 use Rattle.hg_base.specs.Lists.{Each}
-use Rattle.hg_rule.specs.Facts.{StartsWith, EndsWith}
+use Rattle.hg_rule.specs.Facts.{StartsWith, EndsWith, IsAmong}
 
 module _ {A : Type 0} where
   pub starts_same : (xs : List A) → StartsWith xs xs
@@ -31,3 +31,8 @@ module _ {A : Type 0} where
   pub each_map : (P Q : A → Type 0) → ((x : A) → P x → Q x) → (xs : List A) → Each P xs → Each Q xs
   each_map P Q f [] h = tt
   each_map P Q f (x ∷ xs) h = (f x h.0, each_map P Q f xs h.1)
+
+  pub among_left : (a : A) (xs ys : List A) → IsAmong a xs → IsAmong a (xs ++ ys)
+  among_left a [] ys i = absurd i
+  among_left a (x ∷ xs) ys (inl e) = inl e
+  among_left a (x ∷ xs) ys (inr i) = inr (among_left a xs ys i)

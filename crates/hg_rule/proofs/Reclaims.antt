@@ -30,7 +30,7 @@ use Rattle.hg_rule.proofs.Counts.{away_same}
 use Rattle.hg_rule.proofs.Keeps.{keep}
 use Rattle.hg_rule.proofs.Registers.{loaded_words}
 use Rattle.hg_rule.proofs.Owned.{Leaves, leaves_only, not_first, not_second, own_second, held_versions, stored_here, stored_else}
-use Rattle.hg_rule.proofs.Playing.{own_pass, log_stays}
+use Rattle.hg_rule.proofs.Evidence.{own_pass, log_stays}
 use Rattle.hg_rule.proofs.Works.{counters_else}
 
 reclaim_leaves : (c d : CoreState) (p b : ℕ) (old : PassPart) (part : BucketPart) → d.phase ≡ c.phase → d.log ≡ c.log → d.stamped_list ≡ c.stamped_list

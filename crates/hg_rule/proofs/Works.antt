@@ -46,7 +46,7 @@ use Rattle.hg_rule.proofs.Counts.{away_same}
 use Rattle.hg_rule.proofs.Keeps.{keep}
 use Rattle.hg_rule.proofs.Registers.{loaded_words}
 use Rattle.hg_rule.proofs.Owned.{Leaves, leaves_only, not_first, not_second, log_put, own_second, held_versions, stored_here, stored_else, live_is, writer_is}
-use Rattle.hg_rule.proofs.Playing.{own_session}
+use Rattle.hg_rule.proofs.Evidence.{own_session}
 
 -- ---- what the condition of a write says at the mark
 

@@ -1,52 +1,26 @@
-//! The board itself: its words under the rule, a new board with all its seats, and what a look at the mark tells of the state.
+//! The board itself: its words under the rule, a new board with all its seats, what a look at the mark tells of the state, and how a
+//! bucket's part of the state or the committer's comes to a pass and leaves.
 
 ghost use Rattle.std.specs.Prelude.{◌≡◌, ℕ, ◌<◌, ◌^◌};
-ghost use Rattle.atomic_table.specs.declared.shared.Seat.{Seat};
 ghost use Rattle.atomic_table.specs.Table.{State};
 ghost use Rattle.hg_core.specs.Invariant.{IsSteady};
 ghost use Rattle.hg_rule.specs.declared.view.View.{View};
 ghost use Rattle.hg_rule.specs.declared.view.Sizes.{Sizes};
-ghost use Rattle.hg_rule.specs.declared.view.Part.{Part};
-ghost use Rattle.hg_rule.specs.Words.{words_for, register_at, mask_at};
+ghost use Rattle.hg_rule.specs.Words.{words_for};
 ghost use Rattle.hg_rule.specs.Rules.{Rule, HasRoom};
-ghost use Rattle.hg_rule.specs.Moves.{first_view, session_part, bucket_part};
+ghost use Rattle.hg_rule.specs.Moves.{first_view};
 ghost use Rattle.hg_rule.specs.Reading.{read};
 
-use crate::moves::Dealing;
-use crate::passes::{
-    BucketSeat, BucketSeatList, CollectorPass, CommitSeat, Pass, Seats, SessionPass,
-    SessionPassList,
-};
+use crate::maker::{deal, deal_pass};
+use crate::moves::{Arriving, Departing, Joining, Resigning};
+use crate::passes::{BucketSeat, BucketSeatList, CommitSeat, Pass, Seats, SessionPassList};
 use crate::steps::{Looking, Sized};
 use crate::view::{Sizes, View};
-use atomic_table::{Seat, Table, TableRule};
+use crate::words::words_for;
+use atomic_table::{Table, TableRule};
 use hg_base::NoMemory;
-use std::alloc::{AllocError, Global};
+use std::alloc::Global;
 use std::marker::Brand;
-
-// How many words a cache line has.
-const LINE: usize = 8;
-
-// Where the register of a session stands.
-pub(crate) fn register_at(session: u32) -> usize
-    ensures { result ≡ register_at session }
-{
-    LINE * session as usize
-}
-
-// Where the mask of its tables stands.
-pub(crate) fn mask_at(session: u32) -> usize
-    ensures { result ≡ mask_at session }
-{
-    register_at(session) + 1
-}
-
-// How many words there are.
-pub(crate) fn words_for(sessions: u32) -> usize
-    ensures { result ≡ words_for sessions }
-{
-    LINE * (sessions as usize + 1)
-}
 
 /// The rule over the words and the views.
 pub struct Law;
@@ -67,98 +41,10 @@ pub struct Board {
     ghost room: { HasRoom table.shared.key },
 }
 
-/// One of a row of seats, made of its number and its seat.
-pub(crate) trait Dealt: Drop {
-    ghost part: { ℕ → Part };
-
-    ghost rest_for: { ℕ → ℕ × ℕ };
-
-    ghost rest_is: { Self → ℕ × ℕ };
-
-    ghost seat_is: { Self → Seat ℕ View };
-
-    fn of(number: u32, seat: Seat<u8, View>) -> Self
-        ensures { (rest_is result ≡ rest_for number) × (seat_is result ≡ seat) };
-}
-
-impl Dealt for SessionPass {
-    ghost part = { session_part };
-
-    ghost rest_for = { λ j. (j, 0) };
-
-    ghost rest_is = { λ p. (p.number, p.begun) };
-
-    ghost seat_is = { λ p. p.seat };
-
-    fn of(number: u32, seat: Seat<u8, View>) -> SessionPass {
-        SessionPass {
-            number,
-            begun: 0,
-            seat,
-        }
-    }
-}
-
-impl Dealt for BucketSeat {
-    ghost part = { bucket_part };
-
-    ghost rest_for = { λ b. (b, 0) };
-
-    ghost rest_is = { λ p. (p.number, 0) };
-
-    ghost seat_is = { λ p. p.seat };
-
-    fn of(number: u32, seat: Seat<u8, View>) -> BucketSeat {
-        BucketSeat { number, seat }
-    }
-}
-
 impl Board {
-    ghost use Rattle.std.specs.Prelude.{◌≡◌, ◌+◌, ◌*◌, ◌^◌, ◌≤◌, List, [], ◌++◌, drop, length, IfOk};
-    ghost use Rattle.hg_rule.specs.Views.{seeing};
-    ghost use Rattle.hg_rule.specs.Moves.{run};
-    ghost use Rattle.hg_rule.specs.Seats.{board_id, sizes_of, view, IsSeatOf};
-    ghost use Rattle.hg_rule.specs.New.{EachFrom, IsNew, IsNewFirst, IsNewSession, IsNewBucket, IsNewPass, IsNewCommit};
-
-    // The first `count` parts of the maker's go to a seat each, numbered from `first` on.
-    fn deal<T: Dealt>(
-        &self,
-        alloc: Global,
-        maker: &mut Seat<u8, View>,
-        first: u32,
-        count: u32,
-    ) -> Result<Vec<T>, AllocError>
-        requires own { IsSeatOf (board_id self.now) maker.old × ((view maker.old).sights ≡ []) }
-        requires parts { (r : List Part) × ((view maker.old).parts ≡ run T.part first count ++ r) }
-        requires small { first + count ≤ 2 ^ 32 }
-        ensures dealt { IfOk result (λ v.
-            (length v.items ≡ count) ×
-            EachFrom (λ i x.
-            (T.rest_is x ≡ T.rest_for i) ×
-            IsNew (board_id self.now) (T.part i) (T.seat_is x)) first v.items) }
-        ensures left { IfOk result (λ v.
-            IsSeatOf (board_id self.now) maker.new ×
-            (view maker.new ≡
-            seeing (drop count (view maker.old).parts) [] (view maker.old).events)) }
-    {
-        let mut seats = Vec::new(alloc);
-        for i in 0..count {
-            let seat = self.table.shared.split_seat::<Dealing>(maker);
-            seats.push(T::of(first + i, seat))?;
-        }
-        Ok(seats)
-    }
-
-    // The first part of the maker's goes to a collector's pass.
-    fn deal_pass(&self, maker: &mut Seat<u8, View>) -> CollectorPass
-        requires own { IsSeatOf (board_id self.now) maker.old × ((view maker.old).sights ≡ []) }
-        ensures dealt { IsNewFirst (board_id self.now) (view maker.old).parts result.seat }
-        ensures left { IsSeatOf (board_id self.now) maker.new ×
-            (view maker.new ≡ seeing (drop 1 (view maker.old).parts) [] (view maker.old).events) }
-    {
-        let seat = self.table.shared.split_seat::<Dealing>(maker);
-        CollectorPass { seat }
-    }
+    ghost use Rattle.std.specs.Prelude.{◌≡◌, ◌*◌, ◌^◌, ◌≤◌, length, IfOk};
+    ghost use Rattle.hg_rule.specs.Seats.{board_id, sizes_of};
+    ghost use Rattle.hg_rule.specs.New.{EachFrom, IsNewSession, IsNewBucket, IsNewPass, IsNewCommit};
 
     /// A board of these numbers, and each of its seats. Its mark is 0, its registers are idle, its masks are 0, and nobody has done anything.
     pub fn new(
@@ -192,11 +78,11 @@ impl Board {
         let words = vec![in alloc; 0u64; words_for(sessions)]?;
         let (table, mut maker) = Table::of_words(alloc, words.as_slice(), &sizes)?;
         let board = Board { table };
-        let passes = board.deal(alloc, &mut maker, 1, sessions)?;
-        let seats = board.deal(alloc, &mut maker, 0, buckets)?;
-        let group = board.deal_pass(&mut maker);
-        let table = board.deal_pass(&mut maker);
-        let interval = board.deal_pass(&mut maker);
+        let passes = deal(&board, alloc, &mut maker, 1, sessions)?;
+        let seats = deal(&board, alloc, &mut maker, 0, buckets)?;
+        let group = deal_pass(&board, &mut maker);
+        let table = deal_pass(&board, &mut maker);
+        let interval = deal_pass(&board, &mut maker);
         let commit = CommitSeat { seat: maker };
         let seats = Seats {
             sessions: SessionPassList::from(passes),
@@ -250,6 +136,81 @@ impl Board {
             (P.rest_of pass.new ≡ P.rest_of pass.old) }
     {
         self.look_at(pass)
+    }
+}
+
+impl Board {
+    ghost use Rattle.hg_rule.specs.Rules.{IsBacked};
+    ghost use Rattle.hg_rule.specs.Steps.{IsHistoryAt};
+    ghost use Rattle.hg_rule.specs.Moves.{joined};
+    ghost use Rattle.hg_rule.specs.Holding.{commit};
+    ghost use Rattle.hg_rule.specs.Places.{HasFirst, HoldsBucket, HoldsCommit, with_bucket, without_bucket, bucket_alone, without_commit, commit_alone};
+    ghost use Rattle.hg_rule.specs.Seats.{board_id, sizes_of, view, bucket_view, commit_view, IsSeatOf, IsBucketOf, IsCommitOf};
+
+    /// The bucket's part comes behind the pass's own. A collector's pass begins a visit. The answer is the mark.
+    pub fn join_bucket<P: Pass>(&self, pass: &mut P, bucket: BucketSeat) -> u64
+        requires own { IsSeatOf (board_id self.now) (P.seat_of pass.old) ×
+            HasFirst (view (P.seat_of pass.old)) }
+        requires bucket { IsBucketOf (board_id self.now) bucket }
+        ensures view { view (P.seat_of pass.new) ≡
+            with_bucket (view (P.seat_of pass.old)) (bucket_view bucket) }
+        ensures holds { HoldsBucket bucket.number (view (P.seat_of pass.new)) }
+        ensures backed { IsBacked (sizes_of self.now) result (view (P.seat_of pass.new)) }
+        ensures own { IsSeatOf (board_id self.now) (P.seat_of pass.new) ×
+            (P.rest_of pass.new ≡ P.rest_of pass.old) }
+    {
+        let BucketSeat { seat, .. } = bucket;
+        self.table.shared.join_seat::<Arriving>(pass.seat(), seat);
+        self.look_at(pass)
+    }
+
+    /// The bucket's part, which was joined last, leaves. A collector's visit is over.
+    pub fn split_bucket<P: Pass>(&self, pass: &mut P, number: u32) -> BucketSeat
+        requires own { IsSeatOf (board_id self.now) (P.seat_of pass.old) }
+        requires holds { HoldsBucket number (view (P.seat_of pass.old)) }
+        ensures view { view (P.seat_of pass.new) ≡ without_bucket (view (P.seat_of pass.old)) }
+        ensures seat { (bucket_view result ≡ bucket_alone (view (P.seat_of pass.old))) ×
+            (result.number ≡ number) }
+        ensures bucket { IsBucketOf (board_id self.now) result }
+        ensures own { IsSeatOf (board_id self.now) (P.seat_of pass.new) ×
+            (P.rest_of pass.new ≡ P.rest_of pass.old) }
+    {
+        let seat = self.table.shared.split_seat::<Departing>(pass.seat());
+        BucketSeat { number, seat }
+    }
+
+    /// The committer's part comes behind the pass's own. The answer is the mark, which nobody else stores until that part is
+    /// split off again.
+    pub fn join_commit<P: Pass>(&self, pass: &mut P, seat: CommitSeat) -> u64
+        requires own { IsSeatOf (board_id self.now) (P.seat_of pass.old) ×
+            HasFirst (view (P.seat_of pass.old)) }
+        requires commit { IsCommitOf (board_id self.now) seat }
+        ensures view { view (P.seat_of pass.new) ≡
+            joined (view (P.seat_of pass.old)) (commit_view seat) }
+        ensures holds { HoldsCommit (view (P.seat_of pass.new)) }
+        ensures mark { IsHistoryAt (view (P.seat_of pass.new)) result
+            (commit (view (P.seat_of pass.new))).history.list }
+        ensures backed { IsBacked (sizes_of self.now) result (view (P.seat_of pass.new)) }
+        ensures own { IsSeatOf (board_id self.now) (P.seat_of pass.new) ×
+            (P.rest_of pass.new ≡ P.rest_of pass.old) }
+    {
+        let CommitSeat { seat } = seat;
+        self.table.shared.join_seat::<Joining>(pass.seat(), seat);
+        self.look_at(pass)
+    }
+
+    /// The committer's part, which was joined last, leaves.
+    pub fn split_commit<P: Pass>(&self, pass: &mut P) -> CommitSeat
+        requires own { IsSeatOf (board_id self.now) (P.seat_of pass.old) }
+        requires holds { HoldsCommit (view (P.seat_of pass.old)) }
+        ensures view { view (P.seat_of pass.new) ≡ without_commit (view (P.seat_of pass.old)) }
+        ensures seat { commit_view result ≡ commit_alone (view (P.seat_of pass.old)) }
+        ensures commit { IsCommitOf (board_id self.now) result }
+        ensures own { IsSeatOf (board_id self.now) (P.seat_of pass.new) ×
+            (P.rest_of pass.new ≡ P.rest_of pass.old) }
+    {
+        let seat = self.table.shared.split_seat::<Resigning>(pass.seat());
+        CommitSeat { seat }
     }
 }
 

@@ -1,133 +1,58 @@
-//! The joins and splits of seats: a bucket's part or the committer's comes to a pass and leaves, two passes meet, a session's part is
-//! given up for good, and a collector's pass becomes two that are united again.
+//! The joins and splits of passes: two passes meet, a session's part is given up for good, and a collector's pass becomes two that are
+//! united again.
 
 ghost use Rattle.std.specs.Prelude.{◌≡◌, ◌<◌, ◌≤◌, length};
 ghost use Rattle.hg_core.specs.declared.phase.Phase.TheVariants.{Idle};
 ghost use Rattle.hg_rule.specs.Rules.{IsBacked};
 ghost use Rattle.hg_rule.specs.Views.{number, session, pass as own_pass, HasOnlySession};
-ghost use Rattle.hg_rule.specs.Steps.{IsHistoryAt};
 ghost use Rattle.hg_rule.specs.Moves.{joined, merged, meeting};
-ghost use Rattle.hg_rule.specs.Holding.{commit};
-ghost use Rattle.hg_rule.specs.Places.{HasFirst, HoldsBucket, HoldsCommit, with_bucket, without_bucket, bucket_alone, without_commit, commit_alone};
 ghost use Rattle.hg_rule.specs.Sharing.{HasOnlyPass, branch, halved, united};
 ghost use Rattle.hg_rule.specs.Agreed.{AgreesWith, IsMet};
-ghost use Rattle.hg_rule.specs.Seats.{board_id, sizes_of, view, session_view, pass_view, bucket_view, commit_view, IsSeatOf, IsSessionOf, IsPassOf, IsBucketOf, IsCommitOf};
+ghost use Rattle.hg_rule.specs.Seats.{board_id, sizes_of, view, session_view, pass_view, IsSeatOf, IsSessionOf, IsPassOf};
 
 use crate::board::Board;
-use crate::moves::{
-    Arriving, Departing, Giving, Joining, Merging, Rejoining, Resigning, Returning,
-};
-use crate::passes::{BucketSeat, CollectorPass, CommitSeat, Pass, SessionPass};
+use crate::moves::{Giving, Joining, Merging, Rejoining, Returning};
+use crate::passes::{CollectorPass, Pass, SessionPass};
 use crate::steps::{Budding, Uniting};
 use crate::view::View;
 use atomic_table::Seat;
 
-impl Board {
-    /// The bucket's part comes behind the pass's own. A collector's pass begins a visit. The answer is the mark.
-    pub fn join_bucket<P: Pass>(&self, pass: &mut P, bucket: BucketSeat) -> u64
-        requires own { IsSeatOf (board_id self.now) (P.seat_of pass.old) ×
-            HasFirst (view (P.seat_of pass.old)) }
-        requires bucket { IsBucketOf (board_id self.now) bucket }
-        ensures view { view (P.seat_of pass.new) ≡
-            with_bucket (view (P.seat_of pass.old)) (bucket_view bucket) }
-        ensures holds { HoldsBucket bucket.number (view (P.seat_of pass.new)) }
-        ensures backed { IsBacked (sizes_of self.now) result (view (P.seat_of pass.new)) }
-        ensures own { IsSeatOf (board_id self.now) (P.seat_of pass.new) ×
-            (P.rest_of pass.new ≡ P.rest_of pass.old) }
-    {
-        let BucketSeat { seat, .. } = bucket;
-        self.table.shared.join_seat::<Arriving>(pass.seat(), seat);
-        self.look_at(pass)
-    }
-
-    /// The bucket's part, which was joined last, leaves. A collector's visit is over.
-    pub fn split_bucket<P: Pass>(&self, pass: &mut P, number: u32) -> BucketSeat
-        requires own { IsSeatOf (board_id self.now) (P.seat_of pass.old) }
-        requires holds { HoldsBucket number (view (P.seat_of pass.old)) }
-        ensures view { view (P.seat_of pass.new) ≡ without_bucket (view (P.seat_of pass.old)) }
-        ensures seat { (bucket_view result ≡ bucket_alone (view (P.seat_of pass.old))) ×
-            (result.number ≡ number) }
-        ensures bucket { IsBucketOf (board_id self.now) result }
-        ensures own { IsSeatOf (board_id self.now) (P.seat_of pass.new) ×
-            (P.rest_of pass.new ≡ P.rest_of pass.old) }
-    {
-        let seat = self.table.shared.split_seat::<Departing>(pass.seat());
-        BucketSeat { number, seat }
-    }
-
-    /// The committer's part comes behind the pass's own. The answer is the mark, which nobody else stores until that part is
-    /// split off again.
-    pub fn join_commit<P: Pass>(&self, pass: &mut P, seat: CommitSeat) -> u64
-        requires own { IsSeatOf (board_id self.now) (P.seat_of pass.old) ×
-            HasFirst (view (P.seat_of pass.old)) }
-        requires commit { IsCommitOf (board_id self.now) seat }
-        ensures view { view (P.seat_of pass.new) ≡
-            joined (view (P.seat_of pass.old)) (commit_view seat) }
-        ensures holds { HoldsCommit (view (P.seat_of pass.new)) }
-        ensures mark { IsHistoryAt (view (P.seat_of pass.new)) result
-            (commit (view (P.seat_of pass.new))).history.list }
-        ensures backed { IsBacked (sizes_of self.now) result (view (P.seat_of pass.new)) }
-        ensures own { IsSeatOf (board_id self.now) (P.seat_of pass.new) ×
-            (P.rest_of pass.new ≡ P.rest_of pass.old) }
-    {
-        let CommitSeat { seat } = seat;
-        self.table.shared.join_seat::<Joining>(pass.seat(), seat);
-        self.look_at(pass)
-    }
-
-    /// The committer's part, which was joined last, leaves.
-    pub fn split_commit<P: Pass>(&self, pass: &mut P) -> CommitSeat
-        requires own { IsSeatOf (board_id self.now) (P.seat_of pass.old) }
-        requires holds { HoldsCommit (view (P.seat_of pass.old)) }
-        ensures view { view (P.seat_of pass.new) ≡ without_commit (view (P.seat_of pass.old)) }
-        ensures seat { commit_view result ≡ commit_alone (view (P.seat_of pass.old)) }
-        ensures commit { IsCommitOf (board_id self.now) result }
-        ensures own { IsSeatOf (board_id self.now) (P.seat_of pass.new) ×
-            (P.rest_of pass.new ≡ P.rest_of pass.old) }
-    {
-        let seat = self.table.shared.split_seat::<Resigning>(pass.seat());
-        CommitSeat { seat }
-    }
+// One split and one join on each side, and a load between them, where one view has the parts of both.
+fn meet<P: Pass, Q: Pass>(board: &Board, pass: &mut P, other: &mut Q) -> u64
+    requires own { IsSeatOf (board_id board.now) (P.seat_of pass.old) ×
+        IsSeatOf (board_id board.now) (Q.seat_of other.old) }
+    requires parts { (0 < length (view (P.seat_of pass.old)).parts) ×
+        (length (view (Q.seat_of other.old)).parts ≡ 1) }
+    ensures backed { IsBacked (sizes_of board.now) result
+        (joined (view (P.seat_of pass.old)) (view (Q.seat_of other.old))) }
+    ensures pass { view (P.seat_of pass.new) ≡
+        meeting (view (P.seat_of pass.old)) (view (Q.seat_of other.old)) }
+    ensures other { view (Q.seat_of other.new) ≡
+        meeting (view (Q.seat_of other.old)) (view (P.seat_of pass.new)) }
+    ensures own { IsSeatOf (board_id board.now) (P.seat_of pass.new) ×
+        (P.rest_of pass.new ≡ P.rest_of pass.old) }
+    ensures others { IsSeatOf (board_id board.now) (Q.seat_of other.new) ×
+        (Q.rest_of other.new ≡ Q.rest_of other.old) }
+{
+    let gift = board.table.shared.split_seat::<Giving>(other.seat());
+    board.table.shared.join_seat::<Joining>(pass.seat(), gift);
+    let mark = board.look_at(pass);
+    let back = board.table.shared.split_seat::<Returning>(pass.seat());
+    board.table.shared.join_seat::<Joining>(other.seat(), back);
+    mark
 }
 
-impl Board {
-    /// One split and one join on each side, and a load between them, where one view has the parts of both.
-    pub fn meet<P: Pass, Q: Pass>(&self, pass: &mut P, other: &mut Q) -> u64
-        requires own { IsSeatOf (board_id self.now) (P.seat_of pass.old) ×
-            IsSeatOf (board_id self.now) (Q.seat_of other.old) }
-        requires parts { (0 < length (view (P.seat_of pass.old)).parts) ×
-            (length (view (Q.seat_of other.old)).parts ≡ 1) }
-        ensures backed { IsBacked (sizes_of self.now) result
-            (joined (view (P.seat_of pass.old)) (view (Q.seat_of other.old))) }
-        ensures pass { view (P.seat_of pass.new) ≡
-            meeting (view (P.seat_of pass.old)) (view (Q.seat_of other.old)) }
-        ensures other { view (Q.seat_of other.new) ≡
-            meeting (view (Q.seat_of other.old)) (view (P.seat_of pass.new)) }
-        ensures own { IsSeatOf (board_id self.now) (P.seat_of pass.new) ×
-            (P.rest_of pass.new ≡ P.rest_of pass.old) }
-        ensures others { IsSeatOf (board_id self.now) (Q.seat_of other.new) ×
-            (Q.rest_of other.new ≡ Q.rest_of other.old) }
-    {
-        let gift = self.table.shared.split_seat::<Giving>(other.seat());
-        self.table.shared.join_seat::<Joining>(pass.seat(), gift);
-        let mark = self.look_at(pass);
-        let back = self.table.shared.split_seat::<Returning>(pass.seat());
-        self.table.shared.join_seat::<Joining>(other.seat(), back);
-        mark
-    }
-
-    /// The other's parts come behind the first, and what it had seen and done is known.
-    pub(crate) fn take_in<P: Pass>(&self, pass: &mut P, other: Seat<u8, View>) -> u64
-        requires own { IsSeatOf (board_id self.now) (P.seat_of pass.old) ×
-            IsSeatOf (board_id self.now) other }
-        ensures backed { IsBacked (sizes_of self.now) result (view (P.seat_of pass.new)) }
-        ensures pass { view (P.seat_of pass.new) ≡ merged (view (P.seat_of pass.old)) (view other) }
-        ensures own { IsSeatOf (board_id self.now) (P.seat_of pass.new) ×
-            (P.rest_of pass.new ≡ P.rest_of pass.old) }
-    {
-        self.table.shared.join_seat::<Merging>(pass.seat(), other);
-        self.look_at(pass)
-    }
+// The other's parts come behind the first, and what it had seen and done is known.
+fn take_in<P: Pass>(board: &Board, pass: &mut P, other: Seat<u8, View>) -> u64
+    requires own { IsSeatOf (board_id board.now) (P.seat_of pass.old) ×
+        IsSeatOf (board_id board.now) other }
+    ensures backed { IsBacked (sizes_of board.now) result (view (P.seat_of pass.new)) }
+    ensures pass { view (P.seat_of pass.new) ≡ merged (view (P.seat_of pass.old)) (view other) }
+    ensures own { IsSeatOf (board_id board.now) (P.seat_of pass.new) ×
+        (P.rest_of pass.new ≡ P.rest_of pass.old) }
+{
+    board.table.shared.join_seat::<Merging>(pass.seat(), other);
+    board.look_at(pass)
 }
 
 impl SessionPass {
@@ -145,7 +70,7 @@ impl SessionPass {
         ensures own { IsSessionOf (board_id board.now) (sizes_of board.now) self.new ×
             IsSessionOf (board_id board.now) (sizes_of board.now) other.new }
     {
-        board.meet(self, other);
+        meet(board, self, other);
     }
 
     /// Its part of the state goes to a collector's pass for good, which then knows what it had seen and done.
@@ -158,7 +83,7 @@ impl SessionPass {
         ensures own { IsPassOf (board_id board.now) pass.new }
     {
         let SessionPass { seat, .. } = self;
-        board.take_in(pass, seat);
+        take_in(board, pass, seat);
     }
 }
 
@@ -178,7 +103,7 @@ impl CollectorPass {
         ensures own { IsPassOf (board_id board.now) self.new ×
             IsSessionOf (board_id board.now) (sizes_of board.now) other.new }
     {
-        board.meet(self, other);
+        meet(board, self, other);
     }
 
     /// The other's parts go to this pass, which then knows what that had seen and done. Its own record stays.
@@ -190,7 +115,7 @@ impl CollectorPass {
         ensures own { IsPassOf (board_id board.now) self.new }
     {
         let CollectorPass { seat } = other;
-        board.take_in(self, seat);
+        take_in(board, self, seat);
     }
 }
 

@@ -9,6 +9,7 @@ ghost use Rattle.hg_rule.specs.Seats.{session_seat, with_session_seat, session_r
 
 use crate::view::View;
 use atomic_table::Seat;
+use hg_base::Writer;
 use std::marker::Model;
 
 /// A session's place at the board.
@@ -125,6 +126,27 @@ impl Pass for CommitSeat {
     ghost has_it = { λ p s i. s };
 
     ghost keeps_rest = { λ p s i. (0, 0) };
+}
+
+impl SessionPass {
+    ghost use Rattle.std.specs.Prelude.{IsSome};
+    ghost use Rattle.hg_core.specs.Logs.{begans};
+    ghost use Rattle.hg_core.specs.Phases.{snapshot_in};
+    ghost use Rattle.hg_rule.specs.Views.{number, session};
+    ghost use Rattle.hg_rule.specs.Seats.{session_view, IsTied};
+
+    /// The transaction that is open. A session's transactions are counted from 1.
+    pub fn writer(&self) -> Writer
+        requires own { IsTied self.now }
+        requires open { IsSome (snapshot_in (session (session_view self.now)).phase) }
+        ensures session { result.session ≡ number (session_view self.now) }
+        ensures transaction { result.transaction ≡ begans (session (session_view self.now)).log }
+    {
+        Writer {
+            session: self.number,
+            transaction: self.begun,
+        }
+    }
 }
 
 /// Sessions' passes by ascending number.

@@ -1,9 +1,8 @@
-//! The steps of a session: a transaction from `declare` to `end`, and its looks and writes in the buckets that it holds meanwhile.
+//! The protocol of a session: a transaction from `declare` to `end`, and its looks and writes in the buckets that it holds meanwhile.
 //! Each step is one event of `hg_core`.
 
 ghost use Rattle.std.specs.Prelude.{◌≡◌, ◌<◌, false, None, IsSome, IsTrue};
 ghost use Rattle.hg_base.specs.declared.rid.Rid.{Rid};
-ghost use Rattle.hg_base.specs.Freshness.{is_declared};
 ghost use Rattle.hg_base.specs.Lists.{Each};
 ghost use Rattle.hg_base.specs.Transcript.{has};
 ghost use Rattle.hg_core.specs.declared.phase.Phase.TheVariants.{Idle, Declared, Probed, Entered, Fixed};
@@ -12,31 +11,23 @@ ghost use Rattle.hg_core.specs.Logs.{begans, open_in, wrotes, is_plain};
 ghost use Rattle.hg_core.specs.Phases.{declared_in, snapshot_in};
 ghost use Rattle.hg_core.specs.Versions.{IsOpenBy};
 ghost use Rattle.hg_core.specs.Contents.{bucket_of};
-ghost use Rattle.hg_rule.specs.Views.{number, session};
+ghost use Rattle.hg_rule.specs.Views.{session};
 ghost use Rattle.hg_rule.specs.Steps.{IsNumber, loaded_in, entered_in, Declares, Probes, Enters, Fixes, GoesLive, Ends};
 ghost use Rattle.hg_rule.specs.Holding.{bucket_number, HasBucket, held, writer, snapshot, tables};
 ghost use Rattle.hg_rule.specs.Writes.{MayAsk, IsOwnOrSeen, TrulyLooks, Installs, Undoes};
-ghost use Rattle.hg_rule.specs.Seats.{board_id, sizes_of, session_view, IsTied, IsSessionOf};
+ghost use Rattle.hg_rule.specs.Seats.{board_id, sizes_of, session_view, IsSessionOf};
 
-use crate::board::{Board, mask_at, register_at};
+use crate::board::Board;
 use crate::passes::SessionPass;
 use crate::steps::{
     Asked, Asking, Declaring, Ending, Entering, Fixing, GoingLive, Installing, Named, Probing,
     Scoped, Undoing, Written,
 };
-use hg_base::{Image, Rid, Scope, Writer};
+use crate::words::{is_declared, mask_at, register_at};
+use hg_base::{Image, Rid, Scope};
 use hg_core::{Ask, Register, mask_word};
 use std::marker::Brand;
 use std::snapshot::Snapshot;
-
-fn is_declared(scope: Scope) -> bool
-    ensures { result ≡ is_declared scope }
-{
-    match scope {
-        Scope::All => false,
-        Scope::Declared(_) => true,
-    }
-}
 
 impl Board {
     fn declare_as<A: Scoped>(&self, pass: &mut SessionPass, scope: Scope)
@@ -238,20 +229,5 @@ impl Board {
         ensures own { IsSessionOf (board_id self.now) (sizes_of self.now) pass.new }
     {
         self.undo_as::<Brand>(pass, rid);
-    }
-}
-
-impl SessionPass {
-    /// The transaction that is open. A session's transactions are counted from 1.
-    pub fn writer(&self) -> Writer
-        requires own { IsTied self.now }
-        requires open { IsSome (snapshot_in (session (session_view self.now)).phase) }
-        ensures session { result.session ≡ number (session_view self.now) }
-        ensures transaction { result.transaction ≡ begans (session (session_view self.now)).log }
-    {
-        Writer {
-            session: self.number,
-            transaction: self.begun,
-        }
     }
 }

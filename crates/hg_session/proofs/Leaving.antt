@@ -33,7 +33,7 @@ use Rattle.hg_rule.specs.Rounds.{entries_of}
 use Rattle.hg_tracker.specs.Begun.{gathering}
 use Rattle.hg_tracker.specs.Entries.{down_from}
 use Rattle.hg_tracker.specs.Tries.{is_long, moved_by}
-use Rattle.hg_tracker.proofs.Trying.{keys_moved}
+use Rattle.hg_tracker.proofs.Entries.{keys_moved}
 use Rattle.hg_visit.specs.Visits.{OneEach, IsVisitOf}
 use Rattle.hg_gc_table.specs.Cutting.{IsCutBy}
 use Rattle.hg_gc_table.specs.Collectors.{Cuts}

@@ -19,6 +19,7 @@ use crate::get::only;
 use crate::session::Session;
 use hg_base::{Image, NoMemory, Rid, Row, Snapshot, TableId};
 use hg_bucket::WriteRefusal;
+use hg_store::Author;
 use std::sync::Wait;
 
 // A refusal, with the snapshot at which it was.
@@ -68,7 +69,11 @@ impl Session {
         let by = self.pass.writer();
         let bucket = engine.bucket_of(rid);
         let mut held = engine.store.take(rt, board, bucket, &mut self.pass);
-        let written = held.write(board, &mut self.pass, rid, image, snapshot.at, by);
+        let author = Author {
+            writer: by,
+            snapshot: snapshot.at,
+        };
+        let written = held.write(board, &mut self.pass, rid, image, author);
         held.give(board, &mut self.pass);
         if written? {
             self.written.push_reserved(rid);

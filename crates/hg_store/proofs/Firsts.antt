@@ -1,5 +1,5 @@
 -- By the logs that a look heard, what it answers a write is the first cause.
-use Rattle.std.proofs.Common.{◌≡◌, ◌⊎◌, inl, inr, ℕ, List, [], ◌∷◌, ◌++◌, false, Option, None, Some, refl, sym, ap, ◌∙◌, subst, arith}
+use Rattle.std.proofs.Common.{◌≡◌, ◌⊎◌, inl, inr, ℕ, List, [], ◌∷◌, false, Option, None, Some, refl, sym, ap, ◌∙◌, subst, arith}
 use Rattle.std.specs.Prelude.{IfSome, IsSome, IsTrue, Result, Ok, Err, option_and_then}
 use Rattle.hg_base.specs.declared.rid.Rid.{Rid}
 use Rattle.hg_base.specs.declared.writer.Writer.{Writer}
@@ -33,6 +33,7 @@ use Rattle.hg_rule.specs.Holding.{held, snapshot, tables, writer}
 use Rattle.hg_rule.specs.Steps.{loaded_in}
 use Rattle.hg_rule.specs.Views.{number, session}
 use Rattle.hg_rule.specs.Writes.{TrulyLooks, log_asked, with_log}
+use Rattle.hg_rule.proofs.Lists.{among_left}
 use Rattle.hg_store.specs.declared.held.Held.{Held}
 use Rattle.hg_store.specs.Kept.{refusal_of}
 use Rattle.hg_store.specs.Stores.{Holds, held_number}
@@ -47,16 +48,11 @@ known_at s [] k log e there = absurd there
 known_at s (x ∷ xs) k log e (inl same) = subst (Known s) same e.0
 known_at s (x ∷ xs) k log e (inr later) = known_at s xs k log e.1 later
 
-among_front : (x : Sight) (xs ys : List Sight) → IsAmong x xs → IsAmong x (xs ++ ys)
-among_front x [] ys there = absurd there
-among_front x (y ∷ xs) ys (inl same) = inl same
-among_front x (y ∷ xs) ys (inr later) = inr (among_front x xs ys later)
-
 module _ (z : Sizes) (n : ℕ) (v w : View) (h : Held) (r : Rid) (hold : Holds v h) (t : TrulyLooks z v (Write r) n w) where
   -- each log that was heard before is the end of what the look heard
   pub goes_on : GoOn t.looks.logs v.sights
   goes_on k log there =
-      let all : IsAmong (sights.Heard k log) w.sights = subst (λ (x : View). IsAmong (sights.Heard k log) x.sights) (sym t.looks.after) (among_front (sights.Heard k log) v.sights _ there) in
+      let all : IsAmong (sights.Heard k log) w.sights = subst (λ (x : View). IsAmong (sights.Heard k log) x.sights) (sym t.looks.after) (among_left (sights.Heard k log) v.sights _ there) in
       subst (λ l. EndsWith l log) (t.logs_are k) (known_at t.backed.state w.sights k log t.backed.true_of.sights all)
 
   module _ (here : bucket_of z.buckets r ≡ held_number h) (live : IsSome (snapshot_in (session v).phase)) (plain : IsTrue (is_plain (session v).log)) (table : IsTrue (has (tables v) r.table)) where

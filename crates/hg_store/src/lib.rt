@@ -17,13 +17,12 @@
 //! image, with one step for each (`Clears`), and afterwards each record of the table is cut at the table's bound, or clean.
 #![tactic(auto)]
 
-mod cut;
 mod held;
-mod read;
+mod removal;
 mod store;
-mod sweep;
 mod write;
 
 pub use held::Held;
+pub use removal::Guards;
 pub use store::{Slot, Store};
-pub use sweep::Guards;
+pub use write::Author;

@@ -1,4 +1,5 @@
-//! What a session does in a bucket that it holds. Each call makes its step in the same call.
+//! What a session does in a bucket that it holds: it looks, writes, takes a write back, and as a leader stamps one. Each call makes its
+//! step in the same call.
 
 ghost use Rattle.std.specs.Prelude.{◌≡◌, ℕ, suc, ◌<◌, length, not, is_some, IsTrue, IfOk, IfErr, false};
 ghost use Rattle.hg_base.specs.Transcript.{has};
@@ -20,6 +21,13 @@ use hg_base::{Image, Rid, TableId, Writer};
 use hg_bucket::WriteRefusal;
 use hg_rule::{Ask, Board, SessionPass};
 use std::snapshot::Snapshot;
+
+/// Whose statement a write is, and the snapshot at which it reads.
+#[derive(Clone, Copy)]
+pub struct Author {
+    pub writer: Writer,
+    pub snapshot: u64,
+}
 
 impl<'a> Held<'a> {
     /// One look: the rows of the range in this bucket are logged.
@@ -89,8 +97,7 @@ impl<'a> Held<'a> {
         pass: &mut SessionPass,
         rid: Rid,
         image: Image,
-        snapshot: u64,
-        by: Writer,
+        author: Author,
     ) -> Result<bool, WriteRefusal>
         requires holds { IsHolding board.now pass.old self.old }
         requires open { IsInTransaction (session (session_view pass.old)) }
@@ -99,8 +106,8 @@ impl<'a> Held<'a> {
             (rid.table.0 < (sizes_of board.now).tables) }
         requires room { wrotes (session (session_view pass.old)).log < (sizes_of board.now).quota }
         // the words passed are those of the session's own transaction
-        requires words { (by ≡ writer_of (session_view pass.old)) ×
-            (snapshot ≡ snapshot_of (session_view pass.old)) }
+        requires words { (author.writer ≡ writer_of (session_view pass.old)) ×
+            (author.snapshot ≡ snapshot_of (session_view pass.old)) }
         ensures step { Writes (session_view pass.old) rid image result (session_view pass.new) }
         ensures added { IfOk result (λ added.
             added ≡ not (is_some (open_in rid (session (session_view pass.old)).log))) }
@@ -110,7 +117,8 @@ impl<'a> Held<'a> {
     {
         let mark = board.look(pass, &Ask::Write(rid));
         let written = Snapshot::of(&image);
-        let added = self.bucket.write(rid, image, snapshot, mark, by)?;
+        let Author { writer, snapshot } = author;
+        let added = self.bucket.write(rid, image, snapshot, mark, writer)?;
         board.install(pass, rid, written);
         Ok(added)
     }

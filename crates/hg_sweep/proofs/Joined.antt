@@ -19,7 +19,7 @@ use Rattle.hg_rule.specs.Keys.{one}
 use Rattle.hg_rule.specs.Sharing.{MaySplit, kept_of, given_of, halved, branch, HasOnlyPass, united}
 use Rattle.hg_rule.specs.Views.{number, part_number, pass, pass_there, first_in, after_first, others, seeing, HasPass}
 use Rattle.hg_rule.specs.Seats.{BoardId, pass_view}
-use Rattle.hg_rule.proofs.Halving.{halves_both}
+use Rattle.hg_rule.proofs.Branches.{halves_both}
 use Rattle.hg_rule.proofs.Lists.{each_append, each_left, each_right}
 use Rattle.hg_rule.proofs.Found.{ltb_less}
 use Rattle.hg_rule.proofs.Rounds.{gone_on}

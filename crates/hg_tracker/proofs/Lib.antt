@@ -1,5 +1,8 @@
 -- What a gather finds, and what a try moves.
 pub mod Rounds
-pub mod Noting
+pub mod TableLists
+pub mod Counts
+pub mod Bounds
 pub mod After
-pub mod Trying
+pub mod Entries
+pub mod Tries

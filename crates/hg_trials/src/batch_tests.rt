@@ -18,7 +18,7 @@ ghost use Rattle.hg_trials.specs.Between.{HasBegun};
 use hg_base::{Image, NoMemory, Rid, Row, Scope, Snapshot, TableId, Writer};
 use hg_group::{GroupList, OpenTx, RidList};
 use hg_rule::{Board, SessionPass};
-use hg_store::Store;
+use hg_store::{Author, Store};
 use std::alloc::Global;
 use std::sync::Wait;
 use std::test::Fail;
@@ -75,7 +75,11 @@ fn write<R: Wait>(
     let (rid, image) = asked;
     let by = pass.writer();
     let mut held = store.take(rt, board, store.bucket_of(rid), pass);
-    let written = held.write(board, pass, rid, image, at, by);
+    let author = Author {
+        writer: by,
+        snapshot: at,
+    };
+    let written = held.write(board, pass, rid, image, author);
     held.give(board, pass);
     (by, written.is_ok())
 }

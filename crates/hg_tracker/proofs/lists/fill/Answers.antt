@@ -1,5 +1,5 @@
 use Rattle.std.proofs.Common.{rules, take}
-use Rattle.hg_tracker.proofs.Noting.{numbers_most}
+use Rattle.hg_tracker.proofs.TableLists.{numbers_most}
 use Rattle.hg_tracker.proofs.lists.fill.Goals as goal
 
 pub unreachable-requires : goal.unreachable-requires

@@ -2,7 +2,7 @@ use Rattle.std.proofs.Common.{rules, ◌≡◌, ℕ, ◌+◌, ◌<◌, length, t
 use Rattle.std.proofs.lemmas.List.{take_more_set}
 use Rattle.hg_tracker.specs.Entries.{numbers_for, common_numbers}
 use Rattle.hg_tracker.specs.Gathers.{AreEmpty, AreListsOf}
-use Rattle.hg_tracker.proofs.Noting.{lists_snoc, empty_snoc}
+use Rattle.hg_tracker.proofs.TableLists.{lists_snoc, empty_snoc}
 use Rattle.hg_tracker.proofs.lists.fill_all.Goals as goal
 
 pub loop-table-preserved : goal.loop-table-preserved

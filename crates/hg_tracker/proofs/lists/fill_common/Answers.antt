@@ -1,5 +1,5 @@
 use Rattle.std.proofs.Common.{rules, take}
-use Rattle.hg_tracker.proofs.Noting.{common_most}
+use Rattle.hg_tracker.proofs.TableLists.{common_most}
 use Rattle.hg_tracker.proofs.lists.fill_common.Goals as goal
 
 pub unreachable-requires : goal.unreachable-requires

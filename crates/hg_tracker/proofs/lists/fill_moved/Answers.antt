@@ -1,5 +1,5 @@
 use Rattle.std.proofs.Common.{rules, take}
-use Rattle.hg_tracker.proofs.Noting.{moved_most}
+use Rattle.hg_tracker.proofs.TableLists.{moved_most}
 use Rattle.hg_tracker.proofs.lists.fill_moved.Goals as goal
 
 pub unreachable-requires : goal.unreachable-requires

@@ -1,7 +1,7 @@
 use Rattle.std.proofs.Common.{rules, ◌≤◌, List, length, sym, ap, subst, arith, ◌∙◌}
 use Rattle.hg_base.specs.declared.report.Entry.{Entry}
 use Rattle.hg_tracker.specs.Entries.{numbers_for}
-use Rattle.hg_tracker.proofs.Noting.{moved_most, served_common, served_own}
+use Rattle.hg_tracker.proofs.TableLists.{moved_most, served_common, served_own}
 use Rattle.hg_tracker.proofs.lists.fill_own.Goals as goal
 
 pub fill-requires-clause-room : goal.fill-requires-clause-room

@@ -1,6 +1,6 @@
 use Rattle.std.proofs.Common.{◌≡◌, length, refl, ap, ◌∙◌, arith}
 use Rattle.hg_rule.specs.Rounds.{entries_of}
-use Rattle.hg_tracker.proofs.Noting.{entries_most}
+use Rattle.hg_tracker.proofs.TableLists.{entries_most}
 use Rattle.hg_tracker.proofs.After.{keys_length}
 use Rattle.hg_visit.proofs.report.rewrite.Goals as goal
 

@@ -1,6 +1,6 @@
 use Rattle.std.proofs.Common.{rules, arith, sym, ap, ◌∙◌}
 use Rattle.hg_rule.specs.Words.{mask_at}
-use Rattle.hg_rule.proofs.Playing.{declares}
+use Rattle.hg_rule.proofs.Entrance.{declares}
 use Rattle.hg_rule.proofs.board.Board.declare_as.Goals as goal
 
 pub store-requires : goal.store-requires

@@ -1,6 +1,6 @@
 use Rattle.std.proofs.Common.{rules, arith, sym, ap, ◌∙◌}
 use Rattle.hg_rule.specs.Words.{register_at}
-use Rattle.hg_rule.proofs.Playing.{ends}
+use Rattle.hg_rule.proofs.Lifetimes.{ends}
 use Rattle.hg_rule.proofs.board.Board.end.Goals as goal
 
 pub store-requires : goal.store-requires

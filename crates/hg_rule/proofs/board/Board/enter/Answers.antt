@@ -1,6 +1,6 @@
 use Rattle.std.proofs.Common.{rules, arith, sym, ap, ◌∙◌}
 use Rattle.hg_rule.specs.Words.{register_at}
-use Rattle.hg_rule.proofs.Playing.{enters}
+use Rattle.hg_rule.proofs.Entrance.{enters}
 use Rattle.hg_rule.proofs.board.Board.enter.Goals as goal
 
 pub store-requires : goal.store-requires

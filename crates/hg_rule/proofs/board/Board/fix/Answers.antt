@@ -1,5 +1,5 @@
 use Rattle.std.proofs.Common.{rules}
-use Rattle.hg_rule.proofs.Playing.{fixes}
+use Rattle.hg_rule.proofs.Entrance.{fixes}
 use Rattle.hg_rule.proofs.board.Board.fix.Goals as goal
 
 pub load-requires : goal.load-requires

@@ -2,7 +2,7 @@ use Rattle.std.proofs.Common.{rules, arith, sym, ap, ◌∙◌, false}
 use Rattle.hg_core.specs.declared.register.Register.TheVariants.{Live}
 use Rattle.hg_core.specs.Words.{word_of}
 use Rattle.hg_rule.specs.Words.{register_at}
-use Rattle.hg_rule.proofs.Playing.{goes_live}
+use Rattle.hg_rule.proofs.Lifetimes.{goes_live}
 use Rattle.hg_rule.proofs.board.Board.go_live.Goals as goal
 
 pub store-requires : goal.store-requires

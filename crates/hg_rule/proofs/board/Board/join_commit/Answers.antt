@@ -2,7 +2,7 @@ use Rattle.std.proofs.Common.{rules, ◌≡◌}
 use Rattle.hg_rule.specs.Seats.{sizes_of, view}
 use Rattle.hg_rule.specs.Moves.{joined}
 use Rattle.hg_rule.proofs.Shifts.{joins}
-use Rattle.hg_rule.proofs.Playing.{history_held}
+use Rattle.hg_rule.proofs.Evidence.{history_held}
 use Rattle.hg_rule.proofs.Turning.{holds_commit}
 use Rattle.hg_rule.proofs.board.Board.join_commit.Goals as goal
 

@@ -1,5 +1,5 @@
 use Rattle.std.proofs.Common.{rules}
-use Rattle.hg_rule.proofs.Playing.{looks}
+use Rattle.hg_rule.proofs.Evidence.{looks}
 use Rattle.hg_rule.proofs.board.Board.look_as.Goals as goal
 
 pub load-requires : goal.load-requires

@@ -1,5 +1,5 @@
 use Rattle.std.proofs.Common.{rules}
-use Rattle.hg_rule.proofs.Playing.{marks}
+use Rattle.hg_rule.proofs.Records.{marks}
 use Rattle.hg_rule.proofs.board.Board.mark.Goals as goal
 
 pub load-requires : goal.load-requires

@@ -2,7 +2,7 @@ use Rattle.std.proofs.Common.{rules, arith, ap, ◌∙◌, subst, ◌≡◌, ◌
 use Rattle.hg_core.specs.Words.{number_of, word_of, register_of}
 use Rattle.hg_rule.specs.Steps.{Moves}
 use Rattle.hg_rule.specs.Seats.{pass_view}
-use Rattle.hg_rule.proofs.Playing.{tries_register, own_tried}
+use Rattle.hg_rule.proofs.Exchange.{tries_register, own_tried}
 use Rattle.hg_rule.proofs.Registers.{word_back}
 use Rattle.hg_rule.proofs.board.Board.move_one.Goals as goal
 

@@ -1,5 +1,5 @@
 use Rattle.std.proofs.Common.{rules}
-use Rattle.hg_rule.proofs.Playing.{probes}
+use Rattle.hg_rule.proofs.Entrance.{probes}
 use Rattle.hg_rule.proofs.board.Board.probe.Goals as goal
 
 pub load-requires : goal.load-requires

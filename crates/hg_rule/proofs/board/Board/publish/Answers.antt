@@ -1,5 +1,5 @@
 use Rattle.std.proofs.Common.{rules}
-use Rattle.hg_rule.proofs.Grouping.{may_publish}
+use Rattle.hg_rule.proofs.Publication.{may_publish}
 use Rattle.hg_rule.proofs.board.Board.publish.Goals as goal
 
 pub store-requires : goal.store-requires

@@ -2,7 +2,7 @@ use Rattle.std.proofs.Common.{rules, arith, refl, sym, subst}
 use Rattle.hg_rule.specs.Steps.{Samples}
 use Rattle.hg_rule.specs.Views.{HasPass}
 use Rattle.hg_rule.specs.Seats.{pass_view}
-use Rattle.hg_rule.proofs.Playing.{samples}
+use Rattle.hg_rule.proofs.Records.{samples}
 use Rattle.hg_rule.proofs.board.Board.sample.Goals as goal
 
 pub load-word-requires : goal.load-word-requires

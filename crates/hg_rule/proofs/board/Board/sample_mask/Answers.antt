@@ -1,6 +1,6 @@
 use Rattle.std.proofs.Common.{rules, arith, refl, sym, subst}
 use Rattle.hg_rule.specs.Views.{HasPass}
-use Rattle.hg_rule.proofs.Playing.{samples_mask}
+use Rattle.hg_rule.proofs.Records.{samples_mask}
 use Rattle.hg_rule.proofs.board.Board.sample_mask.Goals as goal
 
 pub load-requires : goal.load-requires

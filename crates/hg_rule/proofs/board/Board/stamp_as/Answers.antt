@@ -1,5 +1,5 @@
 use Rattle.std.proofs.Common.{rules}
-use Rattle.hg_rule.proofs.Grouping.{may_stamp}
+use Rattle.hg_rule.proofs.Stamps.{may_stamp}
 use Rattle.hg_rule.proofs.board.Board.stamp_as.Goals as goal
 
 pub load-requires : goal.load-requires

@@ -2,7 +2,7 @@ use Rattle.std.proofs.Common.{rules, ℕ}
 use Rattle.hg_rule.specs.Sharing.{Buds}
 use Rattle.hg_rule.specs.Seats.{view, pass_view}
 use Rattle.hg_rule.proofs.Shifts.{gives_second}
-use Rattle.hg_rule.proofs.Halving.{may_bud, halved_is, branch_is, halved_pass, branch_pass}
+use Rattle.hg_rule.proofs.Branches.{may_bud, halved_is, branch_is, halved_pass, branch_pass}
 use Rattle.hg_rule.proofs.passes.CollectorPass.split.Goals as goal
 
 pub load-requires : goal.load-requires

@@ -1,6 +1,6 @@
 use Rattle.std.proofs.Common.{rules}
 use Rattle.hg_rule.specs.Seats.{view, pass_view}
-use Rattle.hg_rule.proofs.Halving.{may_rejoin, may_unite, rejoining, united_pass}
+use Rattle.hg_rule.proofs.Unions.{may_rejoin, may_unite, rejoining, united_pass}
 use Rattle.hg_rule.proofs.passes.CollectorPass.unite.Goals as goal
 
 pub join_seat-requires : goal.join_seat-requires

@@ -34,7 +34,7 @@ returns-in_err-added-clause-step c =
     let ks = versions_of c.deref_mut.result.now.records r in
     let hold = boxed_holds c.args.self.now c.deref_mut.result.now c.deref_mut.ensures.value c.requires.holds.1 in
     let cause = subst (λ (b : Writer). IfErr c.write.result (IsCause b (snapshot v) n ks)) c.requires.words.0
-    (subst (λ s. IfErr c.write.result (IsCause c.args.by s n ks)) c.requires.words.1 c.write.ensures.cause) in
+    (subst (λ s. IfErr c.write.result (IsCause c.args.author.writer s n ks)) c.requires.words.1 c.write.ensures.cause) in
     let d = decided (sizes_of c.args.board.now) n v w (boxed c.args.self.now c.deref_mut.result.now) r
     (boxed_holds c.args.self.now c.deref_mut.result.now c.deref_mut.ensures.value c.requires.holds.1) c.look-mark.ensures.step.looks c.look-mark.ensures.step.backed
     c.requires.here c.requires.open.2 c.requires.open.0 in
@@ -43,7 +43,7 @@ returns-in_err-added-clause-step c =
     (boxed_holds c.args.self.now c.deref_mut.result.now c.deref_mut.ensures.value c.requires.holds.1) d
     (subst (λ (b : Writer). IfSome (holder b n ks) (λ x. c.write.result ≡ Err (open_by x))) c.requires.words.0 c.write.ensures.open)
     (subst (λ (b : Writer). holder b n ks ≡ None → IfSome (newer (snapshot v) ks) (λ m. c.write.result ≡ Err (Newer m))) c.requires.words.0
-    (subst (λ s. holder c.args.by n ks ≡ None → IfSome (newer s ks) (λ m. c.write.result ≡ Err (Newer m))) c.requires.words.1 c.write.ensures.newer)) in
+    (subst (λ s. holder c.args.author.writer n ks ≡ None → IfSome (newer s ks) (λ m. c.write.result ≡ Err (Newer m))) c.requires.words.1 c.write.ensures.newer)) in
     refused_writes (sizes_of c.args.board.now) n v w (boxed c.args.self.now c.deref_mut.result.now) r c.args.image c.write.result c.from_residual.result c.in_err-added.field-0.0
     (boxed_holds c.args.self.now c.deref_mut.result.now c.deref_mut.ensures.value c.requires.holds.1) d c.look-mark.ensures.step.looks c.in_err-added.was same told
     cause
@@ -80,7 +80,7 @@ install-requires-clause-free c =
     (boxed_holds c.args.self.now c.deref_mut.result.now c.deref_mut.ensures.value c.requires.holds.1) d
     (subst (λ (b : Writer). IfSome (holder b n ks) (λ x. c.write.result ≡ Err (open_by x))) c.requires.words.0 c.write.ensures.open)
     (subst (λ (b : Writer). holder b n ks ≡ None → IfSome (newer (snapshot v) ks) (λ m. c.write.result ≡ Err (Newer m))) c.requires.words.0
-    (subst (λ s. holder c.args.by n ks ≡ None → IfSome (newer s ks) (λ m. c.write.result ≡ Err (Newer m))) c.requires.words.1 c.write.ensures.newer)) in
+    (subst (λ s. holder c.args.author.writer n ks ≡ None → IfSome (newer s ks) (λ m. c.write.result ≡ Err (Newer m))) c.requires.words.1 c.write.ensures.newer)) in
     seen_after (sizes_of c.args.board.now) n v w r d c.look-mark.ensures.step.looks (free_at n v r c.write.result _ c.in_ok-added.was told)
 
 pub returns-clause-holds : goal.returns-clause-holds
@@ -99,11 +99,11 @@ returns-clause-holds c =
     (boxed_holds c.args.self.now c.deref_mut.result.now c.deref_mut.ensures.value c.requires.holds.1) d
     (subst (λ (b : Writer). IfSome (holder b n ks) (λ x. c.write.result ≡ Err (open_by x))) c.requires.words.0 c.write.ensures.open)
     (subst (λ (b : Writer). holder b n ks ≡ None → IfSome (newer (snapshot v) ks) (λ m. c.write.result ≡ Err (Newer m))) c.requires.words.0
-    (subst (λ s. holder c.args.by n ks ≡ None → IfSome (newer s ks) (λ m. c.write.result ≡ Err (Newer m))) c.requires.words.1 c.write.ensures.newer)) in
+    (subst (λ s. holder c.args.author.writer n ks ≡ None → IfSome (newer s ks) (λ m. c.write.result ≡ Err (Newer m))) c.requires.words.1 c.write.ensures.newer)) in
     let free = free_at n v r c.write.result _ c.in_ok-added.was told in
     let by = c.requires.words.0 ∙ sym (writer_same_after n v w r c.look-mark.ensures.step.looks) in
-    let stored = subst (λ o. OnOk o (versions_of new.records r ≡ installed c.args.by c.args.image ks)) c.in_ok-added.was c.write.ensures.stored in
-    let made = subst (λ o. OnOk o (new ≡ record old { records = new.records; long = new.long; made = old.made + (if begins_open c.args.by ks then 0 else 1) })) c.in_ok-added.was
+    let stored = subst (λ o. OnOk o (versions_of new.records r ≡ installed c.args.author.writer c.args.image ks)) c.in_ok-added.was c.write.ensures.stored in
+    let made = subst (λ o. OnOk o (new ≡ record old { records = new.records; long = new.long; made = old.made + (if begins_open c.args.author.writer ks then 0 else 1) })) c.in_ok-added.was
     c.write.ensures.made in
     let hold = look_holds v w (boxed c.args.self.now c.deref_mut.result.now) _ n (boxed_holds c.args.self.now c.deref_mut.result.now c.deref_mut.ensures.value c.requires.holds.1)
     c.look-mark.ensures.step.looks in
@@ -136,7 +136,7 @@ returns-in_err-added-clause-owner c =
     (boxed_holds c.args.self.now c.deref_mut.result.now c.deref_mut.ensures.value c.requires.holds.1) c.look-mark.ensures.step.looks c.look-mark.ensures.step.backed
     c.look-mark.ensures.own.3 c.requires.here c.write.result c.from_residual.result c.in_err-added.field-0.0 d c.in_err-added.was same
     (subst (λ (b : Writer). IfErr c.write.result (IsCause b (snapshot v) n ks)) c.requires.words.0
-    (subst (λ s. IfErr c.write.result (IsCause c.args.by s n ks)) c.requires.words.1 c.write.ensures.cause))
+    (subst (λ s. IfErr c.write.result (IsCause c.args.author.writer s n ks)) c.requires.words.1 c.write.ensures.cause))
 
 pub returns-clause-added : goal.returns-clause-added
 returns-clause-added c =
@@ -144,7 +144,7 @@ returns-clause-added c =
     let w = session_view c.look-mark.new.pass in
     let r = c.args.rid in
     let ks = versions_of c.deref_mut.result.now.records r in
-    let told = subst (λ o. IfOk o (λ added. added ≡ not (begins_open c.args.by ks))) c.in_ok-added.was c.write.ensures.added in
+    let told = subst (λ o. IfOk o (λ added. added ≡ not (begins_open c.args.author.writer ks))) c.in_ok-added.was c.write.ensures.added in
     told ∙ ap not (ap (λ b. begins_open b ks) c.requires.words.0 ∙ open_logged (sizes_of c.args.board.now) c.look-mark.result v w (boxed c.args.self.now c.deref_mut.result.now) r
     (boxed_holds c.args.self.now c.deref_mut.result.now c.deref_mut.ensures.value c.requires.holds.1) c.look-mark.ensures.step.looks c.look-mark.ensures.step.backed
     c.look-mark.ensures.own.3 c.requires.here c.requires.open.2)
@@ -162,7 +162,7 @@ returns-clause-step c =
     let told = refusal_told (sizes_of c.args.board.now) n v (boxed c.args.self.now c.deref_mut.result.now) r c.write.result hold d
     (subst (λ (b : Writer). IfSome (holder b n ks) (λ x. c.write.result ≡ Err (open_by x))) c.requires.words.0 c.write.ensures.open)
     (subst (λ (b : Writer). holder b n ks ≡ None → IfSome (newer (snapshot v) ks) (λ m. c.write.result ≡ Err (Newer m))) c.requires.words.0
-    (subst (λ s. holder c.args.by n ks ≡ None → IfSome (newer s ks) (λ m. c.write.result ≡ Err (Newer m))) c.requires.words.1 c.write.ensures.newer)) in
+    (subst (λ s. holder c.args.author.writer n ks ≡ None → IfSome (newer s ks) (λ m. c.write.result ≡ Err (Newer m))) c.requires.words.1 c.write.ensures.newer)) in
     record {
       mark = n;
       looked = w;

@@ -1,6 +1,6 @@
 use Rattle.std.proofs.Common.{rules, ◌≡◌, ap, ◌∙◌}
 use Rattle.hg_tracker.specs.Entries.{lowest}
-use Rattle.hg_tracker.proofs.Noting.{at_table, bound_is}
+use Rattle.hg_tracker.proofs.Bounds.{at_table, bound_is}
 use Rattle.hg_tracker.proofs.gathered.Gathered.bound.Goals as goal
 
 pub returns : goal.returns

@@ -1,7 +1,7 @@
 use Rattle.std.proofs.Common.{rules, ◌≡◌, sym, ap, ◌∙◌, subst}
 use Rattle.std.specs.List.Sorted.{IsNonDecreasing}
 use Rattle.hg_tracker.specs.Entries.{times}
-use Rattle.hg_tracker.proofs.Noting.{at_table, list_rises, list_numbers}
+use Rattle.hg_tracker.proofs.Bounds.{at_table, list_rises, list_numbers}
 use Rattle.hg_tracker.proofs.gathered.Gathered.for_table.Goals as goal
 
 pub returns-clause-rises : goal.returns-clause-rises

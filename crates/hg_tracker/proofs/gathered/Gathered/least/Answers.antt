@@ -1,7 +1,7 @@
 use Rattle.std.proofs.Common.{rules, ◌≡◌, map, ◌∙◌}
 use Rattle.hg_base.specs.declared.report.Entry.{Entry}
 use Rattle.hg_tracker.specs.Entries.{lowest}
-use Rattle.hg_tracker.proofs.Noting.{least_is_bound}
+use Rattle.hg_tracker.proofs.Bounds.{least_is_bound}
 use Rattle.hg_tracker.proofs.gathered.Gathered.least.Goals as goal
 
 pub returns : goal.returns

@@ -3,7 +3,7 @@ use Rattle.std.proofs.lemmas.List.Sorted.{length_permutation}
 use Rattle.hg_base.specs.declared.report.Entry.{Entry}
 use Rattle.hg_tracker.specs.Entries.{common_numbers, moved_of}
 use Rattle.hg_tracker.specs.Gathers.{AreListsOf}
-use Rattle.hg_tracker.proofs.Noting.{none_listed}
+use Rattle.hg_tracker.proofs.TableLists.{none_listed}
 use Rattle.hg_tracker.proofs.gathered.Gathered.sum_up.Goals as goal
 
 pub fill_all-requires-clause-room : goal.fill_all-requires-clause-room

@@ -5,7 +5,7 @@ use Rattle.hg_rule.specs.Rounds.{entries_of}
 use Rattle.hg_tracker.specs.Gathers.{IsNotedOf}
 use Rattle.hg_tracker.specs.Begun.{HasLoaded}
 use Rattle.hg_tracker.specs.Boards.{board_sizes}
-use Rattle.hg_tracker.proofs.Noting.{entries_most}
+use Rattle.hg_tracker.proofs.TableLists.{entries_most}
 use Rattle.hg_tracker.proofs.After.{loads_none, keys_length, none_past, gathered_of, whole_of, noted_one}
 use Rattle.hg_tracker.proofs.trackers.Trackers.gather.Goals as goal
 

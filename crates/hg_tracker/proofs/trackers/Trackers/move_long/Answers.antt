@@ -5,9 +5,9 @@ use Rattle.hg_rule.specs.Steps.{Moves}
 use Rattle.hg_rule.specs.Rounds.{entries_of}
 use Rattle.hg_tracker.specs.Tries.{is_long}
 use Rattle.hg_tracker.specs.Boards.{board_sizes}
-use Rattle.hg_tracker.proofs.Noting.{entries_most}
+use Rattle.hg_tracker.proofs.TableLists.{entries_most}
 use Rattle.hg_tracker.proofs.After.{keys_length}
-use Rattle.hg_tracker.proofs.Trying.{next_tried, skip_tried, drop_at, drop_more}
+use Rattle.hg_tracker.proofs.Tries.{next_tried, skip_tried, drop_at, drop_more}
 use Rattle.hg_tracker.proofs.trackers.Trackers.move_long.Goals as goal
 use Rattle.hg_tracker.proofs.trackers.Trackers.move_long.Goals.{then-is_long_in_use+then-moved, then-is_long_in_use+else-moved, else-is_long_in_use}
 

@@ -7,7 +7,8 @@ use Rattle.hg_rule.specs.Seats.{pass_view}
 use Rattle.hg_rule.specs.Steps.{HasRegister, Moves}
 use Rattle.hg_tracker.specs.Gathers.{StandsAt}
 use Rattle.hg_tracker.specs.Boards.{board_sizes}
-use Rattle.hg_tracker.proofs.Trying.{found_session, full_found, movable_found, noted_moved, loaded_moved}
+use Rattle.hg_tracker.proofs.Entries.{found_session, full_found, movable_found}
+use Rattle.hg_tracker.proofs.Tries.{noted_moved, loaded_moved}
 use Rattle.hg_tracker.proofs.trackers.Trackers.try_move.Goals as goal
 
 -- what was loaded of the entry's session

@@ -2,7 +2,7 @@ use Rattle.std.proofs.Common.{rules, ◌≡◌, ◌∙◌}
 use Rattle.hg_rule.specs.Seats.{view}
 use Rattle.hg_rule.specs.Moves.{joined, left_bare, left_but_second, right_second}
 use Rattle.hg_rule.proofs.Shifts.{joins, gives_all, gives_second, back_left, back_right}
-use Rattle.hg_rule.proofs.board.Board.meet.Goals as goal
+use Rattle.hg_rule.proofs.joins.meet.Goals as goal
 
 pub split_seat-gift-requires : goal.split_seat-gift-requires
 split_seat-gift-requires g c = (search rules, search rules, gives_all _ _ _)

@@ -6,7 +6,7 @@ use Rattle.hg_rule.specs.Moves.{run, first_of, left_tail, right_first}
 use Rattle.hg_rule.specs.New.{IsNew, EachFrom}
 use Rattle.hg_rule.proofs.Shifts.{deals}
 use Rattle.hg_rule.proofs.Opening.{drop_next, run_at, each_from_snoc}
-use Rattle.hg_rule.proofs.board.Board.deal.Goals as goal
+use Rattle.hg_rule.proofs.maker.deal.Goals as goal
 
 pub split_seat-seat-requires : goal.split_seat-seat-requires
 split_seat-seat-requires g c = (search rules, search rules, deals _ _ _)
@@ -18,7 +18,7 @@ loop-i-preserved g c =
     let v = view c.args.maker.now in
     let ps : List Part = v.parts in
     let m = c.loop-i.maker in
-    let t = board_id c.args.self.now in
+    let t = board_id c.args.board.now in
     let vi : view m ≡ seeing (drop i ps) [] v.events = c.loop-i.invariant.1 in
     let did = c.split_seat-seat.ensures in
     let r : List Part = c.requires.parts.0 in

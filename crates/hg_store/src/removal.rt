@@ -1,10 +1,11 @@
-//! What a collector's pass sweeps in a bucket that it holds. Each record that is visited costs one step of the pass.
+//! What a collector's pass removes in a bucket that it holds: it cuts one record, or cuts or sweeps a table. Each record that is visited
+//! costs one step of the pass.
 
 ghost use Rattle.std.specs.Prelude.{◌≡◌, ℕ, ◌+◌, ◌≤◌, length, take};
-ghost use Rattle.hg_base.specs.declared.report.Kind.TheVariants.{Interval};
-ghost use Rattle.hg_core.specs.Passes.{IsWhole, recorded};
+ghost use Rattle.hg_base.specs.declared.report.Kind.TheVariants.{Group, Table, Interval};
+ghost use Rattle.hg_core.specs.Passes.{IsWhole, recorded, group_bound, table_bound};
 ghost use Rattle.hg_core.specs.Contents.{bucket_of};
-ghost use Rattle.hg_core.specs.Clean.{IsClean};
+ghost use Rattle.hg_core.specs.Clean.{IsClean, IsCutAt};
 ghost use Rattle.hg_bucket.specs.BucketModel.{long_keys, record_at, versions_of};
 ghost use Rattle.hg_bucket.specs.Sweeping.{record_steps, sweep_steps};
 ghost use Rattle.hg_rule.specs.Holding.{held};
@@ -33,6 +34,88 @@ struct Long {
 pub struct Guards<'a> {
     pub horizon: u64,
     pub snapshots: &'a [u64],
+}
+
+impl<'a> Held<'a> {
+    /// Cuts a record at the group bound of the pass's record, which is whole. The answer says how many versions went.
+    pub fn cut_record(
+        &mut self,
+        board: &Board,
+        pass: &mut CollectorPass,
+        rid: Rid,
+        bound: u64,
+    ) -> u64
+        requires holds { IsCollectorHolding board.now pass.old self.old }
+        requires whole { IsWhole (sizes_of board.now).sessions
+            (record_of (own_pass (pass_view pass.old))) }
+        requires here { bucket_of (sizes_of board.now).buckets rid ≡ held_number self.old }
+        requires bound { bound ≡ group_bound (record_of (own_pass (pass_view pass.old))) }
+        ensures step { Reclaims (pass_view pass.old) rid Group (pass_view pass.new) }
+        ensures gone { result ≡ removed_of (pass_view pass.old) rid Group }
+        ensures holds { IsCollectorHolding board.now pass.new self.new ×
+            IsSameBucket self.old self.new }
+    {
+        board.reclaim(pass, rid, Kind::Group);
+        self.bucket.cut_record(rid, bound)
+    }
+
+    /// Cuts each record of a table at that table's bound by the pass's record, which is whole. The answer says how many versions
+    /// went. A record that has only its oldest image costs nothing.
+    pub fn cut_table(
+        &mut self,
+        board: &Board,
+        pass: &mut CollectorPass,
+        table: TableId,
+        bound: u64,
+    ) -> u64
+        requires holds { IsCollectorHolding board.now pass.old self.old }
+        requires whole { IsWhole (sizes_of board.now).sessions
+            (record_of (own_pass (pass_view pass.old))) }
+        requires bound { bound ≡ table_bound table (record_of (own_pass (pass_view pass.old))) }
+        ensures steps { Clears (pass_view pass.old) table Table (pass_view pass.new) }
+        ensures left { Leaves (pass_view pass.old) table Table (pass_view pass.new) }
+        ensures cut { (k : ℕ) → IsCutAt bound (held (pass_view pass.new) (record_at table k)) }
+        ensures gone { Counts (pass_view pass.old) Table result (pass_view pass.new) }
+        ensures holds { IsCollectorHolding board.now pass.new self.new ×
+            IsSameBucket self.old self.new }
+    {
+        board.look_at(pass);
+        let mut gone = 0;
+        let mut left = self.bucket.long_count(table);
+        while left > 0 {
+            left -= 1;
+            let key = self.bucket.long_key(table, left);
+            gone += self.cut_one(board, pass, Rid { table, key }, left, bound);
+        }
+        gone
+    }
+
+    // Cuts one record at its table's bound, where the bucket's list has it at that index.
+    fn cut_one(
+        &mut self,
+        board: &Board,
+        pass: &mut CollectorPass,
+        rid: Rid,
+        at: usize,
+        bound: u64,
+    ) -> u64
+        requires holds { IsCollectorHolding board.now pass.old self.old }
+        requires whole { IsWhole (sizes_of board.now).sessions
+            (record_of (own_pass (pass_view pass.old))) }
+        requires here { bucket_of (sizes_of board.now).buckets rid ≡ held_number self.old }
+        requires listed { IsListedAt rid at self.old }
+        requires bound { bound ≡ table_bound rid.table (record_of (own_pass (pass_view pass.old))) }
+        ensures step { Reclaims (pass_view pass.old) rid Table (pass_view pass.new) }
+        ensures gone { result ≡ removed_of (pass_view pass.old) rid Table }
+        ensures holds { IsCollectorHolding board.now pass.new self.new ×
+            IsSameBucket self.old self.new }
+        // the list's records before this one are where they were
+        ensures front { take at (long_keys (held_records self.new) rid.table) ≡
+            take at (long_keys (held_records self.old) rid.table) }
+    {
+        board.reclaim(pass, rid, Kind::Table);
+        self.bucket.cut_long(rid, at, bound)
+    }
 }
 
 impl<'a> Held<'a> {
@@ -67,12 +150,12 @@ impl<'a> Held<'a> {
     {
         board.look_at(pass);
         let mut gone = 0;
-        let mut left = self.bucket.long_count(table);
-        while left > 0 {
-            left -= 1;
-            let key = self.bucket.long_key(table, left);
+        let mut at = self.bucket.long_count(table);
+        while at > 0 {
+            at -= 1;
+            let key = self.bucket.long_key(table, at);
             let rid = Rid { table, key };
-            let long = Long { rid, at: left };
+            let long = Long { rid, at };
             gone += self.sweep_one(board, pass, long, guards, steps);
         }
         gone
