@@ -18,5 +18,8 @@ pub mod TextFits
 pub mod TextReading
 pub mod TextReplies
 pub mod TextLines
+-- A number is read digit by digit, and is written in one way.
+pub mod Digits
+pub mod Decimal
 -- What a source in memory gives.
 pub mod Fronts

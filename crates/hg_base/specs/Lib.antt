@@ -12,6 +12,8 @@ pub mod Freshness
 pub mod Counts
 pub mod Sound
 pub mod Text
+-- Which fields are numbers, and which number each is.
+pub mod Number
 -- What a collector may take.
 pub mod Lifetimes
 -- The outside: reports as they are printed, faults, and what lies in memory.

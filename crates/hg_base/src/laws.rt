@@ -1,6 +1,6 @@
 //! Laws of the definitions, each the contract of a function with no body.
 
-ghost use Rattle.std.specs.Prelude.{◌≡◌, ℕ, suc, ◌<◌, ◌≤◌, List, [], ◌∷◌, ◌++◌, length, Some, None, IsSome, Contains};
+ghost use Rattle.std.specs.Prelude.{◌≡◌, ◌↔◌, ℕ, suc, ◌<◌, ◌≤◌, List, [], ◌∷◌, ◌++◌, decimal, length, Some, None, IsSome, Contains};
 ghost use Rattle.hg_base.specs.declared.rid.Rid.{Rid};
 ghost use Rattle.hg_base.specs.declared.image.Image.{Image};
 ghost use Rattle.hg_base.specs.Lists.{Each, onto};
@@ -10,6 +10,8 @@ ghost use Rattle.hg_base.specs.Sound.{IsRight, AreRight};
 ghost use Rattle.hg_base.specs.declared.line.Printed.{Printed};
 ghost use Rattle.hg_base.specs.Script.{Mode, Script};
 ghost use Rattle.hg_base.specs.Text.{IsFit, text_records};
+ghost use Rattle.hg_base.specs.Number.{natural_of};
+ghost use Rattle.hg_base.specs.declared.number.Natural.TheVariants.{Is};
 
 /// A reader at a snapshot sees the last write numbered at or below it, and nothing where there is none. A group that is
 /// added later changes nothing of what is seen below its number.
@@ -60,4 +62,9 @@ pub fn committing_line_stays_right()
 pub fn texts_determine_values()
     ensures { (script : Script) (a b : Printed) → IsFit script a → IsFit script b →
         text_records script a ≡ text_records script b → a ≡ b }
+{}
+
+/// A field is the number `k` exactly where it is what is printed for `k`.
+pub fn numbers_are_decimal(_text: &[u8], _k: u64)
+    ensures { (natural_of _text.now ≡ Is _k) ↔ (_text.now ≡ decimal _k) }
 {}

@@ -11,6 +11,9 @@
 //! Nothing there mentions version chains, registers or collectors. Its one rule: the printed commit numbers give a history of groups
 //! (`history_of`), and each reply is the one that a table with that history, which never reclaims a version, would give.
 //!
+//! A number is `0`, or a digit from 1 to 9 and then digits; an integer may also be `-` and then such a number other than `0`. So each
+//! number is written in one way (`read_natural`, `read_integer`).
+//!
 //! The types here are those of the surface, and the definitions use them as they are. Contracts see a list type as a plain list; it is
 //! made from a `Vec`, and turned back into one, without allocating.
 #![tactic(auto)]
@@ -22,6 +25,7 @@ mod laws;
 mod limits;
 mod line;
 mod memory;
+mod number;
 mod outside;
 mod packed;
 mod report;
@@ -38,8 +42,8 @@ mod writer;
 pub use fault::{Failed, NoMemory};
 pub use image::Image;
 pub use laws::{
-    committing_line_stays_right, plain_line_stays_right, texts_determine_values, updates_are_kept,
-    visible_is_the_last_write,
+    committing_line_stays_right, numbers_are_decimal, plain_line_stays_right,
+    texts_determine_values, updates_are_kept, visible_is_the_last_write,
 };
 pub use limits::{
     DEFAULT_BUCKETS, DEFAULT_LONG, DEFAULT_ROUNDS, MOST_BUCKETS, MOST_COLUMNS, MOST_LONG,
@@ -48,6 +52,7 @@ pub use limits::{
 };
 pub use line::{Answer, Line, LineList, Printed, Reply, Totals};
 pub use memory::{MemorySink, MemorySource};
+pub use number::{Integer, Natural, read_integer, read_natural};
 pub use outside::{Gate, NoGate, Sink, Source};
 pub use report::{Entry, EntryList, Kind, Report, Sweep, Told, ToldList};
 pub use rid::{Rid, TableId};

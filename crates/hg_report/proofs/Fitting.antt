@@ -23,9 +23,9 @@ use Rattle.hg_base.specs.Lists.{Each}
 use Rattle.hg_base.specs.Script.{Declaration, Script}
 use Rattle.hg_base.specs.Transcript.{table_of}
 use Rattle.hg_base.specs.Text.{Field, Fits64, Fits32, FitsRow, FitsPut, FitsDel, FitsSweep, FitsAnswer, FitsReply, Fits, cursor_before, kinds_of, is_write}
-use Rattle.hg_numeral.specs.declared.number.Integer.{Integer}
-use Rattle.hg_numeral.specs.declared.number.Integer.TheVariants as signed
-use Rattle.hg_numeral.specs.Number.{integer_of}
+use Rattle.hg_base.specs.declared.number.Integer.{Integer}
+use Rattle.hg_base.specs.declared.number.Integer.TheVariants as signed
+use Rattle.hg_base.specs.Number.{integer_of}
 use Rattle.hg_script.proofs.Widths.{IsNarrow, natural-fits, integer-narrow}
 use Rattle.hg_records.specs.Asked.{asked_by, table_asked}
 use Rattle.hg_transcript.specs.declared.piece.Piece.{Piece}

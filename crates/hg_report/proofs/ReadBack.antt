@@ -14,9 +14,9 @@ use Rattle.hg_base.specs.Lists.{Each}
 use Rattle.hg_base.specs.Text.{Field, value_field}
 use Rattle.hg_base.specs.Values.{FitsColumns, FitsValue, kind_of}
 use Rattle.hg_base.proofs.TextNumbers.{first_digit}
-use Rattle.hg_numeral.specs.declared.number.Natural.TheVariants as n
-use Rattle.hg_numeral.specs.Number.{natural_of, value_of, integer_of}
-use Rattle.hg_numeral.proofs.Decimal.{back}
+use Rattle.hg_base.specs.declared.number.Natural.TheVariants as n
+use Rattle.hg_base.specs.Number.{natural_of, value_of, integer_of}
+use Rattle.hg_base.proofs.Decimal.{back}
 use Rattle.hg_csv.specs.Bytes.{field_bytes}
 use Rattle.hg_report.specs.Fields.{nth, natural_at, session_in, narrow, integer_value, value_in, values_in, row_in}
 use Rattle.hg_report.proofs.Columns.{AreFew}

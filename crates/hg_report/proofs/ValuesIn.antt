@@ -8,7 +8,7 @@ use Rattle.hg_base.specs.declared.value.Column.TheVariants as columns
 use Rattle.hg_base.specs.declared.value.Value.{Value}
 use Rattle.hg_base.specs.declared.value.Value.TheVariants.{Number}
 use Rattle.hg_base.specs.Text.{Field}
-use Rattle.hg_numeral.specs.Number.{integer_of}
+use Rattle.hg_base.specs.Number.{integer_of}
 use Rattle.hg_report.specs.Fields.{holds_text, integer_value, nth, value_in, values_in}
 
 pub values_none : (fields : List Field) (i : ℕ) → [] ≡ values_in fields i []

@@ -8,9 +8,9 @@ use Rattle.hg_base.specs.declared.value.Column.TheVariants as columns
 use Rattle.hg_base.specs.declared.value.Value.{Value}
 use Rattle.hg_base.specs.declared.value.Value.TheVariants.{Number, Text}
 use Rattle.hg_base.specs.Text.{Field}
-use Rattle.hg_numeral.specs.declared.number.Integer.{Integer}
-use Rattle.hg_numeral.specs.declared.number.Integer.TheVariants as signed
-use Rattle.hg_numeral.specs.Number.{natural_of, value_of, integer_of}
+use Rattle.hg_base.specs.declared.number.Integer.{Integer}
+use Rattle.hg_base.specs.declared.number.Integer.TheVariants as signed
+use Rattle.hg_base.specs.Number.{natural_of, value_of, integer_of}
 
 -- the fields that slices are
 unfoldable pub fields_of : List (Bor (List ℕ)) → List Field

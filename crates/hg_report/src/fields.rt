@@ -3,8 +3,7 @@
 ghost use Rattle.std.specs.Prelude.{◌≡◌, ◌≤◌, ◌-◌, ◌==◌, ◌∷◌, ◌++◌, [], OnOk, drop, false, if◌then◌else◌, length, not, take};
 ghost use Rattle.hg_report.specs.Fields.{fields_of, narrow, nth, natural_at, parted, says, session_in};
 
-use hg_base::NoMemory;
-use hg_numeral::read_natural;
+use hg_base::{NoMemory, read_natural};
 
 // Whether what follows the byte is within quotes.
 fn is_quoted_behind(quoted: bool, b: u8) -> bool

@@ -6,8 +6,9 @@ ghost use Rattle.hg_base.specs.declared.limits.TheConstants.{MOST_COLUMNS, MOST_
 ghost use Rattle.hg_report.specs.Fields.{fields_of, is_left_out, holds_text, integer_value, nth, row_in, text_in, unquoted, value_in, values_in};
 
 use crate::fields::field;
-use hg_base::{Column, MOST_COLUMNS, MOST_TEXT_BYTES, NoMemory, Row, Text, Value};
-use hg_numeral::{Integer, read_integer};
+use hg_base::{
+    Column, Integer, MOST_COLUMNS, MOST_TEXT_BYTES, NoMemory, Row, Text, Value, read_integer,
+};
 use std::alloc::Global;
 
 fn integer_value(integer: Integer) -> i64

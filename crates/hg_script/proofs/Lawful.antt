@@ -22,8 +22,8 @@ use Rattle.hg_script.proofs.Scopes.{among, scope-fits}
 use Rattle.hg_script.proofs.Widths.{natural-fits, values-fit}
 use Rattle.hg_script.proofs.Typed.{row-kinds}
 use Rattle.hg_script.specs.declared.code.Code.{Code}
-use Rattle.hg_numeral.specs.declared.number.Natural.{Natural}
-use Rattle.hg_numeral.specs.declared.number.Natural.TheVariants as n
+use Rattle.hg_base.specs.declared.number.Natural.{Natural}
+use Rattle.hg_base.specs.declared.number.Natural.TheVariants as n
 use Rattle.hg_script.specs.declared.values.Values.{Values}
 use Rattle.hg_script.specs.declared.values.Values.TheVariants.{No, Over, Bad, Are}
 use Rattle.hg_script.specs.declared.word.Word.{Word}
@@ -32,10 +32,10 @@ use Rattle.hg_script.specs.declared.draft.Ask.{Ask}
 use Rattle.hg_script.specs.declared.draft.Ask.TheVariants.{Begin, Get, Put, Del, Scan, CursorOpen, Fetch, CursorClose, Commit, Rollback, Gc}
 use Rattle.hg_script.specs.declared.draft.Draft.{Draft}
 use Rattle.hg_script.specs.declared.draft.Draft.TheVariants.{Version, Table, Session}
-use Rattle.hg_numeral.specs.Number.{is_between, natural_of, value_of}
-use Rattle.hg_numeral.specs.declared.number.Integer.{Integer}
-use Rattle.hg_numeral.specs.declared.number.Integer.TheVariants as signed
-use Rattle.hg_numeral.specs.Number.{integer_of}
+use Rattle.hg_base.specs.Number.{is_between, natural_of, value_of}
+use Rattle.hg_base.specs.declared.number.Integer.{Integer}
+use Rattle.hg_base.specs.declared.number.Integer.TheVariants as signed
+use Rattle.hg_base.specs.Number.{integer_of}
 use Rattle.hg_script.specs.Numbered.{records_before}
 use Rattle.hg_script.proofs.Numbered.{few_before}
 use Rattle.hg_script.specs.Fields.{Field, Fields, is_version, nth, statement_word, word_of}

@@ -2,10 +2,10 @@
 use Rattle.std.proofs.Common.{◌≡◌, ◌<◌, ◌+◌, ◌∙◌, ℕ, ℤ, Bool, true, false, List, [], ◌∷◌, ◌++◌, length, map, take, set, drop, refl, arith, sym, ap, append_assoc}
 use Rattle.std.proofs.lemmas.List.{map-append, take_more_set}
 use Rattle.hg_base.specs.declared.value.Value.TheVariants.{Number}
-use Rattle.hg_numeral.specs.declared.number.Integer.TheVariants as signed
+use Rattle.hg_base.specs.declared.number.Integer.TheVariants as signed
 use Rattle.hg_script.specs.declared.values.Values.{Values}
 use Rattle.hg_script.specs.declared.values.Values.TheVariants.{No, Over, Bad, Are}
-use Rattle.hg_numeral.specs.Number.{integer_of}
+use Rattle.hg_base.specs.Number.{integer_of}
 use Rattle.hg_script.specs.Fields.{Fields, nth}
 use Rattle.hg_script.specs.Draft.{before, numbers_in}
 use Rattle.hg_script.proofs.Rows.{rest-at}

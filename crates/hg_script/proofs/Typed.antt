@@ -9,11 +9,11 @@ use Rattle.hg_base.specs.declared.value.Column.TheVariants as column
 use Rattle.hg_base.specs.declared.value.Value.{Value}
 use Rattle.hg_base.specs.declared.value.Value.TheVariants.{Number, Text}
 use Rattle.hg_base.specs.Values.{kind_of}
-use Rattle.hg_numeral.specs.declared.number.Integer.{Integer}
-use Rattle.hg_numeral.specs.declared.number.Integer.TheVariants as signed
+use Rattle.hg_base.specs.declared.number.Integer.{Integer}
+use Rattle.hg_base.specs.declared.number.Integer.TheVariants as signed
 use Rattle.hg_script.specs.declared.values.Values.{Values}
 use Rattle.hg_script.specs.declared.values.Values.TheVariants.{No, Over, Bad, Are}
-use Rattle.hg_numeral.specs.Number.{integer_of}
+use Rattle.hg_base.specs.Number.{integer_of}
 use Rattle.hg_script.specs.Fields.{Field, Fields, nth}
 use Rattle.hg_script.specs.Draft.{and_then, before, number_value, numbers_in, row_in, typed_in, value_in}
 use Rattle.hg_script.specs.Typed.{holds_numbers, or_bad}

@@ -12,13 +12,13 @@ use Rattle.std.proofs.lemmas.Bool.{ltb-true, leb-true, cond_both}
 use lib.Signed.{mag}
 use Rattle.hg_base.specs.Lists.{Each}
 use Rattle.hg_base.specs.Text.{Fits64}
-use Rattle.hg_numeral.specs.declared.number.Natural.{Natural}
-use Rattle.hg_numeral.specs.declared.number.Natural.TheVariants as n
-use Rattle.hg_numeral.specs.declared.number.Integer.{Integer}
-use Rattle.hg_numeral.specs.declared.number.Integer.TheVariants as signed
+use Rattle.hg_base.specs.declared.number.Natural.{Natural}
+use Rattle.hg_base.specs.declared.number.Natural.TheVariants as n
+use Rattle.hg_base.specs.declared.number.Integer.{Integer}
+use Rattle.hg_base.specs.declared.number.Integer.TheVariants as signed
 use Rattle.hg_script.specs.declared.values.Values.{Values}
 use Rattle.hg_script.specs.declared.values.Values.TheVariants.{No, Over, Bad, Are}
-use Rattle.hg_numeral.specs.Number.{natural_of, integer_of, value_of, plus, minus, is_natural}
+use Rattle.hg_base.specs.Number.{natural_of, integer_of, value_of, plus, minus, is_natural}
 use Rattle.hg_script.specs.Fields.{Field}
 use Rattle.hg_script.specs.Draft.{and_then, before, number_value, numbers_in, row_in, typed_in, value_in, values_by}
 use Rattle.hg_script.specs.Meaning.{row_of}

@@ -18,10 +18,10 @@ use Rattle.hg_base.specs.Script.{Declaration}
 use Rattle.hg_base.specs.Text.{kinds_of}
 use Rattle.hg_script.specs.declared.columns.Columns.{Columns}
 use Rattle.hg_script.specs.declared.columns.Columns.TheVariants as columns
-use Rattle.hg_numeral.specs.declared.number.Natural.{Natural}
-use Rattle.hg_numeral.specs.declared.number.Natural.TheVariants as natural
-use Rattle.hg_numeral.specs.declared.number.Integer.{Integer}
-use Rattle.hg_numeral.specs.declared.number.Integer.TheVariants as signed
+use Rattle.hg_base.specs.declared.number.Natural.{Natural}
+use Rattle.hg_base.specs.declared.number.Natural.TheVariants as natural
+use Rattle.hg_base.specs.declared.number.Integer.{Integer}
+use Rattle.hg_base.specs.declared.number.Integer.TheVariants as signed
 use Rattle.hg_script.specs.declared.values.Values.{Values}
 use Rattle.hg_script.specs.declared.values.Values.TheVariants.{No, Over, Bad, Are}
 use Rattle.hg_script.specs.declared.word.Word.{Word}
@@ -29,7 +29,7 @@ use Rattle.hg_script.specs.declared.word.Word.TheVariants as word
 use Rattle.hg_script.specs.declared.draft.Ask.TheVariants.{Begin, Get, Put, Del, Scan, CursorOpen, Fetch, CursorClose, Commit, Rollback, Gc}
 use Rattle.hg_script.specs.declared.draft.Draft.{Draft}
 use Rattle.hg_script.specs.declared.draft.Draft.TheVariants.{Version, Table, Session}
-use Rattle.hg_numeral.specs.Number.{is_digit, natural_of, integer_of}
+use Rattle.hg_base.specs.Number.{is_digit, natural_of, integer_of}
 use Rattle.hg_script.specs.Fields.{Field, Fields, nth}
 
 -- ---- names

@@ -16,7 +16,7 @@ use Rattle.hg_script.specs.declared.code.Code.{Code}
 use Rattle.hg_script.specs.declared.code.Code.TheVariants.{Count, Word as BadWord, Fields as BadFields, Number, Range, Name, Columns as BadColumns, Value as BadValue, Order}
 use Rattle.hg_script.specs.declared.refusal.ScriptRefusal.{ScriptRefusal}
 use Rattle.hg_script.specs.declared.refusal.ScriptRefusal.TheVariants.{At, NoMemory}
-use Rattle.hg_numeral.specs.declared.number.Natural.{Natural}
+use Rattle.hg_base.specs.declared.number.Natural.{Natural}
 use Rattle.hg_script.specs.declared.values.Values.{Values}
 use Rattle.hg_script.specs.declared.values.Values.TheVariants.{Are}
 use Rattle.hg_script.specs.declared.word.Word.{Word}
@@ -24,7 +24,7 @@ use Rattle.hg_script.specs.declared.draft.Ask.{Ask}
 use Rattle.hg_script.specs.declared.draft.Ask.TheVariants.{Begin, Get, Put, Del, Scan, CursorOpen, Fetch, CursorClose, Commit, Rollback, Gc}
 use Rattle.hg_script.specs.declared.draft.Draft.{Draft}
 use Rattle.hg_script.specs.declared.draft.Draft.TheVariants.{Version, Table, Session}
-use Rattle.hg_numeral.specs.Number.{value_of}
+use Rattle.hg_base.specs.Number.{value_of}
 use Rattle.hg_script.specs.Fields.{Fields, nth, word_of}
 use Rattle.hg_script.specs.Draft.{draft_of, first_table}
 use Rattle.hg_script.specs.Rules.{count_breaks, fields_breaks, number_breaks, range_breaks, name_breaks, columns_breaks, value_breaks, order_breaks}

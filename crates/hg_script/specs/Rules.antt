@@ -17,7 +17,7 @@ use Rattle.hg_script.specs.declared.draft.Draft.{Draft}
 use Rattle.hg_script.specs.declared.draft.Draft.TheVariants.{Version, Table, Session}
 use Rattle.hg_script.specs.declared.rules.TheConstants.{MOST_FETCHED}
 use Rattle.hg_script.specs.Draft.{kinds_at}
-use Rattle.hg_numeral.specs.Number.{is_no, is_over, is_between, value_of}
+use Rattle.hg_base.specs.Number.{is_no, is_over, is_between, value_of}
 
 -- ---- Count: one record too many, or one table
 

@@ -8,8 +8,7 @@ ghost use Rattle.hg_script.specs.Draft.{columns_by, counted, is_letter, kind_by,
 ghost use Rattle.hg_script.specs.Meaning.{kinds_in};
 ghost use Rattle.hg_script.specs.Rules.{is_no_columns, is_over_columns};
 
-use hg_base::{Column, MOST_COLUMNS, NoMemory};
-use hg_numeral::{Natural, read_natural};
+use hg_base::{Column, MOST_COLUMNS, Natural, NoMemory, read_natural};
 use std::alloc::Global;
 use std::marker::Model;
 

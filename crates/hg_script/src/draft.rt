@@ -4,7 +4,7 @@ ghost use Rattle.std.specs.Prelude.{◌≡◌, IfOk, drop, false, length};
 ghost use Rattle.csv.specs.Records.{fields_of};
 ghost use Rattle.hg_script.specs.Draft.{draft_of, kinds_at, table_named, values_by};
 ghost use Rattle.hg_script.specs.Fields.{nth};
-ghost use Rattle.hg_numeral.specs.Number.{natural_of};
+ghost use Rattle.hg_base.specs.Number.{natural_of};
 ghost use Rattle.hg_script.specs.declared.draft.Ask.TheVariants.{Put, CursorOpen};
 ghost use Rattle.hg_script.specs.declared.word.Word.TheVariants as word;
 ghost use Rattle.hg_script.specs.Rules.{ask_number_breaks, ask_range_breaks, ask_value_breaks, fields_breaks};
@@ -18,8 +18,7 @@ use crate::tables::Tables;
 use crate::values::Values;
 use crate::word::{Word, field};
 use csv::ByteRecord;
-use hg_base::{Kind, NoMemory, Rid, Scope, Statement, TableId};
-use hg_numeral::{Natural, read_natural};
+use hg_base::{Kind, Natural, NoMemory, Rid, Scope, Statement, TableId, read_natural};
 use std::alloc::Global;
 
 /// What a session's record asks. A table that is not declared is `None`, and so is a scope that names one, and a collector that

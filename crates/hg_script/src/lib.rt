@@ -71,7 +71,7 @@ mod values;
 mod word;
 
 pub use code::Code;
-pub use hg_numeral::{Integer, Natural, numbers_are_decimal, read_integer, read_natural};
+pub use hg_base::{Integer, Natural, numbers_are_decimal, read_integer, read_natural};
 pub use hg_records::Asked;
 pub use law::{cursors_are_in_order, scopes_have_what_is_named};
 pub use reader::read_script;

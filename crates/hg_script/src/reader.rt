@@ -7,7 +7,7 @@ ghost use Rattle.csv.specs.Records.{fields_of};
 ghost use Rattle.hg_script.specs.declared.refusal.ScriptRefusal.TheVariants as refusal;
 ghost use Rattle.hg_script.specs.declared.draft.Draft.TheVariants as draft;
 ghost use Rattle.hg_script.specs.Fields.{rows_of, unread, word_of};
-ghost use Rattle.hg_numeral.specs.Number.{value_of};
+ghost use Rattle.hg_base.specs.Number.{value_of};
 ghost use Rattle.hg_script.specs.Draft.{draft_of};
 ghost use Rattle.hg_script.specs.Rules.{KeepsRules, ask_number_breaks, ask_range_breaks, ask_value_breaks, count_breaks};
 ghost use Rattle.hg_script.specs.Meaning.{TellsCode, TellsRefusal, first_code, refusal_of, script_of, with_draft, with_row};
@@ -24,8 +24,7 @@ use crate::sessions::OpenSessions;
 use crate::table::Table;
 use crate::word::{Word, field};
 use csv::{ByteRecord, Error, ErrorKind, Reader, ReaderBuilder};
-use hg_base::{MOST_RECORDS, MOST_SESSIONS, NoMemory};
-use hg_numeral::Natural;
+use hg_base::{MOST_RECORDS, MOST_SESSIONS, Natural, NoMemory};
 use std::alloc::Global;
 
 // Adds what a session asks, which breaks no rule.

@@ -10,8 +10,7 @@ ghost use Rattle.hg_script.specs.Typed.{holds_numbers, or_bad};
 
 use crate::word::field;
 use csv::ByteRecord;
-use hg_base::{Column, MOST_COLUMNS, NoMemory, Row, Text, Value};
-use hg_numeral::{Integer, read_integer};
+use hg_base::{Column, Integer, MOST_COLUMNS, NoMemory, Row, Text, Value, read_integer};
 use std::alloc::Global;
 
 /// What the fields of a row are, read once.

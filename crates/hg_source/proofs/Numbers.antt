@@ -15,12 +15,12 @@ use Rattle.hg_base.specs.Text.{value_field}
 use Rattle.hg_base.specs.Values.{FitsColumns, FitsValue, kind_of}
 use Rattle.hg_base.proofs.ListFacts.{cases}
 use Rattle.hg_base.proofs.TextNumbers.{first_digit}
-use Rattle.hg_numeral.specs.declared.number.Natural.TheVariants as n
-use Rattle.hg_numeral.specs.declared.number.Integer.TheVariants as signed
+use Rattle.hg_base.specs.declared.number.Natural.TheVariants as n
+use Rattle.hg_base.specs.declared.number.Integer.TheVariants as signed
 use Rattle.hg_script.specs.declared.values.Values.TheVariants.{Are}
-use Rattle.hg_numeral.specs.Number.{natural_of, integer_of}
+use Rattle.hg_base.specs.Number.{natural_of, integer_of}
 use Rattle.hg_script.specs.Draft.{before, numbers_in, number_value, row_in, value_in, values_by}
-use Rattle.hg_numeral.proofs.Decimal.{back}
+use Rattle.hg_base.proofs.Decimal.{back}
 
 pub natural_read : (k : ℕ) → k < 2 ^ 64 → natural_of (decimal k) ≡ n.Is k
 natural_read k h = back (decimal k) k h refl

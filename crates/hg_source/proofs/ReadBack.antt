@@ -15,7 +15,7 @@ use Rattle.hg_base.proofs.ListFacts.{append_nil}
 use Rattle.hg_script.specs.declared.columns.Columns.TheVariants as columns
 use Rattle.hg_script.specs.declared.draft.Ask.TheVariants.{Put}
 use Rattle.hg_script.specs.declared.draft.Draft.TheVariants.{Version, Table, Session}
-use Rattle.hg_numeral.specs.declared.number.Natural.TheVariants as n
+use Rattle.hg_base.specs.declared.number.Natural.TheVariants as n
 use Rattle.hg_script.specs.declared.values.Values.TheVariants.{Are}
 use Rattle.hg_script.specs.declared.word.Word.TheVariants as word
 use Rattle.hg_script.specs.Fields.{Fields, rows_of}

@@ -6,7 +6,7 @@ use Rattle.std.specs.List.{list_any}
 use Rattle.std.proofs.lemmas.Bool.{cases_Bool, eqb-true, false≢true, lt-ltb, le-leb, cond_both}
 use Rattle.csv.specs.Writing.{needs_byte}
 use Rattle.hg_base.specs.Text.{Field}
-use Rattle.hg_numeral.specs.Number.{is_digit}
+use Rattle.hg_base.specs.Number.{is_digit}
 use Rattle.hg_csv.specs.Bytes.{flexible_writer, field_bytes}
 
 abbrev pub IsPlain : Field → Type 0

@@ -1,6 +1,6 @@
 use Rattle.std.proofs.Common.{◌≡◌, ◌∙◌, refl, ap, length-set, arith, rules}
 use Rattle.hg_report.specs.Fields.{fields_of, integer_value}
-use Rattle.hg_numeral.specs.Number.{integer_of}
+use Rattle.hg_base.specs.Number.{integer_of}
 use Rattle.hg_report.proofs.ValuesIn.{values_none, numbers_more}
 use Rattle.hg_report.proofs.values.numbers_in.Goals as goal
 use mir.Val.{SFits, of_z, to_z}

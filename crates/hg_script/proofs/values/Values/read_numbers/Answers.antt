@@ -1,8 +1,8 @@
 use Rattle.std.proofs.Common.{◌≡◌, ◌∙◌, ◌<◌, ◌+◌, ap, length, length-set, sym, arith, rules}
 use Rattle.csv.specs.Records.{fields_of}
-use Rattle.hg_numeral.specs.Number.{integer_of}
+use Rattle.hg_base.specs.Number.{integer_of}
 use Rattle.hg_script.specs.Fields.{nth}
-use Rattle.hg_numeral.specs.declared.number.Integer.TheVariants.{Over, Is}
+use Rattle.hg_base.specs.declared.number.Integer.TheVariants.{Over, Is}
 use Rattle.hg_script.proofs.Taken.{more-over, more-is}
 use Rattle.hg_script.proofs.values.Values.read_numbers.Goals as goal
 use Rattle.hg_script.proofs.values.Values.read_numbers.Goals.{in-Over, in-Is}

@@ -1,7 +1,7 @@
 use Rattle.std.proofs.Common.{◌≡◌, ◌≤◌, true, get_or, length, arith, refl, rules}
-use Rattle.hg_numeral.specs.Number.{is_digit}
-use Rattle.hg_numeral.proofs.Digits.{between, read_more, room_left}
-use Rattle.hg_numeral.proofs.number.short_value.Goals as goal
+use Rattle.hg_base.specs.Number.{is_digit}
+use Rattle.hg_base.proofs.Digits.{between, read_more, room_left}
+use Rattle.hg_base.proofs.number.short_value.Goals as goal
 
 pub overflow_mul-value : goal.overflow_mul-value
 overflow_mul-value c =

@@ -3,8 +3,8 @@
 ghost use Rattle.std.specs.Prelude.{◌≡◌, ◌≤◌, Some, None, length, if◌then◌else◌};
 ghost use Rattle.std.specs.List.{list_all};
 ghost use Rattle.std.specs.Str.Parse.{digits_value};
-ghost use Rattle.hg_numeral.specs.declared.number.TheConstants.{MOST_SAFE_DIGITS};
-ghost use Rattle.hg_numeral.specs.Number.{integer_of, is_between, is_digit, is_no, is_over, leads_with_zero, minus, natural_of, plus, value_of};
+ghost use Rattle.hg_base.specs.declared.number.TheConstants.{MOST_SAFE_DIGITS};
+ghost use Rattle.hg_base.specs.Number.{integer_of, is_between, is_digit, is_no, is_over, leads_with_zero, minus, natural_of, plus, value_of};
 
 /// What a field is as a number of 64 bits without a sign.
 #[derive(Clone, Copy, PartialEq, Eq)]

@@ -7,8 +7,8 @@ use Rattle.std.proofs.lemmas.Str.{digit_value_digit}
 use Rattle.std.proofs.lemmas.Str.Parse.{numerals_by_value, tells_digits, digit_from_value}
 use Rattle.std.specs.List.{list_all}
 use Rattle.std.specs.Str.Parse.{AllDigits, digits_value}
-use Rattle.hg_numeral.specs.Number.{is_digit, is_natural, natural_of}
-use Rattle.hg_numeral.specs.declared.number.Natural.TheVariants as n
+use Rattle.hg_base.specs.Number.{is_digit, is_natural, natural_of}
+use Rattle.hg_base.specs.declared.number.Natural.TheVariants as n
 
 pub all-told : (ds : List ℕ) → list_all is_digit ds ≡ true → AllDigits 10 ds
 all-told [] e = tt

@@ -1,7 +1,7 @@
 use Rattle.std.proofs.Common.{◌≡◌, true, arith, rules}
-use Rattle.hg_numeral.specs.Number.{is_natural}
-use Rattle.hg_numeral.proofs.Digits.{value-more, is-over}
-use Rattle.hg_numeral.proofs.number.read_long.Goals as goal
+use Rattle.hg_base.specs.Number.{is_natural}
+use Rattle.hg_base.proofs.Digits.{value-more, is-over}
+use Rattle.hg_base.proofs.number.read_long.Goals as goal
 
 pub returns-then-value-digit : goal.returns-then-value-digit
 returns-then-value-digit c =

@@ -9,9 +9,9 @@ use Rattle.std.proofs.lemmas.Int.Digits.{digits_value_more, digits_value-lt}
 use Rattle.std.specs.List.{list_all}
 use Rattle.std.specs.Str.Parse.{digits_value}
 use Rattle.std.proofs.lemmas.Bool.Decides.{nat_tests}
-use Rattle.hg_numeral.specs.Number.{is_digit, is_natural, natural_of}
-use Rattle.hg_numeral.specs.declared.number.Natural.TheVariants as n
-use Rattle.hg_numeral.proofs.Decimal.{all-told}
+use Rattle.hg_base.specs.Number.{is_digit, is_natural, natural_of}
+use Rattle.hg_base.specs.declared.number.Natural.TheVariants as n
+use Rattle.hg_base.proofs.Decimal.{all-told}
 
 pub record Between (c : ℕ) : Type 0 where
   pub low : 48 ≤ c

@@ -1,6 +1,0 @@
-use Rattle.std.proofs.Common.{arith}
-use Rattle.hg_numeral.proofs.Decimal.{to, back}
-use Rattle.hg_numeral.proofs.law.numbers_are_decimal.Goals as goal
-
-pub returns : goal.returns
-returns c = (to _ _, back _ _ (omega arith))

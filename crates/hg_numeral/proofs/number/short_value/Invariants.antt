@@ -1,5 +1,0 @@
-use Rattle.hg_numeral.proofs.Digits.{AreRead}
-use Rattle.hg_numeral.proofs.number.short_value.Given as goal
-
-abbrev pub invariant-loop-c : goal.invariant-loop-c
-invariant-loop-c l = AreRead l.text l.c-index l.value

@@ -1,2 +1,0 @@
--- Which fields are numbers, and which number each is.
-pub mod Number
