@@ -9,6 +9,7 @@ pub mod Holding
 pub mod Opening
 -- Shape and totals.
 pub mod Shaping
+pub mod Distinct
 pub mod Living
 -- Cursors name tables below the limit.
 pub mod Opens

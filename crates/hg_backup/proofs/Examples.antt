@@ -33,7 +33,8 @@ use Rattle.hg_headline.specs.Worked.{asked, five, history, image, line, report, 
 use Rattle.hg_headline.proofs.Growing.{logged_on, put_same}
 use Rattle.hg_headline.proofs.Loops.{replayed_opened}
 use Rattle.hg_headline.proofs.Replaying.{replay_sound}
-use Rattle.hg_headline.proofs.Stepping.{Next, replayed_commits}
+use Rattle.hg_headline.proofs.Knowledge.{Next}
+use Rattle.hg_headline.proofs.Singles.{replayed_commits}
 use Rattle.hg_headline.proofs.Words.{true_false}
 use Rattle.hg_source.specs.Dumps.{dump_of, putting}
 use Rattle.hg_source.specs.Rows.{AreRowsAt, Kept, rows_at}

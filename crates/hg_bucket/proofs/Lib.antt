@@ -8,6 +8,8 @@ pub mod Turning
 pub mod Dropping
 pub mod Naming
 pub mod Listing
+pub mod Leaving
+pub mod Listed
 -- A write: what becomes of it, its number and its end.
 pub mod Changing
 pub mod Installing
@@ -26,3 +28,5 @@ pub mod Walking
 pub mod Rounds
 pub mod Costing
 pub mod Paying
+-- A record is swept that its table's list has.
+pub mod LongSweeps

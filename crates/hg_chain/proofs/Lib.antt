@@ -9,6 +9,7 @@ pub mod Readers
 pub mod Strands
 pub mod Rooms
 pub mod Writes
+pub mod Rewrites
 pub mod Covers
 pub mod Removals
 pub mod Unlinks

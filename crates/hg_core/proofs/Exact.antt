@@ -15,7 +15,8 @@ use Rattle.hg_core.specs.Held.{left_by}
 use Rattle.hg_core.specs.State.{CoreState}
 use Rattle.hg_core.specs.Invariant.{IsSteady}
 use Rattle.hg_core.proofs.Records.{look_store}
-use Rattle.hg_core.proofs.Clean.{cut_is_cut, swept_is_clean, swept_exactly, cut_exactly}
+use Rattle.hg_core.proofs.Cuts.{cut_is_cut, cut_exactly}
+use Rattle.hg_core.proofs.Clean.{swept_is_clean, swept_exactly}
 
 -- a record has the versions that are stored
 pub stored_here : (buckets : ℕ) (bucket : ℕ → Content) (r : Rid) (vs : List Version) → versions buckets (stored buckets bucket r vs) r ≡ vs

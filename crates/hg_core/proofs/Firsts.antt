@@ -30,7 +30,7 @@ use Rattle.hg_core.specs.Invariant.{IsSteady}
 use Rattle.hg_core.proofs.Covering.{none_newer}
 use Rattle.hg_core.proofs.NewGroup.{image_open}
 use Rattle.hg_core.proofs.Past.{last_bounds}
-use Rattle.hg_core.proofs.Replies.{group_does, writer_same}
+use Rattle.hg_core.proofs.Shows.{group_does, writer_same}
 use Rattle.hg_core.proofs.Updates.{some_is}
 
 -- ---- what is open in a log

@@ -7,15 +7,18 @@ pub mod Past
 pub mod LogSteps
 pub mod Recalls
 pub mod Loading
+pub mod Shows
 pub mod Replies
 pub mod OwnKeys
 -- A record's versions, and what holds of them after each event.
 pub mod Versions
 pub mod OpenWrites
 pub mod Placing
+pub mod Cuts
 pub mod Clean
 pub mod Covering
 pub mod Visits
+pub mod Lengths
 pub mod Tallies
 -- A new group.
 pub mod Groups
@@ -50,6 +53,11 @@ pub mod Answering
 -- What a state and its logs show of a write.
 pub mod Firsts
 -- Runs that there are, and steps that are refused.
+pub mod WorkedParts
 pub mod Worked
+pub mod WorkedBegins
+pub mod WorkedMasks
+pub mod WorkedMoves
+pub mod WorkedSweeps
 pub mod Refused
 pub mod Mistakes

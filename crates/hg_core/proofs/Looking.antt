@@ -34,7 +34,8 @@ use Rattle.hg_core.proofs.Recalls.{reach_step}
 use Rattle.hg_core.proofs.Versions.{same_pair}
 use Rattle.hg_core.proofs.OpenWrites.{none_stamped, stand_alike, next_alike}
 use Rattle.hg_core.proofs.NewGroup.{image_open}
-use Rattle.hg_core.proofs.Replies.{writer_itself, read_own, read_other, backed_newest, group_does, open_is, IsNoNumber, replies_entry}
+use Rattle.hg_core.proofs.Shows.{writer_itself, read_own, read_other, backed_newest, group_does, open_is}
+use Rattle.hg_core.proofs.Replies.{IsNoNumber, replies_entry}
 use Rattle.hg_core.proofs.Writing.{IsOwn, answer_more, begun_more, current_open}
 use Rattle.hg_core.specs.Counters.{first_writes, undos}
 use Rattle.hg_core.proofs.Tallies.{counters_entry}

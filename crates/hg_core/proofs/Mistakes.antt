@@ -19,7 +19,11 @@ use Rattle.hg_core.specs.Worked.{one_rid, row, two_versions, moved_snapshot, no_
 use Rattle.hg_core.specs.Wrong.{lifetime_past, cut_past_moved, newest_deletion_removed, MayReclaimUnmasked, MayPublishEarly, MayInstallOver, swept_late}
 use Rattle.hg_core.proofs.Versions.{same_pair}
 use Rattle.hg_core.proofs.Runs.{steady_after}
-use Rattle.hg_core.proofs.Worked.{two_whole, moved_whole, two_versions_runs, moved_snapshot_runs, no_masks_found, no_masks_runs, open_write_runs, late_whole, late_snapshot_runs}
+use Rattle.hg_core.proofs.WorkedParts.{two_whole, moved_whole, no_masks_found, late_whole}
+use Rattle.hg_core.proofs.WorkedBegins.{open_write_runs}
+use Rattle.hg_core.proofs.WorkedMasks.{no_masks_runs}
+use Rattle.hg_core.proofs.WorkedMoves.{two_versions_runs, moved_snapshot_runs}
+use Rattle.hg_core.proofs.WorkedSweeps.{late_snapshot_runs}
 use Rattle.hg_core.specs.Clean.{IsClean}
 use Rattle.hg_core.specs.Passes.{horizon, recorded}
 

@@ -26,7 +26,8 @@ use Rattle.hg_core.proofs.Records.{at_record}
 use Rattle.hg_core.proofs.Sweep.{ordered_swept, ordered_cut, unpublished_swept, numbered_swept, numbered_cut, backed_swept, backed_cut}
 use Rattle.hg_core.proofs.Covering.{covers_cut, covers_swept}
 use Rattle.hg_core.proofs.Fences.{horizon_mark, least_first, least_of, live_fenced, fixed_fenced, held_in_table, held_in_all}
-use Rattle.hg_core.proofs.Tallies.{counters_shortened, length_reclaimed}
+use Rattle.hg_core.proofs.Tallies.{counters_shortened}
+use Rattle.hg_core.proofs.Lengths.{length_reclaimed}
 use Rattle.hg_core.proofs.Visits.{visits_later, stays_stored, visits_changed, removing_each, visitor}
 use Rattle.hg_core.proofs.Clean.{stays_reclaimed}
 use Rattle.hg_core.proofs.Placing.{placed_stored}

@@ -12,7 +12,9 @@ use Rattle.hg_core.specs.Invariant.{IsSteady}
 use Rattle.hg_core.specs.Worked.{slow_begin, late_entry, early_sample, low_fix, no_tables, early_live}
 use Rattle.hg_core.specs.Wrong.{live_by_one_load, mark_loaded_last, mark_alone, sampled_without_entering, MayGoLiveWith, mask_stored_late, sampled_with}
 use Rattle.hg_core.proofs.Runs.{steady_after}
-use Rattle.hg_core.proofs.Worked.{slow_whole, slow_begin_runs, late_entry_runs, early_sample_runs, low_fix_runs, no_tables_runs, early_live_runs}
+use Rattle.hg_core.proofs.WorkedParts.{slow_whole}
+use Rattle.hg_core.proofs.WorkedBegins.{slow_begin_runs, late_entry_runs, early_sample_runs, low_fix_runs}
+use Rattle.hg_core.proofs.WorkedMasks.{no_tables_runs, early_live_runs}
 
 -- the state after a run of two sessions
 abbrev pub after : List Step → CoreState

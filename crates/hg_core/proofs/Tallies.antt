@@ -3,13 +3,11 @@ use Rattle.std.proofs.Common.{◌≡◌, ℕ, suc, ◌+◌, ◌-◌, ◌<◌, �
 use Rattle.std.specs.Prelude.{if◌then◌else◌, nat_le, is_some}
 use Rattle.std.proofs.lemmas.Bool.Decides.{nat_tests}
 use Rattle.hg_base.specs.declared.rid.Rid.{Rid}
-use Rattle.hg_base.specs.declared.rid.TableId.{TableId}
 use Rattle.hg_base.specs.declared.writer.Writer.{Writer}
 use Rattle.hg_base.specs.declared.image.Image.{Image}
 use Rattle.hg_base.specs.declared.report.Kind.{Kind}
 use Rattle.hg_base.specs.declared.report.Kind.TheVariants.{Group, Table, Interval}
-use Rattle.hg_base.specs.declared.value.Value.{Value}
-use Rattle.hg_base.specs.History.{same_rid, image_in}
+use Rattle.hg_base.specs.History.{image_in}
 use Rattle.hg_core.specs.declared.log.LogEntry.{LogEntry}
 use Rattle.hg_core.specs.declared.log.LogEntry.TheVariants.{Wrote, Undid}
 use Rattle.hg_core.specs.declared.version.Stamp.{Stamp}
@@ -18,19 +16,17 @@ use Rattle.hg_core.specs.declared.version.Version.{Version}
 use Rattle.hg_core.specs.declared.visit.Removed.{Removed}
 use Rattle.hg_core.specs.declared.visit.Counters.{Counters}
 use Rattle.hg_core.specs.declared.visit.Visit.{Visit}
-use Rattle.hg_core.specs.Versions.{stamp_number, is_up_to, unpublished, unpublished_by, installed, undone, stamped, IsFreeFor, IsOpenBy}
+use Rattle.hg_core.specs.Versions.{unpublished, unpublished_by, installed, undone, stamped, IsFreeFor, IsOpenBy}
 use Rattle.hg_core.specs.Logs.{own_writes}
 use Rattle.hg_core.specs.Phases.{IsSession}
-use Rattle.hg_core.specs.Passes.{PassRecord, horizon, recorded, group_bound, table_bound}
-use Rattle.hg_core.specs.Removal.{swept, oldest, cut, reclaimed}
-use Rattle.hg_base.specs.Lifetimes.{goes}
-use Rattle.hg_core.specs.Contents.{Content, bucket_of, look, store, versions, stored}
+use Rattle.hg_core.specs.Contents.{Content, bucket_of, store, versions, stored}
 use Rattle.hg_core.specs.Sums.{sum_to, sum_below}
 use Rattle.hg_core.specs.Counters.{removed_by, removed_more, added, total, is_of, first_writes, undos, removed_in, CountersBalance}
 use Rattle.hg_core.specs.Visits.{IsVisiting, removing}
 use Rattle.hg_core.specs.Events.{put, with_made, with_undone, with_removed}
 use Rattle.hg_core.proofs.Indices.{by_number, put_here, put_else}
 use Rattle.hg_core.proofs.Sums.{sum_same, sum_grown, below_grown}
+use Rattle.hg_core.proofs.Lengths.{total_store, length_installed, length_undone, length_stamped}
 
 -- ---- what is counted in the logs
 
@@ -58,64 +54,6 @@ made_grown : (sessions : ℕ) (log : ℕ → List LogEntry) (count : List LogEnt
     sum_to sessions (λ k. count (put log j l k)) ≡ sum_to sessions (λ k. count (log k)) + d
 made_grown sessions log count j d l session e = sum_grown sessions j d (λ k. count (log k)) (λ k. count (put log j l k)) session.first session.last
     (λ k other. ap count (put_else log j k l other)) (ap count (put_here log j l) ∙ e)
-
--- ---- versions of a content
-
-pub total_store : (r : Rid) (vs : List Version) (es : Content) → total (store r vs es) + length (look r es) ≡ total es + length vs
-total_store r [] [] = refl
-total_store r (v ∷ vs) [] = omega arith
-total_store r vs (e ∷ es) = go (same_rid r e.0) (total_store r vs es)
-  where
-    go : (b : Bool) → total (store r vs es) + length (look r es) ≡ total es + length vs →
-        total (if b then (r, vs) ∷ es else e ∷ store r vs es) + length (if b then e.1 else look r es) ≡ length e.1 + total es + length vs
-    go true later = omega arith
-    go false later = omega arith
-
-length_swept : (horizon : ℕ) (snapshots : List ℕ) (successor : Option ℕ) (vs : List Version) → length (swept horizon snapshots successor vs) ≤ length vs
-length_swept horizon snapshots successor [] = omega arith
-length_swept horizon snapshots successor (v ∷ vs) = go (goes horizon snapshots successor (stamp_number v.stamp)) (length_swept horizon snapshots (stamp_number v.stamp) vs)
-  where
-    go : (b : Bool) → length (swept horizon snapshots (stamp_number v.stamp) vs) ≤ length vs →
-        length (if b then swept horizon snapshots (stamp_number v.stamp) vs else v ∷ swept horizon snapshots (stamp_number v.stamp) vs) ≤ length (v ∷ vs)
-    go true later = omega arith
-    go false later = omega arith
-
-length_cut : (bound : ℕ) (vs : List Version) → length (cut bound vs) ≤ length vs
-length_cut bound [] = omega arith
-length_cut bound (v ∷ vs) = go (is_up_to bound (stamp_number v.stamp)) (length_cut bound vs)
-  where
-    left : (x : Option ℕ) (row : Option (List Value)) → length (oldest x row) ≤ 1
-    left None None = omega arith
-    left None (Some row) = omega arith
-    left (Some n) None = omega arith
-    left (Some n) (Some row) = omega arith
-
-    go : (b : Bool) → length (cut bound vs) ≤ length vs → length (if b then oldest (stamp_number v.stamp) v.image.row else v ∷ cut bound vs) ≤ length (v ∷ vs)
-    go true later = omega (arith, left (stamp_number v.stamp) v.image.row)
-    go false later = omega arith
-
-pub length_reclaimed : (kind : Kind) (table : TableId) (pass : PassRecord) (vs : List Version) → length (reclaimed kind table pass vs) ≤ length vs
-length_reclaimed Group table pass vs = length_cut (group_bound pass) vs
-length_reclaimed Table table pass vs = length_cut (table_bound table pass) vs
-length_reclaimed Interval table pass vs = length_swept (horizon pass) (recorded table pass) None vs
-
-length_installed : (w : Writer) (image : Image) (vs : List Version) → length (installed w image vs) ≡ length vs + added vs
-length_installed w image [] = refl
-length_installed w image (v ∷ vs) = go v.stamp
-  where
-    go : (x : Stamp) → length (installed w image (record { stamp = x; image = v.image } ∷ vs)) ≡ length (record { stamp = x; image = v.image } ∷ vs) + added
-        (record { stamp = x; image = v.image } ∷ vs)
-    go (Written by) = omega arith
-    go (Numbered k by) = omega arith
-    go (Oldest k) = omega arith
-
-length_undone : (w : Writer) (vs : List Version) → IsOpenBy w vs → suc (length (undone vs)) ≡ length vs
-length_undone w [] o = absurd o
-length_undone w (v ∷ vs) o = refl
-
-length_stamped : (n : ℕ) (w : Writer) (vs : List Version) → length (stamped n w vs) ≡ length vs
-length_stamped n w [] = refl
-length_stamped n w (v ∷ vs) = refl
 
 -- the balance of a bucket
 abbrev pub IsBalanced : Counters → Content → Type 0

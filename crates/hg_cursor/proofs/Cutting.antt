@@ -16,7 +16,8 @@ use Rattle.hg_rule.specs.declared.view.View.{View}
 use Rattle.hg_cursor.specs.Keys.{Rows}
 use Rattle.hg_cursor.specs.Firsts.{one_upto, Keeps}
 use Rattle.hg_cursor.proofs.Keys.{differ, is_apart}
-use Rattle.hg_cursor.proofs.Rows.{key_of, ascends_tail}
+use Rattle.hg_cursor.proofs.Rows.{key_of}
+use Rattle.hg_cursor.proofs.Uniqueness.{ascends_tail}
 use Rattle.hg_cursor.proofs.Gathering.{IsGathered, all_count, all_over, ascends_distinct}
 
 -- ---- in order

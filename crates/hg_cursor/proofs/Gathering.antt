@@ -22,7 +22,8 @@ use Rattle.hg_cursor.specs.Logs.{Adds}
 use Rattle.hg_cursor.specs.Looks.{Takes}
 use Rattle.hg_cursor.specs.Cursors.{LooksAt}
 use Rattle.hg_cursor.proofs.Keys.{is_apart, far_apart}
-use Rattle.hg_cursor.proofs.Rows.{key_of, map_append, each_mapped, ascends_tail, still_enough}
+use Rattle.hg_cursor.proofs.Rows.{key_of, map_append, each_mapped, still_enough}
+use Rattle.hg_cursor.proofs.Uniqueness.{ascends_tail}
 use Rattle.hg_cursor.proofs.Trips.{adds_none, adds_one}
 
 -- The rows up to a key of the first buckets, which were looked at; and no other ones are among the first n.

@@ -11,7 +11,8 @@ use Rattle.hg_base.specs.Transcript.{last_key, passed}
 use Rattle.hg_rule.specs.Facts.{StartsWith}
 use Rattle.hg_cursor.specs.Keys.{Rows}
 use Rattle.hg_cursor.specs.Given.{begins_at, key_after, goes_on, AreFirstOf, Fetched, joined, AreGiven}
-use Rattle.hg_cursor.proofs.Rows.{key_of, rest_rows, rows_over, any_later, same_rows}
+use Rattle.hg_cursor.proofs.Rows.{key_of, any_later}
+use Rattle.hg_cursor.proofs.Uniqueness.{rest_rows, rows_over, same_rows}
 use Rattle.hg_cursor.proofs.Cutting.{last_of}
 
 -- ---- two ranges, one after the other

@@ -1,6 +1,7 @@
 -- The keys of a bucket, and its rows key by key.
 pub mod Keys
 pub mod Rows
+pub mod Uniqueness
 -- A trip to a bucket, and what a look logs.
 pub mod Trips
 pub mod Looking

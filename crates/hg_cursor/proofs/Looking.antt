@@ -27,7 +27,8 @@ use Rattle.hg_cursor.specs.Logs.{Adds}
 use Rattle.hg_cursor.specs.declared.looks.Look.{Look}
 use Rattle.hg_cursor.specs.Looks.{IsFirstKey, Appends, AppendsFirst, Takes, Sees}
 use Rattle.hg_cursor.proofs.Keys.{own_key, unread, least_own}
-use Rattle.hg_cursor.proofs.Rows.{row_there, widened}
+use Rattle.hg_cursor.proofs.Rows.{widened}
+use Rattle.hg_cursor.proofs.Uniqueness.{row_there}
 use Rattle.hg_cursor.proofs.Trips.{Beside, first_session}
 
 -- a row is of a record that has a version

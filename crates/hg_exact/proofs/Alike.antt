@@ -9,7 +9,7 @@ use Rattle.hg_base.specs.Lists.{Each, Ascends}
 use Rattle.hg_base.specs.Replies.{AreRows, AreFirst}
 use Rattle.hg_base.specs.Transcript.{last_key, passed}
 use Rattle.hg_base.proofs.ListFacts.{cases, none_some}
-use Rattle.hg_exact.proofs.Rows.{Rows, ascends_over, keys}
+use Rattle.hg_exact.proofs.Keys.{Rows, ascends_over, keys}
 
 row_none : (q : ℕ × List Value) (shown : ℕ → Image) → (shown q.0).row ≡ None → (shown q.0).row ≡ Some q.1 → ⊥
 row_none q shown e f = none_some (shown q.0).row q.1 e f

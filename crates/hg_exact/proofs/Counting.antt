@@ -18,7 +18,7 @@ use Rattle.hg_headline.proofs.OpenSnapshots.{last_of_none, none_named, picked_fe
 use Rattle.hg_exact.specs.State.{Open}
 use Rattle.hg_exact.specs.Answers.{told_of}
 use Rattle.hg_exact.specs.Replayed.{plain_told}
-use Rattle.hg_exact.proofs.Rows.{ascends_cons}
+use Rattle.hg_exact.proofs.Keys.{ascends_cons}
 use Rattle.hg_exact.proofs.Standing.{differs, last_other, open_as, opened_in}
 
 -- ---- numbers

@@ -24,7 +24,7 @@ use Rattle.hg_exact.specs.Lawful.{AreAnswered, MovesDeclared}
 use Rattle.hg_exact.specs.Replayed.{inside, lines_from, number_for, plain, plain_answer, plain_reply, plain_sweep, plain_told, replayed, stands, step}
 use Rattle.hg_exact.proofs.Answering.{IsPlain, answer_prints}
 use Rattle.hg_exact.proofs.Sound.{replayed_sound}
-use Rattle.hg_exact.proofs.Stepping.{is_swept, swept_not}
+use Rattle.hg_exact.proofs.Known.{is_swept, swept_not}
 
 -- ---- a reply that is replayed is plain
 

@@ -1,4 +1,5 @@
--- Rows of a scan and of a fetch.
+-- The keys of a table, and the rows of a scan and of a fetch.
+pub mod Keys
 pub mod Rows
 -- What the lines show of each session.
 pub mod Standing
@@ -10,7 +11,10 @@ pub mod Answering
 pub mod Counting
 -- The causes of refusals.
 pub mod Causes
--- A line more.
+-- What is known of the lines, and a line more: in the open transaction, or one of its own.
+pub mod Known
+pub mod Within
+pub mod Single
 pub mod Stepping
 -- All lines.
 pub mod Sound
@@ -23,6 +27,8 @@ pub mod Determined
 -- Numbers that ascend follow each other.
 pub mod Numbering
 -- A sound text with its first causes is the one.
+pub mod Unended
+pub mod ExactLines
 pub mod Exact
 -- Commit numbers ascend in what a replay knows.
 pub mod Ascending
@@ -31,6 +37,7 @@ pub mod Itself
 -- A script that breaks no rule.
 pub mod Asked
 -- Where the logs show first causes, the lines have them; and logs that do.
+pub mod Newest
 pub mod Shown
 pub mod Conflict
 -- The totals of texts that are alike.

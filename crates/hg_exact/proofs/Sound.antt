@@ -20,7 +20,8 @@ use Rattle.hg_exact.specs.Replayed.{lines_from, plain, replayed, stands, step}
 use Rattle.hg_exact.proofs.Counting.{counts_nothing}
 use Rattle.hg_exact.proofs.Keeping.{kept_nothing}
 use Rattle.hg_exact.proofs.Standing.{shows_nothing}
-use Rattle.hg_exact.proofs.Stepping.{Knows, given, onto_snoc, step_line}
+use Rattle.hg_exact.proofs.Known.{Knows, given, onto_snoc}
+use Rattle.hg_exact.proofs.Stepping.{step_line}
 
 pub knows_nothing : (b : Bool) (sessions : ℕ) → Knows b [] (start sessions)
 knows_nothing b sessions = record {

@@ -6,4 +6,7 @@ pub mod InOrder
 pub mod Opens
 pub mod Fetched
 pub mod Rows
+pub mod Widths
+pub mod Few
+pub mod Replies
 pub mod Fits

@@ -7,7 +7,7 @@ use Rattle.hg_base.specs.History.{same_rid}
 use Rattle.hg_base.proofs.ListFacts.{each_snoc, each_keeps}
 use Rattle.hg_core.specs.Clean.{IsCutAt}
 use Rattle.hg_core.specs.Passes.{group_bound}
-use Rattle.hg_core.proofs.Clean.{cut_is_cut}
+use Rattle.hg_core.proofs.Cuts.{cut_is_cut}
 use Rattle.hg_rule.specs.declared.view.Event.{Event}
 use Rattle.hg_rule.specs.declared.view.Event.TheVariants.{Reclaim}
 use Rattle.hg_rule.specs.declared.view.View.{View}

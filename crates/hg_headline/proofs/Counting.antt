@@ -33,7 +33,7 @@ use Rattle.hg_headline.specs.Logged.{Logged}
 use Rattle.hg_headline.specs.Ran.{run_lines, HasRun}
 use Rattle.hg_headline.proofs.Words.{each_pairs, is_any}
 use Rattle.hg_headline.proofs.Same.{each_filter}
-use Rattle.hg_headline.proofs.Lines.{AsCollected}
+use Rattle.hg_headline.proofs.LineParts.{AsCollected}
 use Rattle.hg_headline.proofs.Running.{RunsGc, in_order_is, run_follows}
 use Rattle.hg_headline.proofs.Rounds.{run_sound}
 use Rattle.hg_headline.specs.Met.{IsMet}

@@ -38,9 +38,11 @@ use Rattle.hg_core.proofs.Sums.{sum_same, sum_grown}
 use Rattle.hg_headline.specs.Counted.{every}
 use Rattle.hg_headline.proofs.Words.{true_false}
 use Rattle.hg_headline.proofs.Ties.{Ties, StandsIn, ties_other}
-use Rattle.hg_headline.proofs.Entries.{record_of, writes_above}
+use Rattle.hg_headline.proofs.Ended.{writes_above}
+use Rattle.hg_headline.proofs.Entries.{record_of}
 use Rattle.hg_base.proofs.Resting.{ShowsRest}
-use Rattle.hg_headline.proofs.Lines.{Right, AsCollected, above, inside_own, line_right}
+use Rattle.hg_headline.proofs.LineParts.{Right, AsCollected, above, inside_own}
+use Rattle.hg_headline.proofs.Lines.{line_right}
 use Rattle.hg_headline.proofs.Lefts.{left_step}
 use Rattle.hg_headline.proofs.Whole.{follows_first, judged_less, replied_less, differs_from, said_says}
 

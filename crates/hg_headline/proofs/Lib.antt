@@ -2,13 +2,17 @@
 pub mod Words
 -- The history that is printed, and that of the logs.
 pub mod Commits
+pub mod Disjoint
 pub mod Same
 pub mod Lives
 -- A line beside its session's log.
 pub mod Ties
 pub mod Adds
+pub mod Ended
 pub mod Entries
 pub mod Right
+pub mod LineParts
+pub mod EndLines
 pub mod Lines
 pub mod Reports
 pub mod Whole
@@ -24,9 +28,12 @@ pub mod Rounds
 -- A replay step by step: its history and logs go on, with an answer that is right.
 pub mod Growing
 pub mod Parts
+pub mod OnTop
 pub mod Answering
 pub mod Loops
+pub mod Knowledge
 pub mod Stepping
+pub mod Singles
 -- The totals, from the lines and from the logs.
 pub mod Firsts
 pub mod Undone
@@ -37,6 +44,7 @@ pub mod OverBuckets
 pub mod Totalling
 pub mod Removed
 -- A replay whose history is known at its end alone.
+pub mod Prints
 pub mod Following
 pub mod OpenWrites
 pub mod Before

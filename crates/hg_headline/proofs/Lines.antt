@@ -1,6 +1,6 @@
 -- Every line of any statement is right, and its session's lines go on showing the session's log.
-use Rattle.std.proofs.Common.{◌≡◌, ℕ, suc, ◌<◌, ◌≤◌, List, [], ◌∷◌, ◌++◌, length, map, true, false, Option, Some, None, refl, sym, ap, ◌∙◌, subst, arith}
-use Rattle.std.specs.Prelude.{◌&&◌, IfSome, IsSome, is_some, ⊤}
+use Rattle.std.proofs.Common.{◌≡◌, ℕ, ◌<◌, ◌≤◌, List, [], ◌∷◌, ◌++◌, length, true, false, Option, Some, None, refl, sym, ap, ◌∙◌, subst, arith}
+use Rattle.std.specs.Prelude.{◌&&◌, IfSome, is_some}
 use Rattle.std.specs.Option.{option_or}
 use Rattle.hg_base.specs.declared.rid.Rid.{Rid}
 use Rattle.hg_base.specs.declared.scope.Scope.{Scope}
@@ -9,106 +9,34 @@ use Rattle.hg_base.specs.declared.report.Kind.{Kind}
 use Rattle.hg_base.specs.declared.statement.Statement.{Statement}
 use Rattle.hg_base.specs.declared.statement.Statement.TheVariants.{Begin, Get, Put, Del, Scan, Commit as CommitIt, Rollback, Gc, CursorOpen, Fetch, CursorClose}
 use Rattle.hg_base.specs.declared.line.Answer.{Answer}
-use Rattle.hg_base.specs.declared.line.Answer.TheVariants.{Begun, Stored, Committed, Ended, Undone}
+use Rattle.hg_base.specs.declared.line.Answer.TheVariants.{Begun}
 use Rattle.hg_base.specs.declared.line.Reply.{Reply}
-use Rattle.hg_base.specs.Lists.{Each}
 use Rattle.hg_base.specs.Script.{Mode}
 use Rattle.hg_base.specs.History.{History, seen}
-use Rattle.hg_base.specs.Transcript.{Said, last_of, open_of, next_after, stored_in, only, table_of, standing, said, said_after, stored_by, committed, committed_by, Rest, rest_in}
+use Rattle.hg_base.specs.Transcript.{Said, last_of, open_of, next_after, only, table_of, standing, said, said_after, stored_by, committed_by, Rest, rest_in}
 use Rattle.hg_base.specs.Transcript.{own_writes as own_before}
-use Rattle.hg_base.specs.Replies.{IsAnswer, IsReply, IsBegun, IsCommitted, IsUndone, IsCollected, is_written, IsEnded, IsFetched}
-use Rattle.hg_base.specs.Conflicts.{ShowsConflict, OnReplay, target}
-use Rattle.hg_base.specs.Freshness.{snapshot_of, known}
+use Rattle.hg_base.specs.Replies.{IsAnswer, IsBegun, IsCollected, is_written, IsFetched}
 use Rattle.hg_base.specs.declared.rid.TableId.{TableId}
 use Rattle.hg_core.specs.declared.log.LogEntry.{LogEntry}
-use Rattle.hg_core.specs.declared.log.LogEntry.TheVariants.{Began, Saw, Refused, Outside, Wrote, Undid, Published, Over}
-use Rattle.hg_core.specs.Logs.{current, begans, own_writes, UpTo}
+use Rattle.hg_core.specs.declared.log.LogEntry.TheVariants.{Began}
+use Rattle.hg_core.specs.Logs.{current, begans, own_writes}
 use Rattle.hg_core.specs.Judged.{Judged}
 use Rattle.hg_core.specs.Contents.{bucket_of}
 use Rattle.hg_core.specs.Replies.{AreReplied}
-use Rattle.hg_core.specs.Reading.{Unprinted, own_entries, begin_entries, commit_entries, is_access, is_alone, close, log_with, log_after, FitsAnswer, FitsScope, IsGcAnswer, Fits}
+use Rattle.hg_core.specs.Reading.{Unprinted, own_entries, begin_entries, is_access, is_alone, close, log_with, log_after, FitsAnswer, FitsScope, IsGcAnswer, Fits}
 use Rattle.hg_core.specs.Reading.{fetch_entries, IsFetchAnswer, FitsIn, HasRest}
 use Rattle.hg_core.proofs.Answering.{scope_alone, not_alone}
 use Rattle.hg_core.proofs.Right.{answer_right, fetch_right}
-use Rattle.hg_headline.specs.Timely.{commit_in}
-use Rattle.hg_headline.proofs.Words.{none_of_no, none_is_not_some, some_is_some}
+use Rattle.hg_headline.proofs.Words.{none_of_no}
 use Rattle.hg_base.proofs.Resting.{ShowsRest}
 use Rattle.hg_headline.proofs.Ties.{Ties, StandsIn, ties_step, ties_beside}
-use Rattle.hg_headline.proofs.Adds.{adds_nothing, access_answer, access_snapshot, access_commits, adds_fetch, fetch_answer}
-use Rattle.hg_headline.proofs.Entries.{reply_of, record_of, writes_above, own_is, says_inside, stands_inside, says_outside, stands_outside, says_begin, stands_begin, says_end, stands_end}
-use Rattle.hg_headline.proofs.Entries.{adds_undone, says_gc, gc_snapshot, says_within, stands_within, says_open, stands_open}
-use Rattle.hg_headline.proofs.Right.{Reads, StillIn, conflict_right, seen_is}
-
--- the snapshot of a line is at least what the session's lines before it print
-abbrev pub IsRising : List Said → Said → Type 0
-IsRising earlier now = IfSome (snapshot_of now) (λ s. Each (λ n. n ≤ s) (known now.session earlier))
-
--- the write that a refusal shows is open there, in a replay
-abbrev pub IsStill : Mode → List Said → Said → Type 0
-IsStill mode earlier now = IfSome (target now.statement) (λ r. OnReplay mode (StillIn earlier r now.reply.answer))
-
--- a `gc` is answered as the command has it
-abbrev pub AsCollected : Mode → ℕ → Statement → Answer → Type 0
-AsCollected mode j (Gc kind) answer = IsCollected mode j answer
-AsCollected mode j _ answer = ⊤
-
--- Of one line: its session's log goes on; and it is right, once all lines are known to show the history and the logs.
-pub record Right (h : History) (logs : ℕ → List LogEntry) (mode : Mode) (k : History) (all : List Said) (earlier : List Said) (now : Said) (j : ℕ) (after : List LogEntry) : Type 0 where
-  pub ties : Ties j (now ∷ earlier) after
-  pub reply : Reads h k logs all → IsReply mode k earlier now
-  pub conflict : Reads h k logs all → IsStill mode earlier now → ShowsConflict mode k all earlier now
-  pub rising : IsRising earlier now
-  pub commit : committed now ≡ commit_in now.statement now.reply
-
-pub or_none : (o : Option ℕ) → o ≡ option_or o None
-or_none None = refl
-or_none (Some c) = refl
-
--- what stands before a number that is not there
-pub none_or : (o p : Option ℕ) → o ≡ None → p ≡ option_or o p
-none_or o p e = sym (ap (λ q. option_or q p) e)
-
-pub rising_none : (earlier : List Said) (now : Said) → snapshot_of now ≡ None → IsRising earlier now
-rising_none earlier now e = subst (λ o. IfSome o (λ s. Each (λ n. n ≤ s) (known now.session earlier))) (sym e) tt
-
-pub rising_some : (j : ℕ) (earlier : List Said) (l : List LogEntry) (now : Said) (s : ℕ) → Ties j earlier l → now.session ≡ j → snapshot_of now ≡ Some s → UpTo s l → IsRising earlier now
-rising_some j earlier l now s t mine e h = subst (λ o. IfSome o (λ m. Each (λ n. n ≤ m) (known now.session earlier))) (sym e)
-    (subst (λ i. Each (λ n. n ≤ s) (known i earlier)) (sym mine) (t.known s h))
-
--- ---- what was judged of a log was judged of its beginning
-
-pub close_judged : (h : History) (o : Option ℕ) (l : List LogEntry) → Judged h (close o ++ l) → Judged h l
-close_judged h None l d = d.1
-close_judged h (Some c) l d = d.1.1
-
-pub append_judged : (h : History) (es l : List LogEntry) → Judged h (es ++ l) → Judged h l
-append_judged h [] l d = d
-append_judged h (e ∷ es) l d = append_judged h es l d.1
-
-pub close_replied : (buckets : ℕ) (h : History) (logs : ℕ → List LogEntry) (j : ℕ) (o : Option ℕ) (l : List LogEntry) → AreReplied buckets h logs j (close o ++ l) → AreReplied buckets h logs j l
-close_replied buckets h logs j None l g = g.1
-close_replied buckets h logs j (Some c) l g = g.1.1
-
--- a snapshot is at or below the number of groups
-pub judged_snapshot : (h : History) (l : List LogEntry) (c : Snapshot) → Judged h l → current l ≡ Some c → c.at ≤ length h
-judged_snapshot h [] c d e = absurd (none_is_not_some c e)
-judged_snapshot h (Began at scope ∷ l) c d e = subst (λ (x : Snapshot). x.at ≤ length h) (some_is_some (record { at = at; scope = scope }) c e) d.0.within
-judged_snapshot h (Saw t low high b rows ∷ l) c d e = judged_snapshot h l c d.1 e
-judged_snapshot h (Refused r a ∷ l) c d e = judged_snapshot h l c d.1 e
-judged_snapshot h (Outside t ∷ l) c d e = judged_snapshot h l c d.1 e
-judged_snapshot h (Wrote r image ∷ l) c d e = judged_snapshot h l c d.1 e
-judged_snapshot h (Undid r ∷ l) c d e = judged_snapshot h l c d.1 e
-judged_snapshot h (Published n ∷ l) c d e = judged_snapshot h l c d.1 e
-judged_snapshot h (Over ∷ l) c d e = absurd (none_is_not_some c e)
-
--- ---- get, put, del and scan
-
-pub inside_own : (j : ℕ) (earlier : List Said) (l : List LogEntry) (c : Snapshot) (now : Said) → Ties j earlier l → now.session ≡ j → now.transaction ≡ begans l →
-    current l ≡ Some c → own_before earlier now ≡ own_writes l
-inside_own j earlier l c now t mine tr cur = (λ i. stored_in (mine i) (tr i) earlier) ∙ t.own (begans l) ∙ sym (own_is l c cur)
-
-pub above : (m i : ℕ) → m ≡ suc i → i < m
-above m i z = omega (arith, z)
+use Rattle.hg_headline.proofs.Adds.{access_answer, access_snapshot, access_commits, adds_fetch, fetch_answer}
+use Rattle.hg_headline.proofs.Ended.{writes_above}
+use Rattle.hg_headline.proofs.Entries.{reply_of, record_of, says_inside, stands_inside, says_outside, stands_outside, says_begin, stands_begin}
+use Rattle.hg_headline.proofs.Entries.{says_gc, gc_snapshot, says_within, stands_within, says_open, stands_open}
+use Rattle.hg_headline.proofs.Right.{conflict_right, seen_is}
+use Rattle.hg_headline.proofs.LineParts.{AsCollected, Right, or_none, none_or, rising_none, rising_some, close_judged, append_judged, close_replied, judged_snapshot, inside_own, above}
+use Rattle.hg_headline.proofs.EndLines.{commit_judged, undone_judged, commit_line, rollback_line, close_line}
 
 pub access_line : (mode : Mode) (buckets : ℕ) (h k : History) (logs : ℕ → List LogEntry) (all earlier : List Said) (u : Unprinted) (l : List LogEntry) (place j : ℕ) (s : Statement)
     (at : Option ℕ) (a : Answer) (number : Option ℕ) → ((r : Rid) → bucket_of buckets r < buckets) → Ties j earlier l → is_access s ≡ true → FitsAnswer buckets u (own_writes l) s a →
@@ -212,102 +140,6 @@ open_line mode h k logs all earlier l place j table low high at (Begun n) number
       commit = none_or number None no_number;
     }
 open_line mode h k logs all earlier l place j table low high at _ number ties no_at no_number f d = absurd f
-
-pub commit_judged : (h : History) (a : Answer) (l : List LogEntry) → Judged h (commit_entries a ++ l) → IsSome (current l) × Judged h l
-commit_judged h (Committed n) l d = (d.0.opened, d.1.1)
-commit_judged h _ l d = (d.0.opened, d.1)
-
--- below the undone writes the transaction is the same
-pub undone_current : (rids : List Rid) (l : List LogEntry) → current (map Undid rids ++ l) ≡ current l
-undone_current [] l = refl
-undone_current (r ∷ rids) l = undone_current rids l
-
-pub undone_judged : (h : History) (rids : List Rid) (l : List LogEntry) → Judged h (Over ∷ (map Undid rids ++ l)) → IsSome (current l) × Judged h l
-undone_judged h rids l d = (subst IsSome (undone_current rids l) d.0.opened, append_judged h (map Undid rids) l d.1)
-
-pub inside_small : (h k : History) (l : List LogEntry) (c : Snapshot) (at : ℕ) → length h ≡ length k → at ≡ c.at → Judged h l → current l ≡ Some c → at ≤ length k
-inside_small h k l c at count e d q = subst (λ n. n ≤ length k) (sym e) (subst (λ n. c.at ≤ n) count (judged_snapshot h l c d q))
-
-pub commit_line : (mode : Mode) (h k : History) (logs : ℕ → List LogEntry) (all earlier : List Said) (l : List LogEntry) (place j : ℕ) (at : Option ℕ) (a : Answer)
-    (number : Option ℕ) → Ties j earlier l → at ≡ None → number ≡ None → IsCommitted (is_written (own_writes l)) a → Judged h l →
-    (o : Option Said) (c : Option Snapshot) → current l ≡ c → StandsIn o c (begans l) → IsSome c →
-    Right h logs mode k all earlier (standing o (next_after (last_of j earlier)) (record_of place j CommitIt) (reply_of at a number)) j (commit_entries a ++ l)
-commit_line mode h k logs all earlier l place j at a number ties no_at no_number f d None None q st is = absurd (let z : false ≡ true = is in cc)
-commit_line mode h k logs all earlier l place j at a number ties no_at no_number f d (Some opened) None q st is = absurd st
-commit_line mode h k logs all earlier l place j at a number ties no_at no_number f d None (Some c) q st is = absurd st
-commit_line mode h k logs all earlier l place j at (Committed n) number ties no_at no_number f d (Some opened) (Some c) q st is =
-    let now : Said = standing (Some opened) (next_after (last_of j earlier)) (record_of place j CommitIt) (reply_of at (Committed n) number) in
-    record {
-      ties = ties_step j earlier now l (Over ∷ Published n ∷ l) ties
-          (says_end opened (next_after (last_of j earlier)) l l c place j CommitIt at (Committed n) number (Some n) refl no_at refl refl (adds_nothing l Stored tt) q st)
-          (stands_end opened (next_after (last_of j earlier)) l l c place j CommitIt (reply_of at (Committed n) number) (Some n) refl (adds_nothing l Stored tt) q st);
-      reply = λ t. record {
-        at = ap is_some no_at;
-        number = ap is_some no_number;
-        snapshot = inside_small h k l c opened.at t.count st.1.0 d q;
-        answer = ap is_written (inside_own j earlier l c now ties refl st.0 q) ∙ f;
-      };
-      conflict = λ t still. tt;
-      rising = rising_none earlier now no_at;
-      commit = none_or number (committed now) no_number;
-    }
-commit_line mode h k logs all earlier l place j at Ended number ties no_at no_number f d (Some opened) (Some c) q st is =
-    let now : Said = standing (Some opened) (next_after (last_of j earlier)) (record_of place j CommitIt) (reply_of at Ended number) in
-    record {
-      ties = ties_step j earlier now l (Over ∷ l) ties
-          (says_end opened (next_after (last_of j earlier)) l l c place j CommitIt at Ended number None refl no_at refl refl (adds_nothing l Stored tt) q st)
-          (stands_end opened (next_after (last_of j earlier)) l l c place j CommitIt (reply_of at Ended number) None refl (adds_nothing l Stored tt) q st);
-      reply = λ t. record {
-        at = ap is_some no_at;
-        number = ap is_some no_number;
-        snapshot = inside_small h k l c opened.at t.count st.1.0 d q;
-        answer = ap is_written (inside_own j earlier l c now ties refl st.0 q) ∙ f;
-      };
-      conflict = λ t still. tt;
-      rising = rising_none earlier now no_at;
-      commit = none_or number (committed now) no_number;
-    }
-commit_line mode h k logs all earlier l place j at _ number ties no_at no_number f d (Some opened) (Some c) q st is = absurd f
-
-pub rollback_line : (mode : Mode) (h k : History) (logs : ℕ → List LogEntry) (all earlier : List Said) (u : Unprinted) (l : List LogEntry) (place j : ℕ) (at : Option ℕ)
-    (a : Answer) (number : Option ℕ) → Ties j earlier l → at ≡ None → number ≡ None → IsUndone a → Judged h l →
-    (o : Option Said) (c : Option Snapshot) → current l ≡ c → StandsIn o c (begans l) → IsSome c →
-    Right h logs mode k all earlier (standing o (next_after (last_of j earlier)) (record_of place j Rollback) (reply_of at a number)) j (Over ∷ (map Undid u.undone ++ l))
-rollback_line mode h k logs all earlier u l place j at a number ties no_at no_number f d None None q st is = absurd (let z : false ≡ true = is in cc)
-rollback_line mode h k logs all earlier u l place j at a number ties no_at no_number f d (Some opened) None q st is = absurd st
-rollback_line mode h k logs all earlier u l place j at a number ties no_at no_number f d None (Some c) q st is = absurd st
-rollback_line mode h k logs all earlier u l place j at Undone number ties no_at no_number f d (Some opened) (Some c) q st is =
-    let now : Said = standing (Some opened) (next_after (last_of j earlier)) (record_of place j Rollback) (reply_of at Undone number) in
-    record {
-      ties = ties_step j earlier now l (Over ∷ (map Undid u.undone ++ l)) ties
-          (says_end opened (next_after (last_of j earlier)) l (map Undid u.undone ++ l) c place j Rollback at Undone number None refl no_at refl refl (adds_undone u.undone l) q st)
-          (stands_end opened (next_after (last_of j earlier)) l (map Undid u.undone ++ l) c place j Rollback (reply_of at Undone number) None refl (adds_undone u.undone l) q st);
-      reply = λ t. record { at = ap is_some no_at; number = ap is_some no_number; snapshot = inside_small h k l c opened.at t.count st.1.0 d q; answer = tt };
-      conflict = λ t still. tt;
-      rising = rising_none earlier now no_at;
-      commit = none_or number (committed now) no_number;
-    }
-rollback_line mode h k logs all earlier u l place j at _ number ties no_at no_number f d (Some opened) (Some c) q st is = absurd f
-
-pub close_line : (mode : Mode) (h k : History) (logs : ℕ → List LogEntry) (all earlier : List Said) (l : List LogEntry) (place j : ℕ) (at : Option ℕ) (a : Answer)
-    (number : Option ℕ) → Ties j earlier l → at ≡ None → number ≡ None → IsEnded a → Judged h l →
-    (o : Option Said) (c : Option Snapshot) → current l ≡ c → StandsIn o c (begans l) → IsSome c →
-    Right h logs mode k all earlier (standing o (next_after (last_of j earlier)) (record_of place j CursorClose) (reply_of at a number)) j (Over ∷ l)
-close_line mode h k logs all earlier l place j at a number ties no_at no_number f d None None q st is = absurd (let z : false ≡ true = is in cc)
-close_line mode h k logs all earlier l place j at a number ties no_at no_number f d (Some opened) None q st is = absurd st
-close_line mode h k logs all earlier l place j at a number ties no_at no_number f d None (Some c) q st is = absurd st
-close_line mode h k logs all earlier l place j at Ended number ties no_at no_number f d (Some opened) (Some c) q st is =
-    let now : Said = standing (Some opened) (next_after (last_of j earlier)) (record_of place j CursorClose) (reply_of at Ended number) in
-    record {
-      ties = ties_step j earlier now l (Over ∷ l) ties
-          (says_end opened (next_after (last_of j earlier)) l l c place j CursorClose at Ended number None refl no_at refl refl (adds_nothing l Stored tt) q st)
-          (stands_end opened (next_after (last_of j earlier)) l l c place j CursorClose (reply_of at Ended number) None refl (adds_nothing l Stored tt) q st);
-      reply = λ t. record { at = ap is_some no_at; number = ap is_some no_number; snapshot = inside_small h k l c opened.at t.count st.1.0 d q; answer = tt };
-      conflict = λ t still. tt;
-      rising = rising_none earlier now no_at;
-      commit = none_or number (committed now) no_number;
-    }
-close_line mode h k logs all earlier l place j at _ number ties no_at no_number f d (Some opened) (Some c) q st is = absurd f
 
 -- the rows of a fetch are those of what its cursor has left
 pub fetch_line : (mode : Mode) (buckets : ℕ) (h k : History) (logs : ℕ → List LogEntry) (all earlier : List Said) (u : Unprinted) (l : List LogEntry) (place j n : ℕ)

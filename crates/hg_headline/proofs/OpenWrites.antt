@@ -26,8 +26,8 @@ use Rattle.hg_headline.specs.Logged.{Logged}
 use Rattle.hg_headline.specs.Met.{IsOpenWrite, IsMetWrite, IsMetAnswer}
 use Rattle.hg_headline.specs.Following.{KnowsOpen, IsMetIfGc}
 use Rattle.hg_headline.proofs.Words.{true_false}
-use Rattle.hg_headline.proofs.Entries.{own_is}
-use Rattle.hg_headline.proofs.Following.{reply_with}
+use Rattle.hg_headline.proofs.Ended.{own_is}
+use Rattle.hg_headline.proofs.Prints.{reply_with}
 
 -- a transaction that has a write in a log and no end is the one that is open there
 pub still_open : (h : History) (x : ℕ) (r : Rid) (l : List LogEntry) → Judged h l → has_end x l ≡ false → IsSome (image_in r (writes_in x l)) → IsSome (current l) × (begans l ≡ x)

@@ -36,10 +36,10 @@ use Rattle.hg_headline.specs.Replayed.{HasReplayed}
 use Rattle.hg_headline.proofs.Words.{none_is_not_some, if_some_by, each_pairs}
 use Rattle.hg_headline.proofs.Commits.{Matches}
 use Rattle.hg_headline.proofs.Ties.{Ties, StandsIn, ties_nothing}
-use Rattle.hg_headline.proofs.Entries.{own_is}
+use Rattle.hg_headline.proofs.Ended.{own_is}
 use Rattle.hg_headline.proofs.Reports.{report_in, no_report}
 use Rattle.hg_headline.proofs.Right.{StillIn}
-use Rattle.hg_headline.proofs.Lines.{AsCollected}
+use Rattle.hg_headline.proofs.LineParts.{AsCollected}
 use Rattle.hg_headline.proofs.Whole.{IsTold, AtLine, IsKnown, said_says, told_right, matches_all}
 use Rattle.hg_headline.proofs.Telling.{lines_told}
 use Rattle.hg_base.proofs.Resting.{left_nothing}

@@ -32,7 +32,7 @@ use Rattle.hg_core.proofs.Indices.{by_number, put_here}
 use Rattle.hg_headline.specs.Ran.{LeavesGc, report_lines, run_lines, HasRun}
 use Rattle.hg_headline.proofs.Words.{differs, cons_is_not_nil, append_assoc}
 use Rattle.hg_headline.proofs.Commits.{plus_zero, plus_suc}
-use Rattle.hg_headline.proofs.Lines.{AsCollected}
+use Rattle.hg_headline.proofs.LineParts.{AsCollected}
 use Rattle.hg_headline.proofs.Growing.{put_same, put_twice}
 use Rattle.hg_headline.proofs.Answering.{nothing_more}
 

@@ -17,7 +17,8 @@ use Rattle.hg_core.specs.Reading.{log_after, Follows}
 use Rattle.hg_core.proofs.Indices.{by_number, put_here}
 use Rattle.hg_headline.proofs.Ties.{Ties, ties_other}
 use Rattle.hg_base.proofs.Resting.{ShowsRest}
-use Rattle.hg_headline.proofs.Lines.{Right, AsCollected, line_right}
+use Rattle.hg_headline.proofs.LineParts.{Right, AsCollected}
+use Rattle.hg_headline.proofs.Lines.{line_right}
 use Rattle.hg_base.specs.Transcript.{Rest, rest_after}
 use Rattle.hg_headline.proofs.Lefts.{left_step}
 use Rattle.hg_headline.proofs.Whole.{OfBeginnings, follows_first, judged_less, replied_less, said_says, differs_from, IsTold, AtLine}

@@ -32,7 +32,8 @@ use Rattle.hg_core.proofs.Indices.{by_number, put_here}
 use Rattle.hg_core.proofs.NewGroup.{image_open}
 use Rattle.hg_headline.specs.Counted.{Closes}
 use Rattle.hg_headline.proofs.Words.{true_false}
-use Rattle.hg_headline.proofs.Lines.{close_judged, append_judged, close_replied, plain_after}
+use Rattle.hg_headline.proofs.LineParts.{close_judged, append_judged, close_replied}
+use Rattle.hg_headline.proofs.Lines.{plain_after}
 use Rattle.hg_headline.proofs.Whole.{follows_first, judged_less, replied_less}
 use Rattle.hg_headline.proofs.Stepping.{undone_open, none_undone}
 use Rattle.hg_headline.proofs.Undone.{IsTidy}

@@ -37,7 +37,7 @@ use Rattle.hg_headline.proofs.Words.{and_true, any_same, any_of_onto, each_onto}
 use Rattle.hg_headline.proofs.Same.{SameGroups, history_same, kept_same, writes_same, length_same}
 use Rattle.hg_headline.proofs.Ties.{Ties, commits_onto, shows_begun, pick}
 use Rattle.hg_headline.proofs.Right.{Reads}
-use Rattle.hg_headline.proofs.Lines.{IsRising, IsStill}
+use Rattle.hg_headline.proofs.LineParts.{IsRising, IsStill}
 use Rattle.hg_headline.proofs.Commits.{Matches, same_printed, numbers_within, stored_onto, printed_onto, image_of_onto}
 
 -- ---- a beginning of a log

@@ -31,7 +31,9 @@ use Rattle.hg_headline.proofs.Words.{true_false}
 use Rattle.hg_headline.proofs.Growing.{put_same}
 use Rattle.hg_headline.proofs.Answering.{nothing_more}
 use Rattle.hg_headline.proofs.Loops.{replayed_opened, replayed_more}
-use Rattle.hg_headline.proofs.Stepping.{IsAsked, replayed_begin, replayed_inside, replayed_alone, replayed_commits, replayed_undone}
+use Rattle.hg_headline.proofs.Knowledge.{IsAsked}
+use Rattle.hg_headline.proofs.Stepping.{replayed_begin, replayed_inside, replayed_undone}
+use Rattle.hg_headline.proofs.Singles.{replayed_alone, replayed_commits}
 
 abbrev none : ℕ → List LogEntry
 none j = []

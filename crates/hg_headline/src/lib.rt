@@ -17,10 +17,10 @@
 //! and group by group: each commit of the machine is in a log with its number, and each number in a log is printed. So a line that is
 //! right over one of them is right over the other.
 //!
-//! `HasReplayed` is what a replay knows after each record, and so at its end. It is kept line by line: `proofs/Stepping` has a lemma
-//! for each kind of statement, which says what a caller must know of a log. `HasRun` is what a run knows once its threads are joined:
-//! of each session only its log and its lines, and of each collector its reports. `replay_is_sound` and `run_is_sound` are the
-//! headline.
+//! `HasReplayed` is what a replay knows after each record, and so at its end. It is kept line by line: for each kind of statement
+//! `proofs/Stepping` has a lemma on one in an open transaction, and `proofs/Singles` on one that is a transaction of its own. They
+//! say what a caller must know of a log. `HasRun` is what a run knows once its threads are joined: of each session only its log and
+//! its lines, and of each collector its reports. `replay_is_sound` and `run_is_sound` are the headline.
 #![tactic(auto)]
 
 mod laws;

@@ -22,5 +22,6 @@ pub mod Rests
 pub mod Fresher
 pub mod Hearing
 pub mod Pointing
+pub mod Firsts
 pub mod Tallying
 pub mod Asking

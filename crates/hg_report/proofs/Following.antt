@@ -20,7 +20,8 @@ use Rattle.hg_report.specs.Fields.{parted}
 use Rattle.hg_csv.proofs.RecordBytes.{record_is}
 use Rattle.hg_report.proofs.Unquoted.{same_fields}
 use Rattle.hg_report.proofs.Parted.{parted_record}
-use Rattle.hg_report.proofs.Stands.{Records, runs_stand, runs_begin, at_start_stands, whole_text}
+use Rattle.hg_report.proofs.Counts.{Records}
+use Rattle.hg_report.proofs.Stands.{runs_stand, runs_begin, at_start_stands, whole_text}
 use Rattle.hg_report.proofs.Running.{text_runs}
 
 -- ---- a record's bytes are parted into its fields

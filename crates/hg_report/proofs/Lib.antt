@@ -4,10 +4,12 @@ pub mod Places
 -- A record is guessed from the script: the guess fits, and is what was printed.
 pub mod Fitting
 pub mod Asking
+pub mod Counts
 pub mod Stands
 pub mod ReadBack
 pub mod Columns
 pub mod Heads
+pub mod Runs
 pub mod Running
 -- Bytes are parted into fields, and tell which records stand there.
 pub mod Unquoted

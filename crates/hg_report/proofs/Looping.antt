@@ -11,7 +11,7 @@ use Rattle.hg_csv.specs.Bytes.{record_bytes}
 use Rattle.hg_report.specs.Fields.{parted}
 use Rattle.hg_transcript.specs.Piece.{piece_fields}
 use Rattle.hg_report.specs.Progress.{after, at_start, guess_after, standing, IsNext, Runs, Takes}
-use Rattle.hg_report.proofs.Running.{runs_append}
+use Rattle.hg_report.proofs.Runs.{runs_append}
 use Rattle.hg_report.proofs.Following.{parted_piece, parted_next, some_bytes, NoNext}
 
 -- a record is taken whose fields stand as those that were read

@@ -20,7 +20,8 @@ use Rattle.hg_backup.specs.Alone.{IsReaders, IsReportedBut, IsRightBut}
 use Rattle.hg_backup.specs.Reader.{IsSoundWith, reader_of}
 use Rattle.hg_backup.proofs.Alone.{sound_but}
 use Rattle.hg_backup.proofs.Holding.{within_alone}
-use Rattle.hg_fit.proofs.Fits.{IsHeldFew, IsReportFew, IsRightEnough, right_fits}
+use Rattle.hg_fit.proofs.Few.{IsHeldFew, IsReportFew, IsRightEnough}
+use Rattle.hg_fit.proofs.Fits.{right_fits}
 use Rattle.hg_fit.proofs.Sessions.{sessions_within}
 
 -- a snapshot at which the reader read is one of the history

@@ -9,6 +9,8 @@ pub mod Typed
 pub mod Widths
 -- A script stays lawful, record by record.
 pub mod Open
+pub mod Fitting
+pub mod Growth
 pub mod Lawful
 -- Places are counted.
 pub mod Numbered

@@ -13,7 +13,8 @@ use Rattle.hg_base.specs.Values.{FitsValue, kind_of}
 use Rattle.hg_base.specs.declared.value.Column.{Column}
 use Rattle.hg_base.specs.declared.value.Value.TheVariants.{Number}
 use Rattle.hg_base.proofs.ListFacts.{append_nil}
-use Rattle.hg_script.proofs.Lawful.{AreNumbers, Grown, Lies, numbers-at, statement-more, with-statement}
+use Rattle.hg_script.proofs.Growth.{Grown, Lies, statement-more, with-statement}
+use Rattle.hg_script.proofs.Fitting.{AreNumbers, numbers-at}
 use Rattle.hg_seed.specs.declared.choice.Choice.{Choice}
 use Rattle.hg_seed.specs.declared.choice.Choice.TheVariants.{Begin, BeginC, Get, Put, Del, Scan, Commit, Rollback, Gc}
 use Rattle.hg_seed.specs.Generator.{AreMade, IsMade, below, chosen, chosen_in, draws_of, drawn, inside, made_tables, next_state, outside, record_after, state_after, state_behind}

@@ -23,7 +23,7 @@ use Rattle.hg_script.specs.Lawful.{HasNumbers, IsLawful, IsTable}
 use Rattle.hg_script.specs.Meaning.{first_code, nothing, refusal_from, refusal_of, script_from, script_of, with_row}
 use Rattle.hg_script.specs.Numbered.{many_before, numbered, records_before}
 use Rattle.hg_script.specs.Rules.{is_reading, reading_by}
-use Rattle.hg_script.proofs.Lawful.{numbers-at}
+use Rattle.hg_script.proofs.Fitting.{numbers-at}
 use Rattle.hg_script.proofs.Open.{fold-one}
 use Rattle.hg_source.specs.Dumps.{FitsTable, IsReadable, put_of, putting}
 use Rattle.hg_source.specs.Records.{dump_records, dump_text, put_fields, table_fields, version_records}

@@ -5,6 +5,7 @@ pub mod PlaceFacts
 pub mod IndexFacts
 -- Lists of records by table.
 pub mod RosterFacts
+pub mod Leaving
 pub mod Entering
 -- The table from records to places.
 pub mod BinFacts

@@ -14,8 +14,8 @@ use Rattle.hg_core.specs.Removal.{cut, oldest}
 use Rattle.hg_core.specs.Clean.{past, as_oldest}
 use Rattle.hg_base.specs.History.{same_writer}
 use Rattle.hg_core.specs.Ordered.{Falls, IsOrdered}
-use Rattle.hg_core.proofs.Replies.{writer_itself}
-use Rattle.hg_core.proofs.Clean.{cut_exactly}
+use Rattle.hg_core.proofs.Shows.{writer_itself}
+use Rattle.hg_core.proofs.Cuts.{cut_exactly}
 use Rattle.hg_bucket.specs.BucketModel as bucket
 use Rattle.hg_bucket.specs.BucketModel.{Kept, is_at_most, begins_open, IsBelow, survivor, cut_at}
 use Rattle.hg_store.specs.Kept.{kept_as, kept}

@@ -16,9 +16,10 @@ use Rattle.hg_core.specs.Counters.{total, removed_more}
 use Rattle.hg_core.specs.Clean.{IsClean, IsCutAt}
 use Rattle.hg_core.specs.Passes.{horizon, recorded, table_bound}
 use Rattle.hg_core.specs.Visits.{removing}
-use Rattle.hg_core.proofs.Clean.{cut_is_cut, swept_is_clean}
+use Rattle.hg_core.proofs.Cuts.{cut_is_cut}
+use Rattle.hg_core.proofs.Clean.{swept_is_clean}
 use Rattle.hg_core.proofs.Records.{look_store, turned_rid}
-use Rattle.hg_core.proofs.Tallies.{total_store, length_reclaimed}
+use Rattle.hg_core.proofs.Lengths.{total_store, length_reclaimed}
 use Rattle.hg_bucket.specs.Sweeping.{is_long}
 use Rattle.hg_rule.specs.declared.view.View.{View}
 use Rattle.hg_rule.specs.declared.view.Sizes.{Sizes}

@@ -21,7 +21,7 @@ use Rattle.hg_core.specs.OpenWrites.{writer_of}
 use Rattle.hg_core.specs.Phases.{IsSession}
 use Rattle.hg_base.specs.History.{same_writer}
 use Rattle.hg_core.specs.Replies.{refused_over, refused_by, refusal}
-use Rattle.hg_core.proofs.Replies.{writer_itself, writer_same as same_writers}
+use Rattle.hg_core.proofs.Shows.{writer_itself, writer_same as same_writers}
 use Rattle.hg_bucket.specs.declared.refusal.WriteRefusal.{WriteRefusal}
 use Rattle.hg_bucket.specs.declared.refusal.WriteRefusal.TheVariants.{Open, Newer, NoMemory}
 use Rattle.hg_bucket.specs.Conflicts as bucket_words

@@ -13,7 +13,7 @@ use Rattle.hg_core.specs.Versions.{pair_of, first_at, newest_at, is_numbered, un
 use Rattle.hg_base.specs.History.{same_writer}
 use Rattle.hg_core.specs.Replies.{refused_over, refused_by, refusal}
 use Rattle.hg_core.specs.Ordered.{IsOrdered}
-use Rattle.hg_core.proofs.Replies.{writer_same}
+use Rattle.hg_core.proofs.Shows.{writer_same}
 use Rattle.hg_bucket.specs.declared.refusal.WriteRefusal.TheVariants.{Newer}
 use Rattle.hg_bucket.specs.Conflicts.{conflict, open_by}
 use Rattle.hg_store.specs.Kept.{kept, refusal_of}

@@ -18,7 +18,7 @@ use Rattle.hg_core.specs.Sums.{sum_to, sum_below}
 use Rattle.hg_core.specs.State.{CoreState}
 use Rattle.hg_core.specs.Invariant.{IsSteady}
 use Rattle.hg_core.proofs.Sums.{sum_most, below_none, below_grown, below_plus, sums_swap, below_one}
-use Rattle.hg_core.proofs.Tallies.{total_store}
+use Rattle.hg_core.proofs.Lengths.{total_store}
 use Rattle.hg_rule.specs.declared.view.Part.TheVariants.{OfPass}
 use Rattle.hg_rule.specs.declared.view.View.{View}
 use Rattle.hg_rule.specs.declared.view.Sizes.{Sizes}

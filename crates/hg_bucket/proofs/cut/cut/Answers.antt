@@ -7,7 +7,9 @@ use Rattle.hg_bucket.specs.Parts.{records_of, settled}
 use Rattle.hg_bucket.proofs.Stamping.{others_then}
 use Rattle.hg_bucket.proofs.Shortening.{held_at_most, set_turns, stays, cuts, cuts_gone}
 use Rattle.hg_bucket.proofs.Cutting.{none_at}
-use Rattle.hg_bucket.proofs.Listing.{chains_alike, alike_but, cut_some, stands, may_leave, front_keys}
+use Rattle.hg_bucket.proofs.Listing.{chains_alike, alike_but, cut_some, stands}
+use Rattle.hg_bucket.proofs.Leaving.{may_leave}
+use Rattle.hg_bucket.proofs.Listed.{front_keys}
 use Rattle.hg_bucket.proofs.cut.cut.Goals as goal
 
 pub settle-requires : goal.settle-requires

@@ -7,7 +7,7 @@ use Rattle.hg_bucket.proofs.Seating.{freed_here, seat_apart}
 use Rattle.hg_bucket.proofs.Turning.{filled}
 use Rattle.hg_bucket.proofs.Bare.{with_image, no_chain, some_chain, long_chain, no_image, mapped_some}
 use Rattle.hg_bucket.proofs.Dropping.{gone_whole, gone_here, gone_others, gone_left}
-use Rattle.hg_bucket.proofs.Listing.{unnamed_lists}
+use Rattle.hg_bucket.proofs.Leaving.{unnamed_lists}
 use Rattle.hg_bucket.proofs.places.drop_bare.Goals as goal
 
 pub returns-then-not-is_empty-clause-whole : goal.returns-then-not-is_empty-clause-whole

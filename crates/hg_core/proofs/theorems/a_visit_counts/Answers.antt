@@ -1,6 +1,6 @@
 use Rattle.std.proofs.Common.{refl}
 use Rattle.hg_core.specs.Contents.{bucket_of}
-use Rattle.hg_core.proofs.Worked.{swept_visit_runs}
+use Rattle.hg_core.proofs.WorkedSweeps.{swept_visit_runs}
 use Rattle.hg_core.proofs.theorems.a_visit_counts.Goals as goal
 
 pub returns-clause-run : goal.returns-clause-run

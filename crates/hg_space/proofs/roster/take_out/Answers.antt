@@ -1,7 +1,8 @@
 use Rattle.std.proofs.Common.{length, ap, sym, ◌∙◌, slice_get, option_map, refl}
 use Rattle.std.proofs.lemmas.Option.{slice_get_past, slice_get_read}
 use Rattle.hg_space.specs.declared.roster.Listed.{Listed}
-use Rattle.hg_space.proofs.RosterFacts.{list_set, list_set_apart, list_begun, taken_out}
+use Rattle.hg_space.proofs.RosterFacts.{list_set, list_set_apart, list_begun}
+use Rattle.hg_space.proofs.Leaving.{taken_out}
 use Rattle.hg_space.proofs.roster.take_out.Goals as goal
 
 pub returns-in_err-moved-clause-list : goal.returns-in_err-moved-clause-list

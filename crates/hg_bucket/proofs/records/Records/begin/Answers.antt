@@ -8,7 +8,9 @@ use Rattle.hg_bucket.proofs.Seating.{given_taken, given_back}
 use Rattle.hg_bucket.proofs.Naming.{Comes, bare_free, taken_back, come_whole, come_here, come_others, come_left, records_stay, stays_whole}
 use Rattle.hg_bucket.proofs.Putting.{unplaced_of}
 use Rattle.hg_bucket.specs.Parts.{Recorded}
-use Rattle.hg_bucket.proofs.Listing.{recorded, on_bare, chains_alike, lists_alike, seen_alike, entered_stands, has_entered, left_again, come_listed}
+use Rattle.hg_bucket.proofs.Listing.{on_bare, chains_alike, lists_alike, entered_stands, has_entered, come_listed}
+use Rattle.hg_bucket.proofs.Leaving.{left_again}
+use Rattle.hg_bucket.proofs.Listed.{recorded, seen_alike}
 use Rattle.hg_bucket.proofs.records.Records.begin.Goals as goal
 
 pub add-requires-clause-own : goal.add-requires-clause-own

@@ -1,7 +1,7 @@
 use Rattle.std.proofs.Common.{slice_get, ap, ◌∙◌}
 use Rattle.hg_bucket.specs.BucketModel.{keys_in}
 use Rattle.hg_bucket.specs.Parts.{Recorded}
-use Rattle.hg_bucket.proofs.Listing.{listed_at, listed_within}
+use Rattle.hg_bucket.proofs.Listed.{listed_at, listed_within}
 use Rattle.hg_bucket.proofs.records.Records.cut_long.Goals as goal
 
 pub place-place-requires : goal.place-place-requires

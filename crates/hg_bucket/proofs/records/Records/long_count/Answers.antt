@@ -4,7 +4,7 @@ use Rattle.hg_space.specs.Rosters.{list_of}
 use Rattle.hg_bucket.specs.BucketModel.{keys_in}
 use Rattle.hg_bucket.specs.Long.{AreLong}
 use Rattle.hg_bucket.specs.Parts.{Recorded}
-use Rattle.hg_bucket.proofs.Listing.{keys_seen, all_long}
+use Rattle.hg_bucket.proofs.Listed.{keys_seen, all_long}
 use Rattle.hg_bucket.proofs.records.Records.long_count.Goals as goal
 
 pub returns-clause-count : goal.returns-clause-count

@@ -3,7 +3,7 @@ use Rattle.std.proofs.lemmas.List.{length-map}
 use Rattle.hg_space.specs.Rosters.{list_of}
 use Rattle.hg_bucket.specs.BucketModel.{keys_in}
 use Rattle.hg_bucket.specs.Parts.{Recorded}
-use Rattle.hg_bucket.proofs.Listing.{keys_seen}
+use Rattle.hg_bucket.proofs.Listed.{keys_seen}
 use Rattle.hg_bucket.proofs.records.Records.long_key.Goals as goal
 
 pub key-requires : goal.key-requires

@@ -13,7 +13,8 @@ use Rattle.hg_bucket.proofs.Refusing.{not_own}
 use Rattle.hg_bucket.proofs.Putting.{turned_down, starved, stores, begins}
 use Rattle.hg_bucket.specs.Parts.{Recorded}
 use Rattle.hg_bucket.proofs.Naming.{records_stay, stays_whole}
-use Rattle.hg_bucket.proofs.Listing.{recorded, on_bare, chains_alike, may_enter, installed_some}
+use Rattle.hg_bucket.proofs.Listing.{on_bare, chains_alike, may_enter, installed_some}
+use Rattle.hg_bucket.proofs.Listed.{recorded}
 use Rattle.hg_bucket.proofs.records.Records.write.Goals as goal
 
 pub begin-requires : goal.begin-requires

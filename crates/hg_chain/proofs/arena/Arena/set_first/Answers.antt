@@ -3,7 +3,7 @@ use Rattle.hg_chain.specs.declared.node.Node.{Node}
 use Rattle.hg_chain.specs.declared.node.Head.{Head}
 use Rattle.hg_chain.specs.Strands.{node_at, head_at}
 use Rattle.hg_chain.proofs.Removals.{first_within}
-use Rattle.hg_chain.proofs.Writes.{Rewritten, rewritten, begun}
+use Rattle.hg_chain.proofs.Rewrites.{Rewritten, rewritten, begun}
 use Rattle.hg_chain.proofs.arena.Arena.set_first.Goals as goal
 
 pub next-next-requires : goal.next-next-requires

@@ -4,7 +4,7 @@ use Rattle.hg_chain.specs.declared.node.Node.{Node}
 use Rattle.hg_chain.specs.declared.node.Head.{Head}
 use Rattle.hg_chain.specs.Strands.{node_at, head_at, no_head, AreStrands, versions_of}
 use Rattle.hg_chain.proofs.Removals.{first_within}
-use Rattle.hg_chain.proofs.Writes.{Rewritten, rewritten, reimaged}
+use Rattle.hg_chain.proofs.Rewrites.{Rewritten, rewritten, reimaged}
 use Rattle.hg_chain.proofs.arena.Arena.set_image.Goals as goal
 
 pub set_image_in-requires : goal.set_image_in-requires

@@ -4,7 +4,7 @@ use Rattle.hg_chain.specs.declared.node.Node.{Node}
 use Rattle.hg_chain.specs.declared.node.Head.{Head}
 use Rattle.hg_chain.specs.Strands.{blank, node_at, head_at}
 use Rattle.hg_chain.proofs.Removals.{first_within}
-use Rattle.hg_chain.proofs.Writes.{Rewritten, rewritten, renumbered, begun}
+use Rattle.hg_chain.proofs.Rewrites.{Rewritten, rewritten, renumbered, begun}
 use Rattle.hg_chain.proofs.arena.Arena.set_number.Goals as goal
 
 pub index_mut-requires : goal.index_mut-requires

@@ -4,7 +4,7 @@ use Rattle.hg_chain.specs.declared.node.Head.{Head}
 use Rattle.hg_chain.specs.Versions.{is_open_by}
 use Rattle.hg_chain.specs.Strands.{versions}
 use Rattle.hg_chain.specs.Arenas.{head_in}
-use Rattle.hg_chain.proofs.Writes.{closed}
+use Rattle.hg_chain.proofs.Rewrites.{closed}
 use Rattle.hg_chain.proofs.Held.{list_was}
 use Rattle.hg_chain.proofs.chains.Chains.is_open_by.Goals as goal
 

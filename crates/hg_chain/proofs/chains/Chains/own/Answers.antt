@@ -7,7 +7,7 @@ use Rattle.hg_chain.specs.Strands.{blank, node_at}
 use Rattle.hg_chain.specs.Arenas.{head_in, list_in}
 use Rattle.hg_chain.proofs.Cuts.{not_open_image}
 use Rattle.hg_chain.proofs.Removals.{first_within}
-use Rattle.hg_chain.proofs.Writes.{some_open}
+use Rattle.hg_chain.proofs.Rewrites.{some_open}
 use Rattle.hg_chain.proofs.Held.{list_was, own_of}
 use Rattle.hg_chain.proofs.chains.Chains.own.Goals as goal
 

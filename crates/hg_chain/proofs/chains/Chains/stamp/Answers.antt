@@ -3,7 +3,7 @@ use Rattle.std.specs.Prelude.{IsTrue}
 use Rattle.hg_base.specs.Lists.{Each}
 use Rattle.hg_chain.specs.Versions.{IsChain, IsBelow, is_open_by, stamped}
 use Rattle.hg_chain.specs.Arenas.{head_in, list_in}
-use Rattle.hg_chain.proofs.Writes.{some_open}
+use Rattle.hg_chain.proofs.Rewrites.{some_open}
 use Rattle.hg_chain.proofs.Held.{list_seen, list_was, others_seen, nodes_seen, nodes_were, holds_after, chain_stamped}
 use Rattle.hg_chain.proofs.chains.Chains.stamp.Goals as goal
 

@@ -2,7 +2,7 @@ use Rattle.std.proofs.Common.{ap, sym, subst, drop, ◌∙◌}
 use Rattle.std.specs.Prelude.{IsTrue}
 use Rattle.hg_chain.specs.Versions.{IsChain, is_open_by}
 use Rattle.hg_chain.specs.Arenas.{head_in}
-use Rattle.hg_chain.proofs.Writes.{some_open}
+use Rattle.hg_chain.proofs.Rewrites.{some_open}
 use Rattle.hg_chain.proofs.Held.{list_seen, list_was, others_seen, nodes_seen, nodes_were, holds_after, chain_behind}
 use Rattle.hg_chain.proofs.chains.Chains.undo.Goals as goal
 

@@ -2,7 +2,8 @@ use Rattle.std.proofs.Common.{◌≡◌, ◌+◌, ◌∙◌, true, false, sym, a
 use Rattle.std.specs.Prelude.{unwrap_or, is_some, min}
 use Rattle.hg_base.specs.Transcript.{committed}
 use Rattle.hg_known.specs.Lines.{said_of}
-use Rattle.hg_known.proofs.Tallying.{one_more, its_more, its_count, tallied_few, tallied_idle, tallied_going, tallied_ended}
+use Rattle.hg_known.proofs.Firsts.{one_more, its_more}
+use Rattle.hg_known.proofs.Tallying.{its_count, tallied_few, tallied_idle, tallied_going, tallied_ended}
 use Rattle.hg_known.proofs.tally.Versions.add.Goals as goal
 
 pub returns-then-not-first : goal.returns-then-not-first

@@ -1,7 +1,8 @@
 use Rattle.std.proofs.Common.{sym, subst, arith}
 use Rattle.std.proofs.lemmas.Option.{slice_get_within}
 use Rattle.hg_space.specs.Rosters.{list_of, lists_in, StandsIn}
-use Rattle.hg_space.proofs.RosterFacts.{seen_list, standing_within, found, leaves, left_last, left_moved, moved_within, left_seen}
+use Rattle.hg_space.proofs.RosterFacts.{seen_list}
+use Rattle.hg_space.proofs.Leaving.{standing_within, found, leaves, left_last, left_moved, moved_within, left_seen}
 use Rattle.hg_space.proofs.roster.Roster.leave.Goals as goal
 
 pub index-requires : goal.index-requires

@@ -1,5 +1,5 @@
 use Rattle.hg_space.specs.Rosters.{lists_in}
-use Rattle.hg_space.proofs.RosterFacts.{seen_once}
+use Rattle.hg_space.proofs.Leaving.{seen_once}
 use Rattle.hg_space.proofs.roster.Roster.stand_once.Goals as goal
 
 pub returns : goal.returns
