@@ -14,14 +14,14 @@ use Rattle.hg_base.specs.Lists.{Each}
 use Rattle.hg_base.specs.Script.{Declaration}
 use Rattle.hg_base.proofs.ListFacts.{cases}
 use Rattle.hg_script.proofs.Typed.{row-kinds}
-use Rattle.hg_numeral.specs.declared.number.Natural.{Natural}
-use Rattle.hg_numeral.specs.declared.number.Natural.TheVariants as n
+use Rattle.hg_base.specs.declared.number.Natural.{Natural}
+use Rattle.hg_base.specs.declared.number.Natural.TheVariants as n
 use Rattle.hg_script.specs.declared.values.Values.{Values}
 use Rattle.hg_script.specs.declared.values.Values.TheVariants.{No, Over, Bad, Are}
-use Rattle.hg_numeral.specs.Number.{natural_of}
-use Rattle.hg_numeral.specs.declared.number.Integer.{Integer}
-use Rattle.hg_numeral.specs.declared.number.Integer.TheVariants as signed
-use Rattle.hg_numeral.specs.Number.{integer_of}
+use Rattle.hg_base.specs.Number.{natural_of}
+use Rattle.hg_base.specs.declared.number.Integer.{Integer}
+use Rattle.hg_base.specs.declared.number.Integer.TheVariants as signed
+use Rattle.hg_base.specs.Number.{integer_of}
 use Rattle.hg_script.specs.Fields.{Field}
 use Rattle.hg_script.specs.Draft.{before, columns_by, counted, is_letter, kind_by, lettered, numbers_in, row_in}
 use Rattle.hg_script.specs.Draft.{values_by}

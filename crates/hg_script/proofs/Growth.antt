@@ -11,13 +11,13 @@ use Rattle.hg_base.specs.Script.{Declaration, Script}
 use Rattle.hg_base.proofs.ListFacts.{append_nil, each_snoc as each-one}
 use Rattle.hg_script.proofs.Names.{distinct-more}
 use Rattle.hg_script.specs.declared.code.Code.{Code}
-use Rattle.hg_numeral.specs.declared.number.Natural.{Natural}
-use Rattle.hg_numeral.specs.declared.number.Natural.TheVariants as n
+use Rattle.hg_base.specs.declared.number.Natural.{Natural}
+use Rattle.hg_base.specs.declared.number.Natural.TheVariants as n
 use Rattle.hg_script.specs.declared.draft.Ask.{Ask}
 use Rattle.hg_script.specs.declared.draft.Ask.TheVariants.{Begin, Get, Put, Del, Scan, CursorOpen, Fetch, CursorClose, Commit, Rollback, Gc}
 use Rattle.hg_script.specs.declared.draft.Draft.{Draft}
 use Rattle.hg_script.specs.declared.draft.Draft.TheVariants.{Table, Session}
-use Rattle.hg_numeral.specs.Number.{is_between, value_of}
+use Rattle.hg_base.specs.Number.{is_between, value_of}
 use Rattle.hg_script.specs.Numbered.{records_before}
 use Rattle.hg_script.specs.Fields.{Field}
 use Rattle.hg_script.specs.Draft.{before, columns_by, is_fresh}

@@ -12,13 +12,13 @@ use Rattle.hg_script.proofs.Names.{none-twice}
 use Rattle.hg_script.proofs.Scopes.{among, scope-fits}
 use Rattle.hg_script.proofs.Widths.{natural-fits, values-fit}
 use Rattle.hg_script.specs.declared.code.Code.{Code}
-use Rattle.hg_numeral.specs.declared.number.Natural.{Natural}
-use Rattle.hg_numeral.specs.declared.number.Natural.TheVariants as n
+use Rattle.hg_base.specs.declared.number.Natural.{Natural}
+use Rattle.hg_base.specs.declared.number.Natural.TheVariants as n
 use Rattle.hg_script.specs.declared.word.Word.{Word}
 use Rattle.hg_script.specs.declared.word.Word.TheVariants as word
 use Rattle.hg_script.specs.declared.draft.Ask.TheVariants.{Begin, Get, Put, Del, Scan, CursorOpen, Fetch, CursorClose, Commit, Rollback, Gc}
 use Rattle.hg_script.specs.declared.draft.Draft.TheVariants.{Version}
-use Rattle.hg_numeral.specs.Number.{natural_of, value_of}
+use Rattle.hg_base.specs.Number.{natural_of, value_of}
 use Rattle.hg_script.specs.Numbered.{records_before}
 use Rattle.hg_script.proofs.Numbered.{few_before}
 use Rattle.hg_script.specs.Fields.{Field, Fields, is_version, nth, statement_word, word_of}
