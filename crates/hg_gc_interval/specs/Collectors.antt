@@ -1,5 +1,4 @@
 -- What a clause says of an interval collector.
-use Rattle.std.specs.Prelude.{◌≤◌}
 use Rattle.hg_base.specs.declared.report.Kind.TheVariants.{Interval}
 use Rattle.hg_base.specs.declared.report.Report.{Report}
 use Rattle.hg_rule.specs.declared.passes.CollectorPass.{CollectorPass}
@@ -7,28 +6,32 @@ use Rattle.hg_rule.specs.declared.view.View.{View}
 use Rattle.hg_rule.specs.declared.view.Sizes.{Sizes}
 use Rattle.hg_rule.specs.Facts.{record_of}
 use Rattle.hg_rule.specs.Views.{pass}
-use Rattle.hg_rule.specs.Seats.{BoardId, pass_view, IsPassOf}
+use Rattle.hg_rule.specs.Seats.{BoardId}
 use Rattle.hg_tracker.specs.Begun.{HasGathered}
-use Rattle.hg_tracker.specs.Gathers.{IsMadeFor}
 use Rattle.hg_visit.specs.Visits.{VisitsAll}
 use Rattle.hg_visit.specs.Reports.{Reports}
+use Rattle.hg_visit.specs.Rounds as rounds
 use Rattle.hg_gc_interval.specs.Sweeping.{IsCleanBy}
 use Rattle.hg_gc_interval.specs.declared.collector.IntervalCollector.{IntervalCollector}
 
 -- its pass, and what that sees
 abbrev pub pass_of : IntervalCollector → CollectorPass
-pass_of c = c.pass
+pass_of c = rounds.pass_of c.rounds
 
 abbrev pub view_of : IntervalCollector → View
-view_of c = pass_view c.pass
+view_of c = rounds.view_of c.rounds
 
 -- its last report
 abbrev pub report_in : IntervalCollector → Report
-report_in c = c.report
+report_in c = rounds.report_in c.rounds
+
+-- it with another pass
+abbrev pub with_pass : IntervalCollector → CollectorPass → IntervalCollector
+with_pass c p = record c { rounds = rounds.with_pass c.rounds p }
 
 -- its pass is of this board, and it has room for the board's sessions and tables
 abbrev pub IsCollectorOf : BoardId → Sizes → IntervalCollector → Type 0
-IsCollectorOf t z c = IsPassOf t c.pass × (IsMadeFor z.sessions z.tables c.gathered × (z.sessions ≤ c.report.entries.room))
+IsCollectorOf t z c = rounds.AreRoundsOf t z c.rounds
 
 -- One round: a gather, and then one visit of each bucket in order, which gave it back clean for what was gathered. The report is
 -- that of the round.

@@ -4,4 +4,3 @@ pub mod Sweeping
 pub mod Costs
 -- The collector.
 pub mod Collectors
-pub mod Lending

@@ -3,7 +3,7 @@
 ghost use Rattle.std.specs.Prelude.{◌≡◌, ◌<◌, ◌≤◌, IfOk, IfErr};
 ghost use Rattle.hg_rule.specs.Facts.{record_of};
 ghost use Rattle.hg_rule.specs.Views.{pass as own_pass};
-ghost use Rattle.hg_rule.specs.Seats.{BoardId, board_id, sizes_of, IsPassOf};
+ghost use Rattle.hg_rule.specs.Seats.{BoardId, IsPassOf};
 ghost use Rattle.hg_store.specs.Stores.{store_board_id, store_buckets};
 ghost use Rattle.hg_tracker.specs.Boards.{trackers_board_id, board_sizes};
 
@@ -12,27 +12,26 @@ use crate::visits::visit_all;
 use hg_base::{Kind, NoMemory, Report, Steps};
 use hg_rule::CollectorPass;
 use hg_store::Store;
-use hg_tracker::{Gathered, Trackers};
-use hg_visit::{new_report, rewrite};
+use hg_tracker::Trackers;
+use hg_visit::Rounds;
 use std::alloc::Global;
 use std::sync::Wait;
 use std::sync::ledger::Ledger;
 
-/// A collector's pass, with room for a gather and for the report of its last round.
+/// The interval collector of a board.
 #[derive(Drop)]
 pub struct IntervalCollector {
-    pub(crate) pass: CollectorPass,
-    pub(crate) gathered: Gathered,
-    pub(crate) report: Report,
+    pub rounds: Rounds,
 }
 
 impl IntervalCollector {
     ghost use Rattle.std.specs.Prelude.{ℕ};
     ghost use Rattle.hg_rule.specs.declared.view.Sizes.{Sizes};
     ghost use Rattle.std.specs.Borrow.{sem};
-    ghost use Rattle.hg_gc_interval.specs.Lending.{LendsPass, EndsAs};
+    ghost use Rattle.hg_visit.specs.Lending.{LendsPass, EndsAs};
+    ghost use Rattle.hg_gc_interval.specs.contracts.collector.IntervalCollector.{the_row};
     ghost use Rattle.hg_gc_interval.specs.Costs.{VisitsCost};
-    ghost use Rattle.hg_gc_interval.specs.Collectors.{pass_of, view_of, report_in, IsCollectorOf, Sweeps};
+    ghost use Rattle.hg_gc_interval.specs.Collectors.{pass_of, view_of, report_in, with_pass, IsCollectorOf, Sweeps};
 
     /// Takes all memory that passes at a board of so many sessions and tables need. A refusal hands the pass back.
     pub fn new(
@@ -47,39 +46,18 @@ impl IntervalCollector {
         ensures same { IfOk result (λ c. pass_of c ≡ pass) }
         ensures refused { IfErr result (λ e. e.0 ≡ pass) }
     {
-        let Ok(gathered) = Gathered::new(alloc, sessions, tables) else {
-            return Err((pass, NoMemory));
-        };
-        let Ok(report) = new_report(alloc, Kind::Interval, sessions) else {
-            return Err((pass, NoMemory));
-        };
-        Ok(IntervalCollector {
-            pass,
-            gathered,
-            report,
-        })
-    }
-
-    /// The pass, which the collector gives up.
-    pub fn into_pass(self) -> CollectorPass
-        ensures { result ≡ pass_of self }
-    {
-        self.pass
+        match Rounds::new(alloc, Kind::Interval, pass, sessions, tables) {
+            Ok(rounds) => Ok(IntervalCollector { rounds }),
+            Err(refused) => Err(refused),
+        }
     }
 
     /// Lends the pass between two rounds.
     pub fn lend(&mut self) -> &mut CollectorPass
-        ensures* back { sem 𝓛 (LendsPass self.entry result) }
+        ensures* back { sem 𝓛 (LendsPass the_row with_pass self.entry result) }
         ensures pass { result.now ≡ pass_of self.old }
     {
-        &mut self.pass
-    }
-
-    /// The report of the last round.
-    pub fn report(&self) -> &Report
-        ensures { result.now ≡ report_in self.now }
-    {
-        &self.report
+        self.rounds.lend()
     }
 
     /// One round. It waits for buckets' locks, one at a time.
@@ -102,17 +80,18 @@ impl IntervalCollector {
         ensures own { IsCollectorOf (trackers_board_id trackers.now) (board_sizes trackers.now)
             self.new }
     {
-        trackers.gather(&mut self.pass, &mut self.gathered);
+        let rounds = &mut self.rounds;
+        trackers.gather(&mut rounds.pass, &mut rounds.gathered);
         let tools = Tools {
             trackers,
             store,
-            gathered: &self.gathered,
+            gathered: &rounds.gathered,
         };
-        let removed = visit_all(rt, &tools, &mut self.pass, steps);
-        rewrite(&mut self.report, Kind::Interval, &self.gathered, removed);
+        let removed = visit_all(rt, &tools, &mut rounds.pass, steps);
+        rounds.rewrite(Kind::Interval, removed);
     }
 
-    /// One round, and its report.
+    /// One round, and its report, for callers of the library.
     pub fn pass<R: Wait, L: Ledger>(
         &mut self,
         rt: &R,
@@ -124,13 +103,13 @@ impl IntervalCollector {
             self.old }
         requires board { store_board_id store.now ≡ trackers_board_id trackers.now }
         requires buckets { store_buckets store.now ≡ (board_sizes trackers.now).buckets }
-        ensures* ends { sem 𝓛 (EndsAs self.entry (λ c.
+        ensures* ends { sem 𝓛 (EndsAs the_row self.entry (λ c.
             Sweeps (board_sizes trackers.now) (view_of self.old) result.now (view_of c) ×
             IsCollectorOf (trackers_board_id trackers.now) (board_sizes trackers.now) c ×
             VisitsCost (board_sizes trackers.now) (record_of (own_pass (view_of c)))
             (board_sizes trackers.now).buckets steps.old steps.new)) }
     {
         self.collect(rt, trackers, store, steps);
-        &self.report
+        self.rounds.report()
     }
 }

@@ -1,5 +1,5 @@
 -- What a clause says of a table collector.
-use Rattle.std.specs.Prelude.{ℕ, ◌≤◌}
+use Rattle.std.specs.Prelude.{ℕ}
 use Rattle.hg_base.specs.declared.report.Kind.TheVariants.{Table}
 use Rattle.hg_base.specs.declared.report.Report.{Report}
 use Rattle.hg_rule.specs.declared.passes.CollectorPass.{CollectorPass}
@@ -7,30 +7,35 @@ use Rattle.hg_rule.specs.declared.view.View.{View}
 use Rattle.hg_rule.specs.declared.view.Sizes.{Sizes}
 use Rattle.hg_rule.specs.Facts.{record_of}
 use Rattle.hg_rule.specs.Views.{pass}
-use Rattle.hg_rule.specs.Seats.{BoardId, pass_view, IsPassOf}
+use Rattle.hg_rule.specs.Seats.{BoardId}
 use Rattle.hg_tracker.specs.Begun.{HasGathered}
-use Rattle.hg_tracker.specs.Gathers.{IsLoaded, IsMadeFor}
+use Rattle.hg_tracker.specs.Gathers.{IsLoaded}
 use Rattle.hg_tracker.specs.Tries.{HasMoved}
 use Rattle.hg_visit.specs.Visits.{VisitsAll}
 use Rattle.hg_visit.specs.Reports.{Reports}
+use Rattle.hg_visit.specs.Rounds as rounds
 use Rattle.hg_gc_table.specs.Cutting.{IsCutBy}
 use Rattle.hg_gc_table.specs.Moving.{TriesLong}
 use Rattle.hg_gc_table.specs.declared.collector.TableCollector.{TableCollector}
 
 -- its pass, and what that sees
 abbrev pub pass_of : TableCollector → CollectorPass
-pass_of c = c.pass
+pass_of c = rounds.pass_of c.rounds
 
 abbrev pub view_of : TableCollector → View
-view_of c = pass_view c.pass
+view_of c = rounds.view_of c.rounds
 
 -- its last report
 abbrev pub report_in : TableCollector → Report
-report_in c = c.report
+report_in c = rounds.report_in c.rounds
+
+-- it with another pass
+abbrev pub with_pass : TableCollector → CollectorPass → TableCollector
+with_pass c p = record c { rounds = rounds.with_pass c.rounds p }
 
 -- its pass is of this board, and it has room for the board's sessions and tables
 abbrev pub IsCollectorOf : BoardId → Sizes → TableCollector → Type 0
-IsCollectorOf t z c = IsPassOf t c.pass × (IsMadeFor z.sessions z.tables c.gathered × (z.sessions ≤ c.report.entries.room))
+IsCollectorOf t z c = rounds.AreRoundsOf t z c.rounds
 
 -- One round: a gather, a try to move each snapshot that is long in use, and no other; and then one visit of each bucket in order,
 -- which gave it back with each table cut at its own bound after the moves. The report is that of the round.

@@ -4,4 +4,3 @@ pub mod Cutting
 pub mod Moving
 -- The collector.
 pub mod Collectors
-pub mod Lending

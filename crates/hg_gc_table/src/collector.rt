@@ -1,7 +1,7 @@
 //! The collector.
 
 ghost use Rattle.std.specs.Prelude.{◌≡◌, ◌<◌, ◌≤◌, IfOk, IfErr};
-ghost use Rattle.hg_rule.specs.Seats.{BoardId, board_id, sizes_of, IsPassOf};
+ghost use Rattle.hg_rule.specs.Seats.{BoardId, IsPassOf};
 ghost use Rattle.hg_store.specs.Stores.{store_board_id, store_buckets};
 ghost use Rattle.hg_tracker.specs.Boards.{trackers_board_id, board_sizes};
 
@@ -9,17 +9,15 @@ use crate::visits::visit_all;
 use hg_base::{Kind, NoMemory, Report};
 use hg_rule::CollectorPass;
 use hg_store::Store;
-use hg_tracker::{Gathered, Trackers};
-use hg_visit::{new_report, rewrite};
+use hg_tracker::Trackers;
+use hg_visit::Rounds;
 use std::alloc::Global;
 use std::sync::Wait;
 
-/// A collector's pass, with room for a gather and for the report of its last round.
+/// The table collector of a board.
 #[derive(Drop)]
 pub struct TableCollector {
-    pub(crate) pass: CollectorPass,
-    pub(crate) gathered: Gathered,
-    pub(crate) report: Report,
+    pub rounds: Rounds,
 }
 
 impl TableCollector {
@@ -27,8 +25,9 @@ impl TableCollector {
     ghost use Rattle.hg_rule.specs.declared.view.Sizes.{Sizes};
     ghost use Rattle.hg_rule.specs.Rules.{IsBacked};
     ghost use Rattle.std.specs.Borrow.{sem};
-    ghost use Rattle.hg_gc_table.specs.Lending.{LendsPass, EndsAs};
-    ghost use Rattle.hg_gc_table.specs.Collectors.{pass_of, view_of, report_in, IsCollectorOf, Cuts};
+    ghost use Rattle.hg_visit.specs.Lending.{LendsPass, EndsAs};
+    ghost use Rattle.hg_gc_table.specs.contracts.collector.TableCollector.{the_row};
+    ghost use Rattle.hg_gc_table.specs.Collectors.{pass_of, view_of, report_in, with_pass, IsCollectorOf, Cuts};
 
     /// Takes all memory that passes at a board of so many sessions and tables need. A refusal hands the pass back.
     pub fn new(
@@ -43,39 +42,18 @@ impl TableCollector {
         ensures same { IfOk result (λ c. pass_of c ≡ pass) }
         ensures refused { IfErr result (λ e. e.0 ≡ pass) }
     {
-        let Ok(gathered) = Gathered::new(alloc, sessions, tables) else {
-            return Err((pass, NoMemory));
-        };
-        let Ok(report) = new_report(alloc, Kind::Table, sessions) else {
-            return Err((pass, NoMemory));
-        };
-        Ok(TableCollector {
-            pass,
-            gathered,
-            report,
-        })
-    }
-
-    /// The pass, which the collector gives up.
-    pub fn into_pass(self) -> CollectorPass
-        ensures { result ≡ pass_of self }
-    {
-        self.pass
+        match Rounds::new(alloc, Kind::Table, pass, sessions, tables) {
+            Ok(rounds) => Ok(TableCollector { rounds }),
+            Err(refused) => Err(refused),
+        }
     }
 
     /// Lends the pass between two rounds.
     pub fn lend(&mut self) -> &mut CollectorPass
-        ensures* back { sem 𝓛 (LendsPass self.entry result) }
+        ensures* back { sem 𝓛 (LendsPass the_row with_pass self.entry result) }
         ensures pass { result.now ≡ pass_of self.old }
     {
-        &mut self.pass
-    }
-
-    /// The report of the last round.
-    pub fn report(&self) -> &Report
-        ensures { result.now ≡ report_in self.now }
-    {
-        &self.report
+        self.rounds.lend()
     }
 
     /// One round. A snapshot is long in use where it is `long` commits or more behind the mark. It waits for buckets' locks, one
@@ -91,14 +69,15 @@ impl TableCollector {
         ensures own { IsCollectorOf (trackers_board_id trackers.now) (board_sizes trackers.now)
             self.new }
     {
-        trackers.gather(&mut self.pass, &mut self.gathered);
-        trackers.move_long(&mut self.pass, &mut self.gathered, long);
-        let removed = visit_all(rt, trackers, store, &mut self.pass, &self.gathered);
-        rewrite(&mut self.report, Kind::Table, &self.gathered, removed);
-        trackers.board().look_at(&mut self.pass);
+        let rounds = &mut self.rounds;
+        trackers.gather(&mut rounds.pass, &mut rounds.gathered);
+        trackers.move_long(&mut rounds.pass, &mut rounds.gathered, long);
+        let removed = visit_all(rt, trackers, store, &mut rounds.pass, &rounds.gathered);
+        rounds.rewrite(Kind::Table, removed);
+        trackers.board().look_at(&mut rounds.pass);
     }
 
-    /// One round, and its report.
+    /// One round, and its report, for callers of the library.
     pub fn pass<R: Wait>(
         &mut self,
         rt: &R,
@@ -110,11 +89,11 @@ impl TableCollector {
             self.old }
         requires board { store_board_id store.now ≡ trackers_board_id trackers.now }
         requires buckets { store_buckets store.now ≡ (board_sizes trackers.now).buckets }
-        ensures* ends { sem 𝓛 (EndsAs self.entry (λ c.
+        ensures* ends { sem 𝓛 (EndsAs the_row self.entry (λ c.
             Cuts (board_sizes trackers.now) long (view_of self.old) result.now (view_of c) ×
             IsCollectorOf (trackers_board_id trackers.now) (board_sizes trackers.now) c)) }
     {
         self.collect(rt, trackers, store, long);
-        &self.report
+        self.rounds.report()
     }
 }

@@ -1,5 +1,5 @@
 -- A round of a team.
-use Rattle.std.proofs.Common.{◌≡◌, ℕ, ◌<◌, List, [], length, get_or, sym, ap, ◌∙◌, subst}
+use Rattle.std.proofs.Common.{◌≡◌, ℕ, ◌<◌, List, [], ◌++◌, length, take, drop, get_or, sym, ap, ◌∙◌, subst}
 use Rattle.atomic_table.specs.Seated.{TableId}
 use Rattle.hg_base.specs.declared.report.Kind.TheVariants.{Interval}
 use Rattle.hg_base.specs.declared.report.Report.{Report}
@@ -8,22 +8,41 @@ use Rattle.hg_rule.specs.declared.view.Sizes.{Sizes}
 use Rattle.hg_rule.specs.Views.{pass, pass_there, first_in}
 use Rattle.hg_rule.specs.Seats.{BoardId}
 use Rattle.hg_tracker.specs.Begun.{HasGathered}
-use Rattle.hg_tracker.proofs.Rounds.{gather_events, gather_round, gather_gains, gather_removes_none}
 use Rattle.hg_visit.specs.Reports.{IsReportBy}
-use Rattle.hg_visit.proofs.Rounds.{reports}
+use Rattle.hg_visit.proofs.Reported.{gathered_reports}
 use Rattle.hg_sweep.specs.declared.draws.Drawn.{Drawn}
 use Rattle.hg_sweep.specs.declared.helper.Helper.{Helper}
 use Rattle.hg_sweep.specs.Word.{AreAll}
 use Rattle.hg_sweep.specs.Helpers.{IsHelperOf, HasHelped}
 use Rattle.hg_sweep.specs.Crew.{HasHired, Unites}
 use Rattle.hg_sweep.specs.Teams.{SweepsBeside}
-use Rattle.hg_sweep.proofs.Joined.{worked, unites_none, goes, visit_once}
+use Rattle.hg_sweep.proofs.Joined.{worked, unites_none, goes, visit_once, take_whole}
 
 -- the helpers are back, and none is united yet
 pub all_back : (t : BoardId) (d : TableId) (buckets n : ℕ) (x : View) (hs later : List Helper) (y : View) (drawn : Drawn) → HasHired t d n x hs y drawn → length later ≡ length hs
     → ((i : ℕ) (o : Helper) → i < length hs → HasHelped buckets (get_or hs i o) (get_or later i o) × IsHelperOf t d (get_or later i o)) → Unites t d buckets (length later) x later y drawn 0
 all_back t d buckets n x hs later y drawn a same f =
     subst (λ m. Unites t d buckets m x later y drawn 0) (sym (same ∙ a.count)) (unites_none t d buckets n x hs later y drawn a (worked t d buckets x hs later a.each same f))
+
+-- The helpers were lent as a list, and lie in their places again: t is the board, and s what it was named at the call.
+module _ (s t : BoardId) (d : TableId) (buckets count len : ℕ) (x y : View) (drawn : Drawn) (hs lent now : List Helper) (ids : s ≡ t) (hired : HasHired t d count x hs y drawn)
+    (value : lent ≡ hs) (same : length now ≡ length hs) (long : len ≡ length now) where
+  abbrev pub in_places : List Helper
+  in_places = take len (now ++ drop (length now) hs)
+
+  in_places_now : in_places ≡ now
+  in_places_now = ap (λ (m : ℕ). take m (now ++ drop (length now) hs)) long ∙ take_whole now (drop (length now) hs)
+
+  pub many_back : length in_places ≡ count
+  many_back = ap (λ (l : List Helper). length l) in_places_now ∙ (same ∙ hired.count)
+
+  abbrev Ran : BoardId → List Helper → Type 0
+  Ran b l = (i : ℕ) (o : Helper) → i < length l → HasHelped buckets (get_or l i o) (get_or now i o) × IsHelperOf b d (get_or now i o)
+
+  pub places_back : ((i : ℕ) (o : Helper) → i < length lent → HasHelped buckets (get_or lent i o) (get_or now i o) × IsHelperOf s d (get_or now i o)) →
+      Unites t d buckets (length in_places) x in_places y drawn 0
+  places_back ran = subst (λ (l : List Helper). Unites t d buckets (length l) x l y drawn 0) (sym in_places_now)
+      (all_back t d buckets count x hs now y drawn hired same (subst (λ b. Ran b hs) ids (subst (Ran s) value ran)))
 
 -- all are united
 pub round_made : (t : BoardId) (d : TableId) (z : Sizes) (n : ℕ) (v x w : View) (drawn : Drawn) (removed : ℕ) (report : Report) → HasGathered v z.sessions x →
@@ -36,7 +55,7 @@ round_made t d z n v x w drawn removed report gathers a some all r =
       on = on;
       gone_is = gone;
       visit_once = visit_once t d z.buckets n x w drawn removed a some all;
-      reports = reports Interval v x w report (gather_events v x) (gather_gains v x z.sessions gathers) (gather_round v x z.sessions gathers) (gather_removes_none v x) on removed r gone gathers.most;
+      reports = gathered_reports Interval v x w z.sessions report removed gathers on r gone;
     }
 
 -- its share is what it was

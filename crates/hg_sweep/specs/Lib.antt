@@ -6,4 +6,3 @@ pub mod Helpers
 pub mod Crew
 -- The team.
 pub mod Teams
-pub mod Lending

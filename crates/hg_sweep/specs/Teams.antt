@@ -11,11 +11,11 @@ use Rattle.hg_rule.specs.Keys.{one}
 use Rattle.hg_rule.specs.Sharing.{MaySplit}
 use Rattle.hg_rule.specs.Rounds.{gone_in}
 use Rattle.hg_rule.specs.Views.{pass}
-use Rattle.hg_rule.specs.Seats.{BoardId, pass_view, IsPassOf}
+use Rattle.hg_rule.specs.Seats.{BoardId}
 use Rattle.hg_tracker.specs.Begun.{HasGathered}
-use Rattle.hg_tracker.specs.Gathers.{IsMadeFor}
 use Rattle.hg_visit.specs.Visits.{GoesOn}
 use Rattle.hg_visit.specs.Reports.{Reports}
+use Rattle.hg_visit.specs.Rounds as rounds
 use Rattle.hg_gc_interval.specs.Sweeping.{IsCleanBy}
 use Rattle.hg_sweep.specs.declared.team.SweepTeam.{SweepTeam}
 use Rattle.hg_sweep.specs.Word.{times, fresh}
@@ -24,23 +24,26 @@ use Rattle.hg_sweep.specs.Seats.{draws_id, drawn_by, IsDrawerOf}
 
 -- its pass, and what that sees
 abbrev pub pass_of : SweepTeam → CollectorPass
-pass_of c = c.pass
+pass_of c = rounds.pass_of c.rounds
 
 abbrev pub view_of : SweepTeam → View
-view_of c = pass_view c.pass
+view_of c = rounds.view_of c.rounds
 
 -- its last report
 abbrev pub report_in : SweepTeam → Report
-report_in c = c.report
+report_in c = rounds.report_in c.rounds
+
+-- it with another pass
+abbrev pub with_pass : SweepTeam → CollectorPass → SweepTeam
+with_pass c p = record c { rounds = rounds.with_pass c.rounds p }
 
 -- Its pass is of this board, and may be split for each helper. It has room for the board's sessions and tables, and for its helpers,
 -- of which none is hired. Nothing is drawn.
 pub record IsTeamOf (t : BoardId) (z : Sizes) (c : SweepTeam) : Type 0 where
-  pub own : IsPassOf t c.pass
-  pub may : MaySplit c.count (pass (pass_view c.pass)).share
+  pub own : rounds.AreRoundsOf t z c.rounds
+  pub may : MaySplit c.count (pass (view_of c)).share
   pub some : 0 < c.count
   pub few : c.count ≤ 16
-  pub room : IsMadeFor z.sessions z.tables c.gathered × (z.sessions ≤ c.report.entries.room)
   pub none : c.helpers.items ≡ []
   pub places : c.count ≤ vec_capacity c.helpers
   pub drawer : IsDrawerOf (draws_id c.draws) c.drawer

@@ -14,8 +14,8 @@ use hg_base::{Gate, Kind, NoMemory, Report};
 use hg_gc_interval::Tools;
 use hg_rule::CollectorPass;
 use hg_store::Store;
-use hg_tracker::{Gathered, Trackers};
-use hg_visit::{new_report, rewrite};
+use hg_tracker::Trackers;
+use hg_visit::Rounds;
 use std::alloc::Global;
 use std::sync::Wait;
 use std::thread::Threads;
@@ -23,9 +23,7 @@ use std::thread::Threads;
 /// Makes rounds of the interval collector with a fixed number of helpers, each in a thread of its own.
 #[derive(Drop)]
 pub struct SweepTeam {
-    pub(crate) pass: CollectorPass,
-    pub(crate) gathered: Gathered,
-    pub(crate) report: Report,
+    pub rounds: Rounds,
     pub(crate) count: u32,
     pub(crate) helpers: Vec<Helper>,
     pub(crate) draws: Draws,
@@ -35,8 +33,9 @@ pub struct SweepTeam {
 impl SweepTeam {
     ghost use Rattle.hg_rule.specs.declared.view.Sizes.{Sizes};
     ghost use Rattle.std.specs.Borrow.{sem};
-    ghost use Rattle.hg_sweep.specs.Lending.{LendsPass, EndsAs};
-    ghost use Rattle.hg_sweep.specs.Teams.{pass_of, view_of, report_in, IsTeamOf, SweepsBeside};
+    ghost use Rattle.hg_visit.specs.Lending.{LendsPass, EndsAs};
+    ghost use Rattle.hg_sweep.specs.contracts.team.SweepTeam.{the_row};
+    ghost use Rattle.hg_sweep.specs.Teams.{pass_of, view_of, report_in, with_pass, IsTeamOf, SweepsBeside};
 
     /// Allocates all that rounds with so many helpers need on a board of so many sessions and tables. If memory runs out, the pass comes
     /// back.
@@ -56,49 +55,30 @@ impl SweepTeam {
         ensures same { IfOk result (λ c. pass_of c ≡ pass) }
         ensures refused { IfErr result (λ e. e.0 ≡ pass) }
     {
-        let Ok(gathered) = Gathered::new(alloc, sessions, tables) else {
-            return Err((pass, NoMemory));
-        };
-        let Ok(report) = new_report(alloc, Kind::Interval, sessions) else {
-            return Err((pass, NoMemory));
-        };
         let Ok(places) = Vec::with_capacity(alloc, helpers as usize) else {
             return Err((pass, NoMemory));
         };
         let Ok((draws, drawer)) = Draws::new(alloc) else {
             return Err((pass, NoMemory));
         };
-        Ok(SweepTeam {
-            pass,
-            gathered,
-            report,
-            count: helpers,
-            helpers: places,
-            draws,
-            drawer,
-        })
-    }
-
-    /// Gives up the pass.
-    pub fn into_pass(self) -> CollectorPass
-        ensures { result ≡ pass_of self }
-    {
-        self.pass
+        match Rounds::new(alloc, Kind::Interval, pass, sessions, tables) {
+            Ok(rounds) => Ok(SweepTeam {
+                rounds,
+                count: helpers,
+                helpers: places,
+                draws,
+                drawer,
+            }),
+            Err(refused) => Err(refused),
+        }
     }
 
     /// Lends the pass between two rounds.
     pub fn lend(&mut self) -> &mut CollectorPass
-        ensures* back { sem 𝓛 (LendsPass self.entry result) }
+        ensures* back { sem 𝓛 (LendsPass the_row with_pass self.entry result) }
         ensures pass { result.now ≡ pass_of self.old }
     {
-        &mut self.pass
-    }
-
-    /// The report of the last round.
-    pub fn report(&self) -> &Report
-        ensures { result.now ≡ report_in self.now }
-    {
-        &self.report
+        self.rounds.lend()
     }
 
     /// One round. Helper h asks the gate as worker 200 + h before each of its buckets, counted from 1. It holds one bucket's lock
@@ -119,11 +99,11 @@ impl SweepTeam {
         ensures own { IsTeamOf (trackers_board_id trackers.now) (board_sizes trackers.now)
             self.new }
     {
-        trackers.gather(&mut self.pass, &mut self.gathered);
+        trackers.gather(&mut self.rounds.pass, &mut self.rounds.gathered);
         let board = trackers.board();
         hire(
             board,
-            &mut self.pass,
+            &mut self.rounds.pass,
             &self.draws,
             &mut self.drawer,
             self.count,
@@ -132,20 +112,20 @@ impl SweepTeam {
         let tools = Tools {
             trackers,
             store,
-            gathered: &self.gathered,
+            gathered: &self.rounds.gathered,
         };
         work(rt, &tools, &self.draws, gate, self.helpers.as_mut_slice());
         let removed = retire(
             board,
-            &mut self.pass,
+            &mut self.rounds.pass,
             &self.draws,
             &mut self.drawer,
             &mut self.helpers,
         );
-        rewrite(&mut self.report, Kind::Interval, &self.gathered, removed);
+        self.rounds.rewrite(Kind::Interval, removed);
     }
 
-    /// One round, and its report.
+    /// One round, and its report, for callers of the library.
     pub fn pass<R: Threads + Wait + Sync, G: Gate + Sync>(
         &mut self,
         rt: &R,
@@ -158,11 +138,11 @@ impl SweepTeam {
         requires board { store_board_id store.now ≡ trackers_board_id trackers.now }
         requires buckets { store_buckets store.now ≡ (board_sizes trackers.now).buckets }
         // what `collect` says, of the team as it is once the report is given back
-        ensures* ends { sem 𝓛 (EndsAs self.entry (λ c.
+        ensures* ends { sem 𝓛 (EndsAs the_row self.entry (λ c.
             SweepsBeside (board_sizes trackers.now) (view_of self.old) result.now (view_of c)
             × IsTeamOf (trackers_board_id trackers.now) (board_sizes trackers.now) c)) }
     {
         self.collect(rt, trackers, store, gate);
-        &self.report
+        self.rounds.report()
     }
 }

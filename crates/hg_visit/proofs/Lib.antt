@@ -3,5 +3,5 @@ pub mod Going
 pub mod Removing
 pub mod Tables
 pub mod Visiting
-pub mod Rounds
+pub mod Reported
 pub mod Snapshots

@@ -11,6 +11,7 @@ use Rattle.hg_core.specs.declared.version.Version.{Version}
 use Rattle.hg_core.specs.declared.visit.Visit.{Visit}
 use Rattle.hg_core.specs.Contents.{Content, look}
 use Rattle.hg_core.specs.Counters.{removed_all}
+use Rattle.hg_core.specs.Passes.{PassRecord}
 use Rattle.hg_rule.specs.declared.view.PassPart.{PassPart}
 use Rattle.hg_rule.specs.declared.view.Part.TheVariants.{OfBucket, OfPass}
 use Rattle.hg_rule.specs.declared.view.View.{View}
@@ -68,13 +69,15 @@ module _ (kind : Kind) (v x : View) (b : ℕ) (own : HasPass v) (takes : Takes v
         let same : (bucket x).content ≡ s.bucket b = ap (λ ps. (bucket (record x { parts = ps })).content) parts_taken ∙ sym there.1.0.0 in
         ap (look r) same ∙ none_placed z.tables r (s.bucket b) (subst (λ n. Each (λ e. e.0.table.0 < n) (s.bucket b)) backed.sized.tables (backed.steady.contents_are_placed b).table) l
 
-    module _ (Q : Rid → List Version → Type 0) (empty : (r : Rid) → Q r []) (gone : ℕ) (y w : View) (owns : HasPass y) (c : ClearsTables kind Q z.tables gone x y) (left : w ≡ without_bucket y) where
+    -- the tables are cleared by what is recorded, which the take left as it was
+    module _ (Q : PassRecord → Rid → List Version → Type 0) (empty : (p : PassRecord) (r : Rid) → Q p r []) (gone : ℕ) (y w : View) (owns : HasPass y)
+        (c : ClearsTables kind (Q (record_of (pass x))) z.tables gone x y) (left : w ≡ without_bucket y) where
       abbrev content : Content
       content = (bucket y).content
 
-      as_given : (r : Rid) → Dec (r.table.0 < z.tables) → Q r (look r content)
-      as_given r (yes l) = c.left r l
-      as_given r (no l) = subst (Q r) (sym (c.rest r (omega (arith, l)) ∙ none_other r (omega (arith, l)))) (empty r)
+      as_given : (r : Rid) → Dec (r.table.0 < z.tables) → Q (record_of (pass v)) r (look r content)
+      as_given r (yes l) = subst (λ p. Q p r (look r content)) record_taken (c.left r l)
+      as_given r (no l) = subst (Q (record_of (pass v)) r) (sym (c.rest r (omega (arith, l)) ∙ none_other r (omega (arith, l)))) (empty (record_of (pass v)) r)
 
       numbers : number y ≡ number v
       numbers = c.removes.counts.same_number ∙ number_taken
@@ -85,7 +88,7 @@ module _ (kind : Kind) (v x : View) (b : ℕ) (own : HasPass v) (takes : Takes v
       behind : beyond y ≡ others v
       behind = c.removes.counts.rest ∙ ap (λ ps. after_first (after_first ps)) parts_taken
 
-      pub visit_is : Visits kind Q b gone v w
+      pub visit_is : Visits kind (Q (record_of (pass v))) b gone v w
       visit_is = record {
         on = record {
           visits = closed_visit kind (pass v).mark b gone content ∷ [];
@@ -119,15 +122,20 @@ module _ (kind : Kind) (v x : View) (b : ℕ) (own : HasPass v) (takes : Takes v
 pub visits_none : (kind : Kind) (Q : Rid → List Version → Type 0) (v : View) → HasPass v → VisitsAll kind Q 0 0 v v
 visits_none kind Q v own = record { on = goes_none kind v own; gone_is = refl; once = tt }
 
-pub visits_more : (kind : Kind) (Q : Rid → List Version → Type 0) (u v w : View) (n m k : ℕ) → VisitsAll kind Q n m u v → Visits kind Q n k v w → VisitsAll kind Q (suc n) (m + k) u w
+-- a bucket more, each by what was recorded when it was taken
+pub visits_more : (kind : Kind) (Q : PassRecord → Rid → List Version → Type 0) (u v w : View) (n m k : ℕ) → VisitsAll kind (Q (record_of (pass u))) n m u v →
+    Visits kind (Q (record_of (pass v))) n k v w → VisitsAll kind (Q (record_of (pass u))) (n + 1) (m + k) u w
 visits_more kind Q u v w n m k a b =
     let s = same_pass kind u v a.on in
-    let P : ℕ → Visit → Type 0 = IsVisitOf kind Q (pass u).mark in
-    let is : P n b.visit = subst (λ mark. IsVisitOf kind Q mark n b.visit) s.mark_is b.is in record {
+    let P : ℕ → Visit → Type 0 = IsVisitOf kind (Q (record_of (pass u))) (pass u).mark in
+    let is : P n b.visit = subst (λ (t : PassRecord × ℕ). IsVisitOf kind (Q t.0) t.1 n b.visit) (λ i. (s.record_is i, s.mark_is i)) b.is in
+    let next : suc n ≡ n + 1 = omega arith in
+    let all : VisitsAll kind (Q (record_of (pass u))) (suc n) (m + k) u w = record {
       on = goes_on kind u v w a.on b.on;
       gone_is = let l = gone_on a.on.steps b.on.steps in omega (arith, l, a.gone_is, b.gone_is);
       once = subst (λ vs. OneEach P (suc n) (vs ++ a.on.visits)) (sym b.only) (is, a.once);
-    }
+    } in
+    subst (λ j. VisitsAll kind (Q (record_of (pass u))) j (m + k) u w) next all
 
 -- so many are few
 pub visits_few : (kind : Kind) (Q : Rid → List Version → Type 0) (n m : ℕ) (v w : View) → VisitsAll kind Q n m v w → removed_all kind (pass w).visits ≤ 2 ^ 41 → m ≤ 2 ^ 41

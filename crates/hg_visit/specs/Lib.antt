@@ -4,3 +4,6 @@ pub mod Visits
 pub mod Tables
 -- A round, and its report.
 pub mod Reports
+-- A collector's pass and report between its rounds, and what a collector lends.
+pub mod Rounds
+pub mod Lending

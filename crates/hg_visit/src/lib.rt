@@ -4,12 +4,13 @@
 //!     bucket     [ take ][ table 0 ][ table 1 ] .. [ give back ]
 //!
 //! Each visit of a bucket is of one kind of collector. It adds to the pass's list of visits what it removed there and how it gave the
-//! bucket back, and to the pass's steps what it reclaimed (`Visits`, `VisitsAll`). What a round's report says follows from the round's
-//! steps (`Reports`). No more versions are removed than were ever made, so the sums do not overflow.
+//! bucket back, and to the pass's steps what it reclaimed (`Visits`, `VisitsAll`). No more versions are removed than were ever made, so
+//! the sums do not overflow.
 //!
-//! What a visit does to each table is defined in the collectors' own crates.
+//! Each collector is made around a `Rounds`: its pass, what it gathered last, and the report of its last round. What a report says
+//! follows from the round's steps (`Reports`). What a visit does to each table is defined in the collectors' own crates.
 #![tactic(auto)]
 
-mod report;
+mod rounds;
 
-pub use report::{new_report, rewrite};
+pub use rounds::Rounds;

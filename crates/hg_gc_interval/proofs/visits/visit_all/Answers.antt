@@ -6,7 +6,7 @@ use Rattle.hg_rule.specs.Views.{pass}
 use Rattle.hg_rule.specs.Seats.{pass_view}
 use Rattle.hg_tracker.specs.Boards.{board_sizes}
 use Rattle.hg_store.specs.Stores.{store_buckets}
-use Rattle.hg_visit.specs.Visits.{Visits, VisitsAll}
+use Rattle.hg_visit.specs.Visits.{VisitsAll}
 use Rattle.hg_visit.proofs.Going.{same_pass}
 use Rattle.hg_visit.proofs.Visiting.{visits_none, visits_more, visits_few}
 use Rattle.hg_gc_interval.specs.Sweeping.{IsCleanBy}
@@ -20,17 +20,8 @@ loop-b-init g c = let v = pass_view c.args.pass.now in (visits_none Interval (Is
 -- a bucket more
 more : (g : given.Over) (c : goal.After-visit_bucket-gone g) → VisitsAll Interval (IsCleanBy (record_of (pass (pass_view c.args.pass.now)))) (c.loop-b.b + 1)
     (c.loop-b.gone + c.visit_bucket-gone.result) (pass_view c.args.pass.now) (pass_view c.visit_bucket-gone.new.pass)
-more g c =
-    let v = pass_view c.args.pass.now in
-    let w = pass_view c.loop-b.pass in
-    let x = pass_view c.visit_bucket-gone.new.pass in
-    let b = c.loop-b.b in
-    let k = c.visit_bucket-gone.result in
-    let Q = IsCleanBy (record_of (pass v)) in
-    let same = (same_pass Interval v w c.loop-b.invariant.0.on).record_is in
-    let one = subst (λ (p : PassRecord). Visits Interval (IsCleanBy p) b k w x) same c.visit_bucket-gone.ensures.visits in
-    let next : suc b ≡ b + 1 = omega arith in
-    subst (λ n. VisitsAll Interval Q n (c.loop-b.gone + k) v x) next (visits_more Interval Q v w x b c.loop-b.gone k c.loop-b.invariant.0 one)
+more g c = visits_more Interval IsCleanBy (pass_view c.args.pass.now) (pass_view c.loop-b.pass) (pass_view c.visit_bucket-gone.new.pass) c.loop-b.b c.loop-b.gone
+    c.visit_bucket-gone.result c.loop-b.invariant.0 c.visit_bucket-gone.ensures.visits
 
 pub overflow_add-gone : goal.overflow_add-gone
 overflow_add-gone g c =

@@ -8,11 +8,9 @@ use Rattle.hg_rule.specs.Views.{pass}
 use Rattle.hg_rule.specs.Seats.{sizes_of, pass_view}
 use Rattle.hg_store.specs.Stores.{held_number}
 use Rattle.hg_store.proofs.Holding.{total_at}
-use Rattle.hg_visit.specs.Tables.{ClearsTables}
 use Rattle.hg_visit.proofs.Visiting.{record_taken, visit_is, visit_few}
 use Rattle.hg_gc_interval.specs.Sweeping.{IsCleanBy}
 use Rattle.hg_gc_interval.specs.Costs.{SpendsTables, VisitCosts}
-use Rattle.hg_gc_interval.proofs.visits.visit_bucket.Given as given
 use Rattle.hg_gc_interval.proofs.visits.visit_bucket.Goals as goal
 
 pub sweep_tables-gone-requires-clause-few : goal.sweep_tables-gone-requires-clause-few
@@ -22,24 +20,14 @@ sweep_tables-gone-requires-clause-few g c =
     let most = total_at z t.0 (held_number c.take-held.result) (pass_view c.take-held.new.pass) t.1 c.take-held.ensures.holds.has in
     omega (arith, most, c.board-board.result.now.room.begins)
 
--- the tables were swept by what was gathered before the bucket came
-swept : (g : given.Over) (c : goal.After-give g) → ClearsTables Interval (IsCleanBy (record_of (pass (pass_view c.args.pass.now))))
-    (sizes_of c.board-board.result.now).tables c.sweep_tables-gone.result (pass_view c.take-held.new.pass) (pass_view c.sweep_tables-gone.new.pass)
-swept g c =
-    let v = pass_view c.args.pass.now in
-    let x = pass_view c.take-held.new.pass in
-    let same = record_taken Interval v x c.args.b c.requires.own.1 c.take-held.ensures.view in
-    subst (λ (p : PassRecord). ClearsTables Interval (IsCleanBy p) (sizes_of c.board-board.result.now).tables c.sweep_tables-gone.result x (pass_view c.sweep_tables-gone.new.pass))
-    same c.sweep_tables-gone.ensures.clears
-
 pub returns-clause-visits : goal.returns-clause-visits
 returns-clause-visits g c =
     let v = pass_view c.args.pass.now in
     let x = pass_view c.take-held.new.pass in
     let t = c.take-held.ensures.backed in
     visit_is Interval v x c.args.b c.requires.own.1 c.take-held.ensures.view (sizes_of c.board-board.result.now) t.0 t.1
-    (IsCleanBy (record_of (pass v))) (λ r. tt) c.sweep_tables-gone.result (pass_view c.sweep_tables-gone.new.pass) (pass_view c.give.new.pass) c.sweep_tables-gone.ensures.own.1
-    (swept g c) c.give.ensures.view
+    IsCleanBy (λ p r. tt) c.sweep_tables-gone.result (pass_view c.sweep_tables-gone.new.pass) (pass_view c.give.new.pass) c.sweep_tables-gone.ensures.own.1
+    c.sweep_tables-gone.ensures.clears c.give.ensures.view
 
 pub returns-clause-few : goal.returns-clause-few
 returns-clause-few g c =
@@ -48,8 +36,8 @@ returns-clause-few g c =
     let t = c.take-held.ensures.backed in
     let holds = subst (λ n. HoldsBucket n x) c.take-held.ensures.held.1 c.take-held.ensures.holds.has in
     visit_few Interval v x c.args.b c.requires.own.1 c.take-held.ensures.view (sizes_of c.board-board.result.now) t.0 t.1
-    (IsCleanBy (record_of (pass v))) (λ r. tt) c.sweep_tables-gone.result (pass_view c.sweep_tables-gone.new.pass) (pass_view c.give.new.pass) c.sweep_tables-gone.ensures.own.1
-    (swept g c) c.give.ensures.view c.board-board.result.now.room holds
+    IsCleanBy (λ p r. tt) c.sweep_tables-gone.result (pass_view c.sweep_tables-gone.new.pass) (pass_view c.give.new.pass) c.sweep_tables-gone.ensures.own.1
+    c.sweep_tables-gone.ensures.clears c.give.ensures.view c.board-board.result.now.room holds
 
 pub returns-clause-cost : goal.returns-clause-cost
 returns-clause-cost g c =

@@ -1,12 +1,10 @@
-use Rattle.std.proofs.Common.{◌≡◌, ◌+◌, suc, subst, arith}
+use Rattle.std.proofs.Common.{◌≡◌, ◌+◌, subst, arith}
 use Rattle.hg_base.specs.declared.report.Kind.TheVariants.{Table}
-use Rattle.hg_core.specs.Passes.{PassRecord}
 use Rattle.hg_rule.specs.Facts.{record_of}
 use Rattle.hg_rule.specs.Views.{pass}
 use Rattle.hg_rule.specs.Seats.{pass_view}
 use Rattle.hg_store.specs.Stores.{store_buckets}
-use Rattle.hg_visit.specs.Visits.{Visits, VisitsAll}
-use Rattle.hg_visit.proofs.Going.{same_pass}
+use Rattle.hg_visit.specs.Visits.{VisitsAll}
 use Rattle.hg_visit.proofs.Visiting.{visits_none, visits_more, visits_few}
 use Rattle.hg_gc_table.specs.Cutting.{IsCutBy}
 use Rattle.hg_gc_table.proofs.visits.visit_all.Given as given
@@ -18,17 +16,8 @@ loop-b-init g c = let v = pass_view c.args.pass.now in (visits_none Table (IsCut
 -- a bucket more
 more : (g : given.Over) (c : goal.After-visit_bucket-gone g) → VisitsAll Table (IsCutBy (record_of (pass (pass_view c.args.pass.now)))) (c.loop-b.b + 1)
     (c.loop-b.gone + c.visit_bucket-gone.result) (pass_view c.args.pass.now) (pass_view c.visit_bucket-gone.new.pass)
-more g c =
-    let v = pass_view c.args.pass.now in
-    let w = pass_view c.loop-b.pass in
-    let x = pass_view c.visit_bucket-gone.new.pass in
-    let b = c.loop-b.b in
-    let k = c.visit_bucket-gone.result in
-    let Q = IsCutBy (record_of (pass v)) in
-    let same = (same_pass Table v w c.loop-b.invariant.0.on).record_is in
-    let one = subst (λ (p : PassRecord). Visits Table (IsCutBy p) b k w x) same c.visit_bucket-gone.ensures.visits in
-    let next : suc b ≡ b + 1 = omega arith in
-    subst (λ n. VisitsAll Table Q n (c.loop-b.gone + k) v x) next (visits_more Table Q v w x b c.loop-b.gone k c.loop-b.invariant.0 one)
+more g c = visits_more Table IsCutBy (pass_view c.args.pass.now) (pass_view c.loop-b.pass) (pass_view c.visit_bucket-gone.new.pass) c.loop-b.b c.loop-b.gone
+    c.visit_bucket-gone.result c.loop-b.invariant.0 c.visit_bucket-gone.ensures.visits
 
 pub overflow_add-gone : goal.overflow_add-gone
 overflow_add-gone g c =

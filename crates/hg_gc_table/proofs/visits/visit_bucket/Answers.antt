@@ -1,16 +1,11 @@
 use Rattle.std.proofs.Common.{subst, arith}
 use Rattle.hg_base.specs.declared.report.Kind.TheVariants.{Table}
-use Rattle.hg_core.specs.Passes.{PassRecord}
-use Rattle.hg_rule.specs.Facts.{record_of}
 use Rattle.hg_rule.specs.Places.{HoldsBucket}
-use Rattle.hg_rule.specs.Views.{pass}
 use Rattle.hg_rule.specs.Seats.{sizes_of, pass_view}
 use Rattle.hg_store.specs.Stores.{held_number}
 use Rattle.hg_store.proofs.Holding.{total_at}
-use Rattle.hg_visit.specs.Tables.{ClearsTables}
-use Rattle.hg_visit.proofs.Visiting.{record_taken, visit_is, visit_few}
+use Rattle.hg_visit.proofs.Visiting.{visit_is, visit_few}
 use Rattle.hg_gc_table.specs.Cutting.{IsCutBy}
-use Rattle.hg_gc_table.proofs.visits.visit_bucket.Given as given
 use Rattle.hg_gc_table.proofs.visits.visit_bucket.Goals as goal
 
 pub cut_tables-gone-requires-clause-few : goal.cut_tables-gone-requires-clause-few
@@ -20,23 +15,14 @@ cut_tables-gone-requires-clause-few g c =
     let most = total_at z t.0 (held_number c.take-held.result) (pass_view c.take-held.new.pass) t.1 c.take-held.ensures.holds.has in
     omega (arith, most, c.board-board.result.now.room.begins)
 
--- the tables were swept by what was gathered before the bucket came
-swept : (g : given.Over) (c : goal.After-give g) → ClearsTables Table (IsCutBy (record_of (pass (pass_view c.args.pass.now))))
-    (sizes_of c.board-board.result.now).tables c.cut_tables-gone.result (pass_view c.take-held.new.pass) (pass_view c.cut_tables-gone.new.pass)
-swept g c =
-    let v = pass_view c.args.pass.now in
-    let x = pass_view c.take-held.new.pass in
-    let same = record_taken Table v x c.args.b c.requires.own.1 c.take-held.ensures.view in
-    subst (λ (p : PassRecord). ClearsTables Table (IsCutBy p) (sizes_of c.board-board.result.now).tables c.cut_tables-gone.result x (pass_view c.cut_tables-gone.new.pass)) same
-    c.cut_tables-gone.ensures.clears
-
 pub returns-clause-visits : goal.returns-clause-visits
 returns-clause-visits g c =
     let v = pass_view c.args.pass.now in
     let x = pass_view c.take-held.new.pass in
     let t = c.take-held.ensures.backed in
     visit_is Table v x c.args.b c.requires.own.1 c.take-held.ensures.view (sizes_of c.board-board.result.now) t.0 t.1
-    (IsCutBy (record_of (pass v))) (λ r. tt) c.cut_tables-gone.result (pass_view c.cut_tables-gone.new.pass) (pass_view c.give.new.pass) c.cut_tables-gone.ensures.own.1 (swept g c) c.give.ensures.view
+    IsCutBy (λ p r. tt) c.cut_tables-gone.result (pass_view c.cut_tables-gone.new.pass) (pass_view c.give.new.pass) c.cut_tables-gone.ensures.own.1
+    c.cut_tables-gone.ensures.clears c.give.ensures.view
 
 pub returns-clause-few : goal.returns-clause-few
 returns-clause-few g c =
@@ -45,5 +31,5 @@ returns-clause-few g c =
     let t = c.take-held.ensures.backed in
     let holds = subst (λ n. HoldsBucket n x) c.take-held.ensures.held.1 c.take-held.ensures.holds.has in
     visit_few Table v x c.args.b c.requires.own.1 c.take-held.ensures.view (sizes_of c.board-board.result.now) t.0 t.1
-    (IsCutBy (record_of (pass v))) (λ r. tt) c.cut_tables-gone.result (pass_view c.cut_tables-gone.new.pass) (pass_view c.give.new.pass) c.cut_tables-gone.ensures.own.1
-    (swept g c) c.give.ensures.view c.board-board.result.now.room holds
+    IsCutBy (λ p r. tt) c.cut_tables-gone.result (pass_view c.cut_tables-gone.new.pass) (pass_view c.give.new.pass) c.cut_tables-gone.ensures.own.1
+    c.cut_tables-gone.ensures.clears c.give.ensures.view c.board-board.result.now.room holds

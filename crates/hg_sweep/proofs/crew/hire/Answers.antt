@@ -6,7 +6,7 @@ use Rattle.hg_rule.specs.Seats.{board_id, pass_view}
 use Rattle.hg_sweep.specs.declared.helper.Helper.{Helper}
 use Rattle.hg_sweep.specs.Crew.{HasHired}
 use Rattle.hg_sweep.specs.Seats.{draws_id, drawn_by}
-use Rattle.hg_sweep.proofs.Joined.{may_one, kept_share, hired_none, hired_more, left_enough}
+use Rattle.hg_sweep.proofs.Hired.{may_one, kept_share, hired_none, hired_more, left_enough}
 use Rattle.hg_sweep.proofs.crew.hire.Goals as goal
 
 pub loop-number-init : goal.loop-number-init

@@ -1,15 +1,17 @@
-use Rattle.std.proofs.Common.{sym, subst}
+use Rattle.std.proofs.Common.{sym, ap, ◌∙◌, subst}
 use Rattle.hg_base.specs.declared.report.Kind.TheVariants.{Interval}
 use Rattle.hg_core.specs.Passes.{PassRecord}
+use Rattle.hg_rule.specs.declared.passes.CollectorPass.{CollectorPass}
 use Rattle.hg_rule.specs.Facts.{record_of}
 use Rattle.hg_rule.specs.Views.{pass}
 use Rattle.hg_rule.specs.Seats.{pass_view}
 use Rattle.hg_tracker.specs.Boards.{board_sizes}
-use Rattle.hg_tracker.proofs.Rounds.{gather_events, gather_round, gather_gains, gather_removes_none}
+use Rattle.hg_visit.specs.Rounds.{report_in}
 use Rattle.hg_visit.specs.Visits.{VisitsAll}
 use Rattle.hg_visit.proofs.Going.{same_pass}
-use Rattle.hg_visit.proofs.Rounds.{reports}
+use Rattle.hg_visit.proofs.Reported.{gathered_reports}
 use Rattle.hg_gc_interval.specs.Sweeping.{IsCleanBy}
+use Rattle.hg_gc_interval.specs.Collectors.{view_of, Sweeps}
 use Rattle.hg_gc_interval.specs.Costs.{VisitsCost}
 use Rattle.hg_gc_interval.proofs.collector.IntervalCollector.collect.Goals as goal
 
@@ -19,7 +21,7 @@ rewrite-requires g c = record { room = ((board_sizes c.args.trackers.now).sessio
 pub returns-clause-sweeps : goal.returns-clause-sweeps
 returns-clause-sweeps g c =
     let z = board_sizes c.args.trackers.now in
-    let v = pass_view c.args.self.now.pass in
+    let v = view_of c.args.self.now in
     let x = pass_view c.gather.new.pass in
     let w = pass_view c.visit_all-removed.new.pass in
     let shown = c.gather.ensures.shown in
@@ -27,12 +29,11 @@ returns-clause-sweeps g c =
     let report = c.rewrite.ensures.reports _ _ shown in
     let visits = subst (λ n. VisitsAll Interval (IsCleanBy (record_of (pass x))) z.buckets n x w) (sym report.removed_is)
     (subst (λ n. VisitsAll Interval (IsCleanBy (record_of (pass x))) n c.visit_all-removed.result x w) c.requires.buckets c.visit_all-removed.ensures.visits) in
-    record {
+    subst (λ (p : CollectorPass). Sweeps z v (report_in c.rewrite.new.self) (pass_view p)) (sym c.rewrite.ensures.same.0) record {
       gathered = x;
       gathers = gathers;
       visits = visits;
-      reports = reports Interval v x w _ (gather_events v x) (gather_gains v x z.sessions gathers) (gather_round v x z.sessions gathers)
-          (gather_removes_none v x) visits.on c.visit_all-removed.result report visits.gone_is gathers.most;
+      reports = gathered_reports Interval v x w z.sessions _ c.visit_all-removed.result gathers visits.on report visits.gone_is;
     }
 
 pub returns-clause-cost : goal.returns-clause-cost
@@ -40,6 +41,6 @@ returns-clause-cost g c =
     let z = board_sizes c.args.trackers.now in
     let x = pass_view c.gather.new.pass in
     let w = pass_view c.visit_all-removed.new.pass in
-    let same = (same_pass Interval x w c.visit_all-removed.ensures.visits.on).record_is in
+    let same = ap (λ (p : CollectorPass). record_of (pass (pass_view p))) c.rewrite.ensures.same.0 ∙ (same_pass Interval x w c.visit_all-removed.ensures.visits.on).record_is in
     subst (λ (p : PassRecord). VisitsCost z p z.buckets c.args.steps.now c.visit_all-removed.new.steps) (sym same)
     (subst (λ n. VisitsCost z (record_of (pass x)) n c.args.steps.now c.visit_all-removed.new.steps) c.requires.buckets c.visit_all-removed.ensures.cost)

@@ -1,4 +1,4 @@
-use Rattle.std.proofs.Common.{◌≡◌, sym, subst}
+use Rattle.std.proofs.Common.{◌≡◌, sym, ap, ◌∙◌, subst}
 use Rattle.hg_base.specs.declared.report.Kind.TheVariants.{Table}
 use Rattle.hg_base.specs.Lists.{Each}
 use Rattle.hg_rule.specs.Facts.{record_of}
@@ -6,10 +6,11 @@ use Rattle.hg_rule.specs.Views.{number, pass}
 use Rattle.hg_rule.specs.Seats.{pass_view}
 use Rattle.hg_tracker.specs.Begun.{AtMost}
 use Rattle.hg_tracker.specs.Boards.{board_sizes}
+use Rattle.hg_visit.specs.Rounds.{report_in}
 use Rattle.hg_visit.specs.Visits.{VisitsAll}
-use Rattle.hg_visit.proofs.Rounds.{reports, reports_steps}
+use Rattle.hg_visit.proofs.Reported.{reports, reports_steps}
 use Rattle.hg_gc_table.specs.Cutting.{IsCutBy}
-use Rattle.hg_gc_table.specs.Collectors.{Cuts}
+use Rattle.hg_gc_table.specs.Collectors.{view_of, Cuts}
 use Rattle.hg_gc_table.specs.Moving.{TriesLong}
 use Rattle.hg_gc_table.proofs.Moving.{tries_long, moving_events, moving_gains, moving_round, moving_removes_none, moving_mark}
 use Rattle.hg_gc_table.proofs.collector.TableCollector.collect.Goals as goal
@@ -20,7 +21,7 @@ rewrite-requires g c = record { room = ((board_sizes c.args.trackers.now).sessio
 pub returns-clause-cuts : goal.returns-clause-cuts
 returns-clause-cuts g c =
     let z = board_sizes c.args.trackers.now in
-    let v = pass_view c.args.self.now.pass in
+    let v = view_of c.args.self.now in
     let x = pass_view c.gather.new.pass in
     let y = pass_view c.move_long.new.pass in
     let w = pass_view c.visit_all-removed.new.pass in
@@ -31,8 +32,8 @@ returns-clause-cuts g c =
     let visits = subst (λ n. VisitsAll Table (IsCutBy (record_of (pass y))) z.buckets n y w) (sym report.removed_is)
     (subst (λ n. VisitsAll Table (IsCutBy (record_of (pass y))) n c.visit_all-removed.result y w) c.requires.buckets c.visit_all-removed.ensures.visits) in
     let most = subst (λ m. Each (AtMost m) v.sights) (sym (moving_mark v x y z.sessions _ _ gathers moves)) gathers.most in
-    let stays : pass_view c.look_at.new.pass ≡ w = c.look_at.ensures.stays in
-    subst (Cuts z c.args.long v c.rewrite.new.report) (sym stays) record {
+    let stays : pass_view c.look_at.new.pass ≡ w = c.look_at.ensures.stays ∙ ap pass_view c.rewrite.ensures.same.0 in
+    subst (Cuts z c.args.long v (report_in c.rewrite.new.self)) (sym stays) record {
       gathered = x;
       gathers = gathers;
       moved = y;

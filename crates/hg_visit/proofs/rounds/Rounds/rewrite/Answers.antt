@@ -2,7 +2,7 @@ use Rattle.std.proofs.Common.{◌≡◌, length, refl, ap, ◌∙◌, arith}
 use Rattle.hg_rule.specs.Rounds.{entries_of}
 use Rattle.hg_tracker.proofs.TableLists.{entries_most}
 use Rattle.hg_tracker.proofs.After.{keys_length}
-use Rattle.hg_visit.proofs.report.rewrite.Goals as goal
+use Rattle.hg_visit.proofs.rounds.Rounds.rewrite.Goals as goal
 
 pub refill-requires : goal.refill-requires
 refill-requires c =
@@ -18,8 +18,8 @@ pub returns-clause-reports : goal.returns-clause-reports
 returns-clause-reports c =
     λ sessions part shown. record {
       kind_is = refl;
-      mark_is = c.mark-report.ensures _ _ shown;
-      horizon_is = c.horizon-report.ensures _ _ shown;
+      mark_is = c.mark-self.ensures _ _ shown;
+      horizon_is = c.horizon-self.ensures _ _ shown;
       removed_is = refl;
       entries_are = c.refill.ensures.list ∙ c.entries.ensures _ _ shown;
     }

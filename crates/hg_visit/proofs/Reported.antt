@@ -9,7 +9,8 @@ use Rattle.hg_rule.specs.declared.view.View.{View}
 use Rattle.hg_rule.specs.Views.{number, pass}
 use Rattle.hg_rule.specs.Rounds.{IsRoundOf, mark_in, loaded_after, entries_of, gone_in}
 use Rattle.hg_rule.proofs.Rounds.{round_on, mark_on, loaded_on, gone_on}
-use Rattle.hg_tracker.specs.Begun.{AtMost}
+use Rattle.hg_tracker.specs.Begun.{AtMost, HasGathered}
+use Rattle.hg_tracker.proofs.Rounds.{gather_events, gather_round, gather_gains, gather_removes_none}
 use Rattle.hg_visit.specs.Visits.{GoesOn}
 use Rattle.hg_visit.specs.Reports.{IsReportBy, Reports}
 use Rattle.hg_visit.proofs.Going.{same_pass}
@@ -51,3 +52,9 @@ module _ (kind : Kind) (v x w : View) (report : Report) (before : List Event) (g
       (reports n r gone most).steps ≡ before ++ on.steps
   unfolding reports
   reports_steps n r gone most = λ i. before ++ on.steps
+
+-- the same of a gather and the visits after it
+pub gathered_reports : (kind : Kind) (v x w : View) (sessions : ℕ) (report : Report) (n : ℕ) → HasGathered v sessions x → (on : GoesOn kind x w) →
+    IsReportBy kind (pass x) n report → report.removed ≡ gone_in on.steps → Reports kind v report w
+gathered_reports kind v x w sessions report n g on r gone =
+    reports kind v x w report (gather_events v x) (gather_gains v x sessions g) (gather_round v x sessions g) (gather_removes_none v x) on n r gone g.most
