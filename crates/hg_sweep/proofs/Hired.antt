@@ -11,7 +11,7 @@ use Rattle.hg_rule.specs.declared.view.Sizes.{Sizes}
 use Rattle.hg_rule.specs.Sharing.{MaySplit, kept_of, given_of, halved, branch}
 use Rattle.hg_rule.specs.Views.{number, pass, others, seeing, HasPass}
 use Rattle.hg_rule.specs.Seats.{BoardId, pass_view}
-use Rattle.hg_rule.proofs.Halving.{halves_both}
+use Rattle.hg_rule.proofs.Branches.{halves_both}
 use Rattle.hg_rule.proofs.Lists.{each_append}
 use Rattle.hg_tracker.specs.declared.gathered.Gathered.{Gathered}
 use Rattle.hg_tracker.specs.Gathers.{IsGatherOf}
