@@ -8,14 +8,16 @@ use Rattle.hg_rule.specs.declared.view.Sizes.{Sizes}
 use Rattle.hg_rule.specs.Facts.{record_of}
 use Rattle.hg_rule.specs.Views.{pass}
 use Rattle.hg_tracker.specs.Begun.{HasGathered}
-use Rattle.hg_tracker.proofs.Rounds.{gather_events, gather_round, gather_gains, gather_removes_none}
 use Rattle.hg_visit.specs.Reports.{IsReportBy}
-use Rattle.hg_visit.proofs.Rounds.{reports}
+use Rattle.hg_visit.proofs.Reported.{gathered_reports}
 use Rattle.hg_gc_group.specs.Taking.{TakesAll}
 use Rattle.hg_gc_group.specs.Collectors.{Collects}
 
 pub collects : (z : Sizes) (v x w : View) (report : Report) (n : ℕ) → HasGathered v z.sessions x → TakesAll z.buckets (group_bound (record_of (pass x))) x report.removed w →
     IsReportBy Group (pass x) n report → Collects z v report w
-collects z v x w report n g t told =
-    let r = reports Group v x w report (gather_events v x) (gather_gains v x z.sessions g) (gather_round v x z.sessions g) (gather_removes_none v x) t.some.on n told t.some.gone_is g.most in
-    record { gathered = x; gathers = g; takes = t; steps = r.steps; events = r.events; round = r.round; report_is = r.report_is; most = r.most }
+collects z v x w report n g t told = record {
+  gathered = x;
+  gathers = g;
+  takes = t;
+  reports = gathered_reports Group v x w z.sessions report n g t.some.on told t.some.gone_is;
+}

@@ -3,4 +3,3 @@ pub mod Cutting
 pub mod Taking
 -- The collector.
 pub mod Collectors
-pub mod Lending

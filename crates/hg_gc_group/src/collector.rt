@@ -1,7 +1,7 @@
 //! The collector.
 
 ghost use Rattle.std.specs.Prelude.{◌≡◌, ◌<◌, ◌≤◌, IfOk, IfErr};
-ghost use Rattle.hg_rule.specs.Seats.{BoardId, board_id, sizes_of, IsPassOf};
+ghost use Rattle.hg_rule.specs.Seats.{BoardId, IsPassOf};
 ghost use Rattle.hg_store.specs.Stores.{store_board_id, store_buckets};
 ghost use Rattle.hg_group.specs.Lists.{groups_board_id};
 ghost use Rattle.hg_tracker.specs.Boards.{trackers_board_id, board_sizes};
@@ -10,30 +10,28 @@ use hg_base::{Kind, NoMemory, Report, Rid};
 use hg_group::GroupList;
 use hg_rule::CollectorPass;
 use hg_store::Store;
-use hg_tracker::{Gathered, Trackers};
-use hg_visit::{new_report, rewrite};
+use hg_tracker::Trackers;
+use hg_visit::Rounds;
 use std::alloc::Global;
 use std::sync::Wait;
 
 // How many records of groups that are taken together there is room for. The commit lock is held for no more at a time.
 const ROOM: usize = 2048;
 
-/// A collector's pass, with room for a gather, for the records of groups that are taken together, and for the report of its last
-/// round.
+/// The group collector of a board, with room for the records of groups that are taken together.
 #[derive(Drop)]
 pub struct GroupCollector {
-    pub(crate) pass: CollectorPass,
-    pub(crate) gathered: Gathered,
+    pub rounds: Rounds,
     pub(crate) rids: Vec<Rid>,
-    pub(crate) report: Report,
 }
 
 impl GroupCollector {
     ghost use Rattle.std.specs.Prelude.{ℕ};
     ghost use Rattle.hg_rule.specs.declared.view.Sizes.{Sizes};
     ghost use Rattle.std.specs.Borrow.{sem};
-    ghost use Rattle.hg_gc_group.specs.Lending.{LendsPass, EndsAs};
-    ghost use Rattle.hg_gc_group.specs.Collectors.{pass_of, view_of, report_in, IsCollectorOf, Collects};
+    ghost use Rattle.hg_visit.specs.Lending.{LendsPass, EndsAs};
+    ghost use Rattle.hg_gc_group.specs.contracts.collector.GroupCollector.{the_row};
+    ghost use Rattle.hg_gc_group.specs.Collectors.{pass_of, view_of, report_in, with_pass, IsCollectorOf, Collects};
 
     /// Takes all memory that passes at a board of so many sessions and tables need. A refusal hands the pass back.
     pub fn new(
@@ -48,43 +46,21 @@ impl GroupCollector {
         ensures same { IfOk result (λ c. pass_of c ≡ pass) }
         ensures refused { IfErr result (λ e. e.0 ≡ pass) }
     {
-        let Ok(gathered) = Gathered::new(alloc, sessions, tables) else {
-            return Err((pass, NoMemory));
-        };
         let Ok(rids) = Vec::with_capacity(alloc, ROOM) else {
             return Err((pass, NoMemory));
         };
-        let Ok(report) = new_report(alloc, Kind::Group, sessions) else {
-            return Err((pass, NoMemory));
-        };
-        Ok(GroupCollector {
-            pass,
-            gathered,
-            rids,
-            report,
-        })
-    }
-
-    /// The pass, which the collector gives up.
-    pub fn into_pass(self) -> CollectorPass
-        ensures { result ≡ pass_of self }
-    {
-        self.pass
+        match Rounds::new(alloc, Kind::Group, pass, sessions, tables) {
+            Ok(rounds) => Ok(GroupCollector { rounds, rids }),
+            Err(refused) => Err(refused),
+        }
     }
 
     /// Lends the pass between two rounds.
     pub fn lend(&mut self) -> &mut CollectorPass
-        ensures* back { sem 𝓛 (LendsPass self.entry result) }
+        ensures* back { sem 𝓛 (LendsPass the_row with_pass self.entry result) }
         ensures pass { result.now ≡ pass_of self.old }
     {
-        &mut self.pass
-    }
-
-    /// The report of the last round.
-    pub fn report(&self) -> &Report
-        ensures { result.now ≡ report_in self.now }
-    {
-        &self.report
+        self.rounds.lend()
     }
 
     /// One round. It waits for the commit lock and for buckets' locks, one at a time.
@@ -107,14 +83,14 @@ impl GroupCollector {
             self.new }
     {
         let board = trackers.board();
-        trackers.gather(&mut self.pass, &mut self.gathered);
-        board.look_at(&mut self.pass);
-        let bound = self.gathered.least();
+        trackers.gather(&mut self.rounds.pass, &mut self.rounds.gathered);
+        board.look_at(&mut self.rounds.pass);
+        let bound = self.rounds.gathered.least();
         let removed = self.take_groups(rt, board, store, groups, bound);
-        rewrite(&mut self.report, Kind::Group, &self.gathered, removed);
+        self.rounds.rewrite(Kind::Group, removed);
     }
 
-    /// One round, and its report.
+    /// One round, and its report, for callers of the library.
     pub fn pass<R: Wait>(
         &mut self,
         rt: &R,
@@ -128,11 +104,11 @@ impl GroupCollector {
             (groups_board_id groups.now ≡ trackers_board_id trackers.now) }
         requires buckets { (0 < store_buckets store.now) ×
             (store_buckets store.now ≡ (board_sizes trackers.now).buckets) }
-        ensures* ends { sem 𝓛 (EndsAs self.entry (λ c.
+        ensures* ends { sem 𝓛 (EndsAs the_row self.entry (λ c.
             Collects (board_sizes trackers.now) (view_of self.old) result.now (view_of c) ×
             IsCollectorOf (trackers_board_id trackers.now) (board_sizes trackers.now) c)) }
     {
         self.collect(rt, trackers, store, groups);
-        &self.report
+        self.rounds.report()
     }
 }

@@ -43,15 +43,16 @@ impl GroupCollector {
         ensures takes { TakesAll (sizes_of board.now).buckets bound (view_of self.old) result
             (view_of self.new) }
         ensures own { IsPassOf (board_id board.now) (pass_of self.new) }
-        ensures same { (self.new.gathered ≡ self.old.gathered) ×
-            (self.new.report ≡ self.old.report) }
+        ensures same { (self.new.rounds.gathered ≡ self.old.rounds.gathered) ×
+            (self.new.rounds.report ≡ self.old.rounds.report) }
     {
+        let pass = &mut self.rounds.pass;
+        let rids = &mut self.rids;
         let mut gone = 0;
-        while let Some(last) = groups.take_some(rt, board, bound, &mut self.rids, &mut self.pass) {
-            gone += cut_batch(rt, board, store, &mut self.pass, &mut self.rids, bound);
-            let rids = last.records.as_slice();
-            gone += cut_all(rt, board, store, &mut self.pass, rids, bound);
+        while let Some(last) = groups.take_some(rt, board, bound, rids, pass) {
+            gone += cut_batch(rt, board, store, pass, rids, bound);
+            gone += cut_all(rt, board, store, pass, last.records.as_slice(), bound);
         }
-        gone + cut_batch(rt, board, store, &mut self.pass, &mut self.rids, bound)
+        gone + cut_batch(rt, board, store, pass, rids, bound)
     }
 }

@@ -4,12 +4,15 @@ use Rattle.hg_base.specs.declared.report.Report.{Report}
 use Rattle.hg_core.specs.Passes.{group_bound}
 use Rattle.hg_rule.specs.declared.board.Board.{Board}
 use Rattle.hg_rule.specs.declared.view.View.{View}
+use Rattle.hg_rule.specs.declared.passes.CollectorPass.{CollectorPass}
 use Rattle.hg_rule.specs.Facts.{record_of}
 use Rattle.hg_rule.specs.Views.{pass, HasPass}
 use Rattle.hg_rule.specs.Seats.{sizes_of, pass_view}
 use Rattle.hg_tracker.specs.Boards.{board_sizes}
 use Rattle.hg_tracker.specs.Gathers.{IsGatherOf}
+use Rattle.hg_visit.specs.Rounds.{report_in}
 use Rattle.hg_gc_group.specs.Taking.{TakesAll}
+use Rattle.hg_gc_group.specs.Collectors.{view_of, Collects}
 use Rattle.hg_visit.proofs.Counted.{few}
 use Rattle.hg_gc_group.proofs.Rounds.{collects}
 use Rattle.hg_gc_group.proofs.collector.GroupCollector.collect.Goals as goal
@@ -31,12 +34,13 @@ rewrite-requires g c =
 pub returns-clause-collects : goal.returns-clause-collects
 returns-clause-collects g c =
     let x = pass_view c.gather.new.pass in
-    let w = pass_view c.take_groups-removed.new.self.pass in
+    let w = pass_view c.take_groups-removed.new.self.rounds.pass in
     let shown = c.gather.ensures.shown in
     let there = subst (λ (u : View). TakesAll (sizes_of c.board-board.result.now).buckets c.least-bound.result u c.take_groups-removed.result w) c.look_at.ensures.stays
     c.take_groups-removed.ensures.takes in
     let at = subst (λ n. TakesAll (sizes_of c.board-board.result.now).buckets n x c.take_groups-removed.result w) (c.least-bound.ensures _ _ shown) there in
     let takes = subst (λ (b : Board). TakesAll (sizes_of b).buckets (group_bound (record_of (pass x))) x c.take_groups-removed.result w) c.board-board.ensures at in
     let report = c.rewrite.ensures.reports _ _ (subst (IsGatherOf (board_sizes c.args.trackers.now).sessions (pass x)) (sym c.take_groups-removed.ensures.same.0) shown) in
-    collects (board_sizes c.args.trackers.now) (pass_view c.args.self.now.pass) x w _ c.take_groups-removed.result c.gather.ensures.gathered
-    (subst (λ n. TakesAll (board_sizes c.args.trackers.now).buckets (group_bound (record_of (pass x))) x n w) (sym report.removed_is) takes) report
+    subst (λ (p : CollectorPass). Collects (board_sizes c.args.trackers.now) (view_of c.args.self.now) (report_in c.rewrite.new.self) (pass_view p)) (sym c.rewrite.ensures.same.0)
+    (collects (board_sizes c.args.trackers.now) (view_of c.args.self.now) x w _ c.take_groups-removed.result c.gather.ensures.gathered
+    (subst (λ n. TakesAll (board_sizes c.args.trackers.now).buckets (group_bound (record_of (pass x))) x n w) (sym report.removed_is) takes) report)

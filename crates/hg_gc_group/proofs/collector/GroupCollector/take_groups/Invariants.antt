@@ -9,12 +9,11 @@ use Rattle.hg_gc_group.proofs.collector.GroupCollector.take_groups.Given as goal
 
 abbrev pub invariant-loop-last : goal.invariant-loop-last
 invariant-loop-last g l = record {
-  takes : TakesGroups (sizes_of l.board).buckets l.bound (pass_view l.fn.self.pass) l.gone (pass_view l.self.pass);
-  few : removed_all Group (own_pass (pass_view l.self.pass)).visits ≤ 2 ^ 41;
-  own : IsPassOf (board_id l.board) l.self.pass;
-  same : (l.self.gathered ≡ l.fn.self.gathered) × (l.self.report ≡ l.fn.self.report);
+  takes : TakesGroups (sizes_of l.board).buckets l.bound (pass_view l.fn.self.rounds.pass) l.gone (pass_view l.pass);
+  few : removed_all Group (own_pass (pass_view l.pass)).visits ≤ 2 ^ 41;
+  own : IsPassOf (board_id l.board) l.pass;
 }
 
 -- the groups that are left below the bound
 abbrev pub decreases-loop-last : goal.decreases-loop-last
-decreases-loop-last g l = l.bound - seen_taken (pass_view l.self.pass).sights
+decreases-loop-last g l = l.bound - seen_taken (pass_view l.pass).sights
