@@ -1,6 +1,6 @@
 -- Rounds one after the other, with meetings between them.
 use Rattle.std.proofs.Common.{◌≡◌, ◌⊎◌, inl, inr, ℕ, suc, ◌+◌, ◌≢◌, List, [], ◌∷◌, ◌++◌, Bool, true, false, Option, None, refl, sym, ap, ◌∙◌, subst, arith}
-use Rattle.std.specs.Prelude.{cond, filter, filter_map, sum_by}
+use Rattle.std.specs.Prelude.{cond, filter, filter_map, sum_by, IfOk, Result}
 use Rattle.std.specs.List.{cons_option}
 use Rattle.std.proofs.lemmas.List.Elements.{filter-append, filter_map-append}
 use Rattle.std.proofs.lemmas.List.Sums.{sum_by-cons}
@@ -29,6 +29,7 @@ use Rattle.hg_collectors.specs.Collecting.{HaveMade, IsLone, removed_of, view_in
 use Rattle.hg_collectors.specs.Rounding.{IsRoundBy, AreRounds}
 use Rattle.hg_collectors.specs.Telling.{reply_of, sweep_lines, sweeps_in, sweeps_of}
 use Rattle.hg_collectors.specs.Swept.{HasSwept, HasMetSessions, swept_by}
+use Rattle.hg_collectors.proofs.Among.{if_ok}
 use Rattle.hg_collectors.proofs.Meetings.{met_none, met_more}
 use Rattle.hg_collectors.proofs.Rounds.{group_swept, table_swept, interval_swept, team_swept}
 
@@ -39,6 +40,12 @@ swept_of Group z long v w sweep (report, (collects, is)) = subst (λ s. HasSwept
 swept_of Table z long v w sweep (report, (cuts, is)) = subst (λ s. HasSwept Table z.sessions v s w) (sym is) (table_swept z long v w report cuts)
 swept_of Interval z long v w sweep (report, (inl sweeps, is)) = subst (λ s. HasSwept Interval z.sessions v s w) (sym is) (interval_swept z v w report sweeps)
 swept_of Interval z long v w sweep (report, (inr sweeps, is)) = subst (λ s. HasSwept Interval z.sessions v s w) (sym is) (team_swept z v w report sweeps)
+
+-- where it is told, this is known of it
+pub told_swept : {E : Type 0} (kind : Kind) (z : Sizes) (long : ℕ) (v w : View) (result : Result Sweep E) → IfOk result (λ sweep. IsRoundBy kind z long v sweep w) →
+    IfOk result (λ sweep. HasSwept kind z.sessions v sweep w)
+told_swept kind z long v w result round =
+    if_ok (λ sweep. IsRoundBy kind z long v sweep w) (λ sweep. HasSwept kind z.sessions v sweep w) result (λ sweep r. swept_of kind z long v w sweep r) round
 
 -- ---- rounds
 

@@ -16,15 +16,15 @@ use Rattle.hg_rule.specs.declared.view.Sight.TheVariants.{Saw}
 use Rattle.hg_rule.specs.declared.view.View.{View}
 use Rattle.hg_rule.specs.declared.view.Sizes.{Sizes}
 use Rattle.hg_rule.specs.Facts.{StartsWith, IsAmong, groups}
-use Rattle.hg_rule.specs.declared.view.Event.{Event}
-use Rattle.hg_rule.specs.Rounds.{IsRoundOf, IsReportOf, entries_of, gone_in}
+use Rattle.hg_rule.specs.Rounds.{entries_of, gone_in}
 use Rattle.hg_rule.specs.Views.{number, pass, pass_there, first_in, others, seeing}
 use Rattle.hg_rule.proofs.Rounds.{told_is}
 use Rattle.hg_rule.proofs.Lists.{among_left}
-use Rattle.hg_tracker.specs.Begun.{AtMost, SawGroups, gathering}
+use Rattle.hg_tracker.specs.Begun.{HasGathered, SawGroups, gathering}
 use Rattle.hg_tracker.specs.Gathers.{IsFull, IsLoaded}
 use Rattle.hg_tracker.specs.Tries.{is_long, moved_by}
 use Rattle.hg_visit.specs.Visits.{GoesOn}
+use Rattle.hg_visit.specs.Reports.{Reports}
 use Rattle.hg_visit.proofs.Going.{removed_append, removed_for}
 use Rattle.hg_gc_table.specs.Collectors.{Cuts}
 use Rattle.hg_gc_interval.specs.Collectors.{Sweeps}
@@ -58,46 +58,49 @@ module _ (kind : Kind) (v y w : View) (report : Report) (mark sessions : ℕ) (l
   own : pass w ≡ part
   own = ap (λ ps. pass_there (first_in ps)) parts
 
-  pub swept : (steps : List Event) → w.events ≡ v.events ++ steps → IsRoundOf (number v) (pass w) steps → IsReportOf kind steps report → Each (AtMost report.mark) v.sights →
-      report.removed ≡ gone_in on.steps → IsLoaded sessions loaded → SawGroups mark y.sights → StartsWith y.sights v.sights → HasSwept kind sessions v (sweep_of report) w
-  swept steps events round report_is most gone is saw kept =
-      let same : mark ≡ report.mark = sym (ap (λ (p : PassPart). p.mark) own) ∙ (round.mark_is ∙ sym report_is.mark_is) in
+  pub swept : Reports kind v report w → report.removed ≡ gone_in on.steps → IsLoaded sessions loaded → SawGroups mark y.sights → StartsWith y.sights v.sights →
+      HasSwept kind sessions v (sweep_of report) w
+  swept r gone is saw kept =
+      let same : mark ≡ report.mark = sym (ap (λ (p : PassPart). p.mark) own) ∙ (r.round.mark_is ∙ sym r.report_is.mark_is) in
       let held : (pass w).loaded ≡ loaded = ap (λ (p : PassPart). p.loaded) own in
       record {
-        steps = steps;
-        events = events;
-        round = round;
-        told = told_is kind steps report report_is;
+        steps = r.steps;
+        events = r.events;
+        round = r.round;
+        told = told_is kind r.steps report r.report_is;
         parts = parts ∙ ap (λ (p : PassPart). OfPass (number v) p ∷ others v) (sym own);
         share = ap (λ (p : PassPart). p.share) own;
         seen = ap (λ (p : PassPart). p.seen) own;
         keys = ap (map (λ (e : ℕ × Loaded). e.0)) held ∙ is.0;
         registers = subst (Each (λ (e : ℕ × Loaded). IsFull e.1)) (sym held) is.1;
-        most = most;
+        most = r.most;
         saw = saw_more report.mark y.sights w.sights on.kept (subst (λ n. SawGroups n y.sights) same saw);
         kept = starts_more v.sights y.sights w.sights kept on.kept;
         removed = λ k.
             let all : removed_all k (pass w).visits ≡ removed_all k on.visits + removed_all k (pass v).visits = ap (λ (p : PassPart). removed_all k p.visits) own ∙
             removed_append k on.visits (pass v).visits in
             let new : removed_all k on.visits ≡ swept_by k (sweep_of report) = removed_for kind k on.visits on.only ∙
-            (ap (λ n. if same_kind kind k then n else 0) (sym on.sum ∙ sym gone) ∙ ap (λ c. if same_kind c k then report.removed else 0) (sym report_is.kind_is)) in
+            (ap (λ n. if same_kind kind k then n else 0) (sym on.sum ∙ sym gone) ∙ ap (λ c. if same_kind c k then report.removed else 0) (sym r.report_is.kind_is)) in
             omega (arith, all, new);
       }
+
+-- it gathered, and moved nothing
+gathered_swept : (kind : Kind) (v x w : View) (report : Report) (sessions : ℕ) → HasGathered v sessions x → (on : GoesOn kind x w) → Reports kind v report w →
+    report.removed ≡ gone_in on.steps → HasSwept kind sessions v (sweep_of report) w
+gathered_swept kind v x w report sessions g on r gone = swept kind v x w report (pass x).mark sessions (pass x).loaded g.parts on r gone (g.keys, g.registers) g.saw g.kept
 
 -- ---- each collector's
 
 pub group_swept : (z : Sizes) (v w : View) (report : Report) → Collects z v report w → HasSwept Group z.sessions v (sweep_of report) w
-group_swept z v w report c = swept Group v c.gathered w report (pass c.gathered).mark z.sessions (pass c.gathered).loaded c.gathers.parts c.takes.some.on c.steps c.events c.round
-    c.report_is c.most c.takes.some.gone_is (c.gathers.keys, c.gathers.registers) c.gathers.saw c.gathers.kept
+group_swept z v w report c = gathered_swept Group v c.gathered w report z.sessions c.gathers c.takes.some.on c.reports c.takes.some.gone_is
 
 pub table_swept : (z : Sizes) (long : ℕ) (v w : View) (report : Report) → Cuts z long v report w → HasSwept Table z.sessions v (sweep_of report) w
 table_swept z long v w report c =
-    let r = c.reports in
     let gathered : List (ℕ × Loaded) = (pass c.gathered).loaded in
     let moved : List (ℕ × Loaded) = moved_by (filter (is_long (pass c.gathered).mark long) (entries_of gathered)) c.moves.outcomes gathered in
     let there : c.moved.parts ≡ OfPass (number v) (gathering (pass c.gathered).mark moved v) ∷ others v = c.moves.parts ∙ ap F c.gathers.parts in
     let same : (pass c.moved).loaded ≡ moved = ap (λ ps. (pass_there (first_in ps)).loaded) there in
-    swept Table v c.moved w report (pass c.gathered).mark z.sessions moved there c.visits.on r.steps r.events r.round r.report_is r.most c.visits.gone_is (subst (IsLoaded z.sessions) same c.loaded)
+    swept Table v c.moved w report (pass c.gathered).mark z.sessions moved there c.visits.on c.reports c.visits.gone_is (subst (IsLoaded z.sessions) same c.loaded)
     (subst (SawGroups (pass c.gathered).mark) (sym c.moves.sights) c.gathers.saw) (subst (λ xs. StartsWith xs v.sights) (sym c.moves.sights) c.gathers.kept)
   where
     F : List Part → List Part
@@ -105,13 +108,7 @@ table_swept z long v w report c =
         (pass u) { loaded = moved_by (filter (is_long (pass c.gathered).mark long) (entries_of (pass c.gathered).loaded)) c.moves.outcomes (pass u).loaded }) ∷ others u
 
 pub interval_swept : (z : Sizes) (v w : View) (report : Report) → Sweeps z v report w → HasSwept Interval z.sessions v (sweep_of report) w
-interval_swept z v w report c =
-    let r = c.reports in
-    swept Interval v c.gathered w report (pass c.gathered).mark z.sessions (pass c.gathered).loaded c.gathers.parts c.visits.on r.steps r.events r.round r.report_is r.most
-    c.visits.gone_is (c.gathers.keys, c.gathers.registers) c.gathers.saw c.gathers.kept
+interval_swept z v w report c = gathered_swept Interval v c.gathered w report z.sessions c.gathers c.visits.on c.reports c.visits.gone_is
 
 pub team_swept : (z : Sizes) (v w : View) (report : Report) → SweepsBeside z v report w → HasSwept Interval z.sessions v (sweep_of report) w
-team_swept z v w report c =
-    let r = c.reports in
-    swept Interval v c.gathered w report (pass c.gathered).mark z.sessions (pass c.gathered).loaded c.gathers.parts c.on r.steps r.events r.round r.report_is r.most c.gone_is
-    (c.gathers.keys, c.gathers.registers) c.gathers.saw c.gathers.kept
+team_swept z v w report c = gathered_swept Interval v c.gathered w report z.sessions c.gathers c.on c.reports c.gone_is

@@ -9,7 +9,7 @@ use Rattle.hg_rule.specs.Moves.{meeting}
 use Rattle.hg_rule.specs.Views.{pass}
 use Rattle.hg_rule.specs.Seats.{BoardId, pass_view, IsPassOf}
 use Rattle.hg_sweep.specs.declared.team.SweepTeam.{SweepTeam}
-use Rattle.hg_sweep.specs.Teams.{IsTeamOf}
+use Rattle.hg_sweep.specs.Teams.{view_of, with_pass, IsTeamOf}
 use Rattle.hg_collectors.specs.declared.interval.IntervalWorker.{IntervalWorker}
 use Rattle.hg_collectors.specs.declared.interval.IntervalWorker.TheVariants.{One, Team}
 use Rattle.hg_collectors.specs.Workers.{pass_of, IsCollectorOf}
@@ -17,7 +17,7 @@ use Rattle.hg_collectors.specs.Workers.{pass_of, IsCollectorOf}
 -- its pass is one of the board
 pub worker_pass : (t : BoardId) (z : Sizes) (w : IntervalWorker) → IsCollectorOf t z w → IsPassOf t (pass_of w)
 worker_pass t z (One c) h = h.0
-worker_pass t z (Team c) h = h.own
+worker_pass t z (Team c) h = h.own.0
 
 -- a pass of a new board may be split for each of sixteen helpers
 may_fewer : (m n share : ℕ) → n ≤ m → MaySplit m share → MaySplit n share
@@ -44,14 +44,13 @@ pub may_split : (n share : ℕ) → n ≤ 16 → share ≡ first_share → MaySp
 may_split n share l e = subst (MaySplit n) (sym e) (may_fewer 16 n first_share l sixteen)
 
 -- a team whose pass met a session is one still
-pub team_met : (t : BoardId) (z : Sizes) (c : SweepTeam) (p : CollectorPass) (other : View) → IsTeamOf t z c → IsPassOf t p → pass_view p ≡ meeting (pass_view c.pass) other →
-    IsTeamOf t z (record c { pass = p })
+pub team_met : (t : BoardId) (z : Sizes) (c : SweepTeam) (p : CollectorPass) (other : View) → IsTeamOf t z c → IsPassOf t p → pass_view p ≡ meeting (view_of c) other →
+    IsTeamOf t z (with_pass c p)
 team_met t z c p other h own met = record {
-  own = own;
+  own = (own, h.own.1);
   may = subst (MaySplit c.count) (sym (ap (λ (v : View). (pass v).share) met)) h.may;
   some = h.some;
   few = h.few;
-  room = h.room;
   none = h.none;
   places = h.places;
   drawer = h.drawer;

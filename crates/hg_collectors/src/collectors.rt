@@ -4,9 +4,9 @@ ghost use Rattle.std.specs.Prelude.{◌≡◌, ◌≢◌, ◌+◌, ◌≤◌, If
 ghost use Rattle.hg_rule.specs.Seats.{BoardId};
 ghost use Rattle.hg_collectors.specs.Lent.{lent_board_id, lent_sizes};
 
-use crate::collect::{Collect, sweep_round};
 use crate::interval::IntervalWorker;
 use crate::lent::Lent;
+use crate::worker::{Worker, sweep_round};
 use hg_base::{Kind, NoGate, NoMemory, Sweep};
 use hg_gc_group::GroupCollector;
 use hg_gc_table::TableCollector;
@@ -100,8 +100,8 @@ impl Collectors {
         ensures own { AreCollectorsOf (lent_board_id lent.now) (lent_sizes lent.now) self.new }
     {
         match kind {
-            Kind::Group => self.group.round(rt, lent, long),
-            Kind::Table => self.table.round(rt, lent, long),
+            Kind::Group => self.group.make_round(rt, lent, long),
+            Kind::Table => self.table.make_round(rt, lent, long),
             Kind::Interval => sweep_round(rt, lent, &NoGate, &mut self.interval),
         }
     }

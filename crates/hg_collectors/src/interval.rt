@@ -55,8 +55,8 @@ impl IntervalWorker {
         ensures { result ≡ pass_of self }
     {
         match self {
-            IntervalWorker::One(one) => one.into_pass(),
-            IntervalWorker::Team(team) => team.into_pass(),
+            IntervalWorker::One(one) => one.rounds.into_pass(),
+            IntervalWorker::Team(team) => team.rounds.into_pass(),
         }
     }
 }

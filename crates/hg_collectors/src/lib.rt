@@ -15,13 +15,13 @@
 //! A run's rounds are spread over its script (`Pace`).
 #![tactic(auto)]
 
-mod collect;
 mod collectors;
 mod interval;
 mod lent;
 mod pace;
 mod round_list;
 mod round_lists;
+mod worker;
 
 pub use collectors::{Collectors, Room};
 pub use interval::IntervalWorker;

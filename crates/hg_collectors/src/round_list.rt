@@ -8,9 +8,9 @@ ghost use Rattle.hg_collectors.specs.Workers as interval;
 ghost use Rattle.hg_collectors.specs.Lent.{lent_board_id, lent_sizes};
 ghost use Rattle.hg_collectors.specs.Rounding.{HasPlaces, HasMadeAll};
 
-use crate::collect::{Collect, sweep_round};
 use crate::interval::IntervalWorker;
 use crate::lent::Lent;
+use crate::worker::{Worker, sweep_round};
 use hg_base::{Gate, NoMemory, Sweep};
 use std::alloc::Global;
 use std::sync::Wait;
@@ -49,7 +49,7 @@ impl RoundList {
 }
 
 /// Makes the rounds of a plan.
-pub(crate) fn make_rounds<C: Collect, G: Gate, R: Wait>(
+pub(crate) fn make_rounds<C: Worker, G: Gate, R: Wait>(
     rt: &R,
     lent: &Lent,
     plan: &Plan<G>,
@@ -65,7 +65,7 @@ pub(crate) fn make_rounds<C: Collect, G: Gate, R: Wait>(
 {
     for round in 0..plan.rounds {
         plan.gate.at(rt, worker, round + 1);
-        let Ok(sweep) = collector.round(rt, lent, plan.long) else {
+        let Ok(sweep) = collector.make_round(rt, lent, plan.long) else {
             told.refused = true;
             return;
         };

@@ -99,7 +99,7 @@ fn bring(engine: &Engine, list: Vec<Session>, collectors: Collectors) -> TableCo
     join_all(
         engine,
         table.lend(),
-        group.into_pass(),
+        group.rounds.into_pass(),
         interval.into_pass(),
     );
     finish_some(engine, list, table.lend());

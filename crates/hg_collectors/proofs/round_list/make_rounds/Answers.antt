@@ -9,8 +9,8 @@ use Rattle.hg_collectors.proofs.round_list.make_rounds.Goals as goal
 pub loop-round-init : goal.loop-round-init
 loop-round-init g c = record {
   own = c.requires.own;
-  made = subst (λ sweeps. AreRounds (IsRoundBy g.C.Collect.kind (lent_sizes c.args.lent.now) c.args.plan.now.long) (g.C.Collect.view_of c.args.collector.now) sweeps
-      (g.C.Collect.view_of c.args.collector.now)) (sym c.requires.places.none) (met_none (g.C.Collect.view_of c.args.collector.now));
+  made = subst (λ sweeps. AreRounds (IsRoundBy g.C.Worker.kind (lent_sizes c.args.lent.now) c.args.plan.now.long) (g.C.Worker.view_of c.args.collector.now) sweeps
+      (g.C.Worker.view_of c.args.collector.now)) (sym c.requires.places.none) (met_none (g.C.Worker.view_of c.args.collector.now));
   count = ap (λ sweeps. length sweeps) c.requires.places.none;
   room = c.requires.places.room;
   willing = c.requires.places.willing;
@@ -19,13 +19,13 @@ loop-round-init g c = record {
 pub loop-round-preserved : goal.loop-round-preserved
 loop-round-preserved g c =
     let inv = c.loop-round.invariant in
-    let P = IsRoundBy g.C.Collect.kind (lent_sizes c.args.lent.now) c.args.plan.now.long in
-    let v = g.C.Collect.view_of c.args.collector.now in
-    let u = g.C.Collect.view_of c.loop-round.collector in
-    let w = g.C.Collect.view_of c.round.new.self in
+    let P = IsRoundBy g.C.Worker.kind (lent_sizes c.args.lent.now) c.args.plan.now.long in
+    let v = g.C.Worker.view_of c.args.collector.now in
+    let u = g.C.Worker.view_of c.loop-round.collector in
+    let w = g.C.Worker.view_of c.make_round.new.self in
     let items = c.push_reserved.ensures.items in
     record {
-      own = c.round.ensures.own;
+      own = c.make_round.ensures.own;
       made = subst (λ sweeps. AreRounds P v sweeps w) (sym items) (rounds_append P v u w c.loop-round.told.sweeps.items (c.in-Ok.sweep ∷ []) inv.made
           (one_round P u w c.in-Ok.sweep c.in-Ok.ensures.round));
       count = ap (λ sweeps. length sweeps) items ∙ (length-append c.loop-round.told.sweeps.items (c.in-Ok.sweep ∷ []) ∙ ap (λ n. n + 1) inv.count);
@@ -36,11 +36,11 @@ loop-round-preserved g c =
 pub returns-in_default-clause-made : goal.returns-in_default-clause-made
 returns-in_default-clause-made g c =
     let inv = c.loop-round.invariant in
-    let P = IsRoundBy g.C.Collect.kind (lent_sizes c.args.lent.now) c.args.plan.now.long in
-    let v = g.C.Collect.view_of c.args.collector.now in
-    let u = g.C.Collect.view_of c.loop-round.collector in
-    let w = g.C.Collect.view_of c.round.new.self in
-    let made = c.round.ensures.made in
+    let P = IsRoundBy g.C.Worker.kind (lent_sizes c.args.lent.now) c.args.plan.now.long in
+    let v = g.C.Worker.view_of c.args.collector.now in
+    let u = g.C.Worker.view_of c.loop-round.collector in
+    let w = g.C.Worker.view_of c.make_round.new.self in
+    let made = c.make_round.ensures.made in
     record {
       sweeps = c.loop-round.told.sweeps.items ++ made.0 ∷ [];
       made = rounds_append P v u w c.loop-round.told.sweeps.items (made.0 ∷ []) inv.made (one_round P u w made.0 made.1);

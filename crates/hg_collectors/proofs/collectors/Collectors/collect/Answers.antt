@@ -10,7 +10,7 @@ use Rattle.hg_collectors.specs.Collecting.{removed_of, view_in}
 use Rattle.hg_collectors.specs.Rounding.{IsRoundBy}
 use Rattle.hg_collectors.specs.Swept.{HasSwept, swept_by}
 use Rattle.hg_collectors.proofs.Among.{if_ok}
-use Rattle.hg_collectors.proofs.Driving.{swept_of, removed_group, removed_table, removed_interval}
+use Rattle.hg_collectors.proofs.Driving.{swept_of, told_swept, removed_group, removed_table, removed_interval}
 use Rattle.hg_collectors.proofs.Meetings.{lone_swept}
 use Rattle.hg_collectors.proofs.Teams.{worker_pass}
 use Rattle.hg_collectors.proofs.collectors.Collectors.collect.Goals as goal
@@ -19,38 +19,34 @@ pub returns-in-Group-clause-swept : goal.returns-in-Group-clause-swept
 returns-in-Group-clause-swept g c =
     let z = lent_sizes c.args.lent.now in
     let old = c.args.self.now in
-    let new = c.round.new.self in
-    subst (λ kind. IfOk c.round.result (λ sweep. HasSwept kind z.sessions (view_in kind old) sweep (view_in kind (record old { group = new })))) (sym c.in-Group.is)
-    (if_ok (λ sweep. IsRoundBy kinds.Group z c.args.long (view_in kinds.Group old) sweep (group.view_of new))
-    (λ sweep. HasSwept kinds.Group z.sessions (view_in kinds.Group old) sweep (group.view_of new)) c.round.result
-    (λ sweep round. swept_of kinds.Group z c.args.long (view_in kinds.Group old) (group.view_of new) sweep round) c.round.ensures.round)
+    let new = c.make_round.new.self in
+    subst (λ kind. IfOk c.make_round.result (λ sweep. HasSwept kind z.sessions (view_in kind old) sweep (view_in kind (record old { group = new })))) (sym c.in-Group.is)
+    (told_swept kinds.Group z c.args.long (view_in kinds.Group old) (group.view_of new) c.make_round.result c.make_round.ensures.round)
 
 pub returns-in-Group-clause-removed : goal.returns-in-Group-clause-removed
 returns-in-Group-clause-removed g c =
     let z = lent_sizes c.args.lent.now in
     let old = c.args.self.now in
-    let new = c.round.new.self in
+    let new = c.make_round.new.self in
     if_ok (λ sweep. IsRoundBy kinds.Group z c.args.long (view_in kinds.Group old) sweep (group.view_of new)) (λ sweep. (k : Kind) →
-    removed_of k (record old { group = new }) ≡ removed_of k old + swept_by k sweep) c.round.result (λ sweep round. removed_group z c.args.long old new sweep round) c.round.ensures.round
+    removed_of k (record old { group = new }) ≡ removed_of k old + swept_by k sweep) c.make_round.result (λ sweep round. removed_group z c.args.long old new sweep round) c.make_round.ensures.round
 
 pub returns-in-Table-clause-swept : goal.returns-in-Table-clause-swept
 returns-in-Table-clause-swept g c =
     let z = lent_sizes c.args.lent.now in
     let old = c.args.self.now in
-    let new = c.round-in-Table.new.self in
-    subst (λ kind. IfOk c.round-in-Table.result (λ sweep. HasSwept kind z.sessions (view_in kind old) sweep (view_in kind (record old { table = new })))) (sym c.in-Table.is)
-    (if_ok (λ sweep. IsRoundBy kinds.Table z c.args.long (view_in kinds.Table old) sweep (table.view_of new))
-    (λ sweep. HasSwept kinds.Table z.sessions (view_in kinds.Table old) sweep (table.view_of new)) c.round-in-Table.result
-    (λ sweep round. swept_of kinds.Table z c.args.long (view_in kinds.Table old) (table.view_of new) sweep round) c.round-in-Table.ensures.round)
+    let new = c.make_round-in-Table.new.self in
+    subst (λ kind. IfOk c.make_round-in-Table.result (λ sweep. HasSwept kind z.sessions (view_in kind old) sweep (view_in kind (record old { table = new })))) (sym c.in-Table.is)
+    (told_swept kinds.Table z c.args.long (view_in kinds.Table old) (table.view_of new) c.make_round-in-Table.result c.make_round-in-Table.ensures.round)
 
 pub returns-in-Table-clause-removed : goal.returns-in-Table-clause-removed
 returns-in-Table-clause-removed g c =
     let z = lent_sizes c.args.lent.now in
     let old = c.args.self.now in
-    let new = c.round-in-Table.new.self in
+    let new = c.make_round-in-Table.new.self in
     if_ok (λ sweep. IsRoundBy kinds.Table z c.args.long (view_in kinds.Table old) sweep (table.view_of new)) (λ sweep. (k : Kind) →
-    removed_of k (record old { table = new }) ≡ removed_of k old + swept_by k sweep) c.round-in-Table.result
-    (λ sweep round. removed_table z c.args.long old new sweep round) c.round-in-Table.ensures.round
+    removed_of k (record old { table = new }) ≡ removed_of k old + swept_by k sweep) c.make_round-in-Table.result
+    (λ sweep round. removed_table z c.args.long old new sweep round) c.make_round-in-Table.ensures.round
 
 pub returns-in-Interval-clause-swept : goal.returns-in-Interval-clause-swept
 returns-in-Interval-clause-swept g c =
@@ -58,9 +54,7 @@ returns-in-Interval-clause-swept g c =
     let old = c.args.self.now in
     let new = c.sweep_round.new.worker in
     subst (λ kind. IfOk c.sweep_round.result (λ sweep. HasSwept kind z.sessions (view_in kind old) sweep (view_in kind (record old { interval = new })))) (sym c.in-Interval.is)
-    (if_ok (λ sweep. IsRoundBy kinds.Interval z c.args.long (view_in kinds.Interval old) sweep (interval.view_of new))
-    (λ sweep. HasSwept kinds.Interval z.sessions (view_in kinds.Interval old) sweep (interval.view_of new)) c.sweep_round.result
-    (λ sweep round. swept_of kinds.Interval z c.args.long (view_in kinds.Interval old) (interval.view_of new) sweep round) c.sweep_round.ensures.round)
+    (told_swept kinds.Interval z c.args.long (view_in kinds.Interval old) (interval.view_of new) c.sweep_round.result c.sweep_round.ensures.round)
 
 pub returns-in-Interval-clause-removed : goal.returns-in-Interval-clause-removed
 returns-in-Interval-clause-removed g c =
@@ -76,16 +70,16 @@ returns-in-Group-clause-own g c =
     let t = lent_board_id c.args.lent.now in
     let z = lent_sizes c.args.lent.now in
     let old = c.args.self.now in
-    let new = c.round.new.self in
+    let new = c.make_round.new.self in
     let own = c.requires.own in
-    let made = c.round.ensures.made in
+    let made = c.make_round.ensures.made in
     let swept = swept_of kinds.Group z c.args.long (group.view_of old.group) (group.view_of new) made.0 made.1 in
     record {
-      group_is = c.round.ensures.own;
+      group_is = c.make_round.ensures.own;
       table_is = own.table_is;
       interval_is = own.interval_is;
       alone = record {
-        group = lone_swept t 0 kinds.Group z.sessions made.0 (group.pass_of old.group) (group.pass_of new) own.alone.group c.round.ensures.own.0 swept;
+        group = lone_swept t 0 kinds.Group z.sessions made.0 (group.pass_of old.group) (group.pass_of new) own.alone.group c.make_round.ensures.own.0 swept;
         table = own.alone.table;
         interval = own.alone.interval;
       };
@@ -96,17 +90,17 @@ returns-in-Table-clause-own g c =
     let t = lent_board_id c.args.lent.now in
     let z = lent_sizes c.args.lent.now in
     let old = c.args.self.now in
-    let new = c.round-in-Table.new.self in
+    let new = c.make_round-in-Table.new.self in
     let own = c.requires.own in
-    let made = c.round-in-Table.ensures.made in
+    let made = c.make_round-in-Table.ensures.made in
     let swept = swept_of kinds.Table z c.args.long (table.view_of old.table) (table.view_of new) made.0 made.1 in
     record {
       group_is = own.group_is;
-      table_is = c.round-in-Table.ensures.own;
+      table_is = c.make_round-in-Table.ensures.own;
       interval_is = own.interval_is;
       alone = record {
         group = own.alone.group;
-        table = lone_swept t 1 kinds.Table z.sessions made.0 (table.pass_of old.table) (table.pass_of new) own.alone.table c.round-in-Table.ensures.own.0 swept;
+        table = lone_swept t 1 kinds.Table z.sessions made.0 (table.pass_of old.table) (table.pass_of new) own.alone.table c.make_round-in-Table.ensures.own.0 swept;
         interval = own.alone.interval;
       };
     }

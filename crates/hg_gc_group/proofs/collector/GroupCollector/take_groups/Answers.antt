@@ -1,4 +1,4 @@
-use Rattle.std.proofs.Common.{Some, refl, subst, arith}
+use Rattle.std.proofs.Common.{Some, subst, arith}
 use Rattle.hg_rule.specs.Seats.{sizes_of, pass_view}
 use Rattle.hg_group.specs.Oldest.{TakesSome}
 use Rattle.hg_gc_group.proofs.Groups.{groups_none, groups_all, batch_few, turn, turn_few, turn_ends, bound_low}

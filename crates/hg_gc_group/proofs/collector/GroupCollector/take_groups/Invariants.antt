@@ -1,4 +1,4 @@
-use Rattle.std.proofs.Common.{◌≡◌, ◌≤◌, ◌^◌, ◌-◌}
+use Rattle.std.proofs.Common.{◌≤◌, ◌^◌, ◌-◌}
 use Rattle.hg_base.specs.declared.report.Kind.TheVariants.{Group}
 use Rattle.hg_rule.specs.Views.{pass as own_pass}
 use Rattle.hg_rule.specs.Rounds.{seen_taken}

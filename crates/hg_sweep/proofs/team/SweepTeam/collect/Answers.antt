@@ -1,4 +1,4 @@
-use Rattle.std.proofs.Common.{rules, ◌≡◌, ℕ, ◌<◌, List, [], ◌++◌, length, take, drop, get_or, sym, ap, ◌∙◌, subst, arith}
+use Rattle.std.proofs.Common.{rules, ◌≡◌, ℕ, ◌<◌, List, [], ◌++◌, length, take, drop, sym, ap, ◌∙◌, subst, arith}
 use Rattle.std.specs.Prelude.{All}
 use Rattle.hg_rule.specs.declared.passes.CollectorPass.{CollectorPass}
 use Rattle.hg_rule.specs.Sharing.{MaySplit}
@@ -8,7 +8,6 @@ use Rattle.hg_store.specs.Stores.{store_buckets}
 use Rattle.hg_tracker.specs.Boards.{trackers_board_id, board_sizes}
 use Rattle.hg_visit.specs.Rounds.{report_in}
 use Rattle.hg_sweep.specs.declared.helper.Helper.{Helper}
-use Rattle.hg_sweep.specs.Helpers.{IsHelperOf, HasHelped}
 use Rattle.hg_sweep.specs.Crew.{IsWilling, Unites}
 use Rattle.hg_sweep.specs.Seats.{draws_id, drawn_by}
 use Rattle.hg_sweep.specs.Teams.{SweepsBeside}

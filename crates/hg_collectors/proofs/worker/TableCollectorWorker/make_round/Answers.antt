@@ -1,9 +1,9 @@
 use Rattle.std.proofs.Common.{refl}
 use Rattle.hg_base.specs.Reports.{sweep_of}
-use Rattle.hg_gc_group.specs.Collectors.{report_in}
-use Rattle.hg_collectors.proofs.collect.GroupCollectorCollect.round.Goals as goal
+use Rattle.hg_gc_table.specs.Collectors.{report_in}
+use Rattle.hg_collectors.proofs.worker.TableCollectorWorker.make_round.Goals as goal
 
 pub returns-clause-made : goal.returns-clause-made
 returns-clause-made g c =
     let report = report_in c.collect.new.self in
-    (sweep_of report, (report, (c.collect.ensures.collects, refl)))
+    (sweep_of report, (report, (c.collect.ensures.cuts, refl)))

@@ -23,8 +23,9 @@ use std::sync::Wait;
 use std::sync::ledger::{Blank, Ledger};
 use std::thread::Threads;
 
-/// A collector of some kind, on what an engine lends. A snapshot that is `long` commit numbers behind the mark is long in use.
-pub(crate) trait Collect {
+/// The group or the table collector, on what an engine lends. A snapshot that is `long` commit numbers behind the mark is long in use.
+/// The interval collector is none: its team starts threads, which no proof follows through a trait.
+pub(crate) trait Worker {
     ghost use Rattle.hg_base.specs.declared.report.Kind.{Kind};
     ghost use Rattle.hg_base.specs.declared.report.Sweep.{Sweep};
     ghost use Rattle.hg_rule.specs.declared.view.View.{View};
@@ -37,7 +38,7 @@ pub(crate) trait Collect {
     ghost is_of: { Lent → Self → Type 0 };
 
     /// One round, as it is told. The round is made where memory for what is told is refused, too.
-    fn round<R: Wait>(&mut self, rt: &R, lent: &Lent, long: u64) -> Result<Sweep, NoMemory>
+    fn make_round<R: Wait>(&mut self, rt: &R, lent: &Lent, long: u64) -> Result<Sweep, NoMemory>
         requires own { is_of lent.now self.old }
         ensures round { IfOk result (λ sweep.
             IsRoundBy kind (lent_sizes lent.now) long (view_of self.old) sweep
@@ -48,29 +49,29 @@ pub(crate) trait Collect {
         ensures own { is_of lent.now self.new };
 }
 
-impl Collect for GroupCollector {
+impl Worker for GroupCollector {
     ghost kind = { kinds.Group };
 
     ghost view_of = { group.view_of };
 
     ghost is_of = { λ l c. group.IsCollectorOf (lent_board_id l) (lent_sizes l) c };
 
-    fn round<R: Wait>(&mut self, rt: &R, lent: &Lent, _long: u64) -> Result<Sweep, NoMemory> {
+    fn make_round<R: Wait>(&mut self, rt: &R, lent: &Lent, _long: u64) -> Result<Sweep, NoMemory> {
         self.collect(rt, lent.trackers, lent.store, lent.groups);
-        self.report().told()
+        self.rounds.report().told()
     }
 }
 
-impl Collect for TableCollector {
+impl Worker for TableCollector {
     ghost kind = { kinds.Table };
 
     ghost view_of = { table.view_of };
 
     ghost is_of = { λ l c. table.IsCollectorOf (lent_board_id l) (lent_sizes l) c };
 
-    fn round<R: Wait>(&mut self, rt: &R, lent: &Lent, long: u64) -> Result<Sweep, NoMemory> {
+    fn make_round<R: Wait>(&mut self, rt: &R, lent: &Lent, long: u64) -> Result<Sweep, NoMemory> {
         self.collect(rt, lent.trackers, lent.store, long);
-        self.report().told()
+        self.rounds.report().told()
     }
 }
 
@@ -97,7 +98,7 @@ fn sweep_intervals<R: Wait, L: Ledger>(
 {
     let mut steps: Steps<L> = Steps::new(blank);
     collector.collect(rt, lent.trackers, lent.store, &mut steps);
-    collector.report().told()
+    collector.rounds.report().told()
 }
 
 // A round of a team, whose helpers ask the gate before each bucket.
@@ -117,7 +118,7 @@ fn sweep_beside<R: Threads + Wait + Sync, G: Gate + Sync>(
     ensures own { teams.IsTeamOf (lent_board_id lent.now) (lent_sizes lent.now) team.new }
 {
     team.collect(rt, lent.trackers, lent.store, gate);
-    team.report().told()
+    team.rounds.report().told()
 }
 
 /// A round of the interval collector, or of its team, and what its report says. If memory for that runs out, the round was made all the
