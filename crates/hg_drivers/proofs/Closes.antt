@@ -34,7 +34,7 @@ use Rattle.hg_session.specs.Engines.{engine_board_id, engine_sizes}
 use Rattle.hg_session.specs.Sessions.{IsOf, view_of, number_of, log_of, open_of, seen_by, cursor_of}
 use Rattle.hg_session.proofs.Cursors.{no_cursor, reads_at, some_cursor}
 use Rattle.hg_session.specs.Opened.{IsNewOf}
-use Rattle.hg_session.specs.declared.new_engine.Passes.{Passes}
+use Rattle.hg_session.specs.declared.engine.Passes.{Passes}
 use Rattle.hg_session.specs.Ended.{logs_in, visits_in}
 use Rattle.hg_session.specs.Passing.{visits_of}
 use Rattle.hg_session.specs.Settled.{RemovesForTables}

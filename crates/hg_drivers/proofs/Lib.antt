@@ -13,6 +13,7 @@ pub mod Caught
 pub mod Gathering
 pub mod Alone
 pub mod Meetings
+pub mod MeetingAll
 pub mod Sweeping
 -- A whole script.
 pub mod Cursors

@@ -12,7 +12,7 @@ use Rattle.hg_rule.specs.declared.view.Sizes.{Sizes}
 use Rattle.hg_rule.specs.Seats.{pass_view}
 use Rattle.hg_rule.specs.Views.{pass}
 use Rattle.hg_session.specs.declared.engine.Engine.{Engine}
-use Rattle.hg_session.specs.declared.new_engine.Passes.{Passes}
+use Rattle.hg_session.specs.declared.engine.Passes.{Passes}
 use Rattle.hg_session.specs.Engines.{engine_board_id, engine_sizes}
 
 -- their passes

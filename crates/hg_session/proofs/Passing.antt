@@ -16,7 +16,7 @@ use Rattle.hg_rule.specs.Reading.{chosen, seek, passes_in}
 use Rattle.hg_rule.specs.Seats.{pass_view}
 use Rattle.hg_rule.proofs.Growing.{among_later}
 use Rattle.hg_session.specs.declared.engine.Engine.{Engine}
-use Rattle.hg_session.specs.declared.new_engine.Passes.{Passes}
+use Rattle.hg_session.specs.declared.engine.Passes.{Passes}
 use Rattle.hg_session.specs.Ended.{visits_in, HasAllPasses}
 use Rattle.hg_session.specs.Finished.{HasNoSession}
 use Rattle.hg_session.specs.Passing.{AreAlone, visits_of}

@@ -7,7 +7,7 @@ use Rattle.hg_rule.specs.Keys.{first_share}
 use Rattle.hg_rule.specs.Views.{pass}
 use Rattle.hg_rule.specs.Seats.{BoardId, pass_view, IsPassOf}
 use Rattle.hg_session.specs.declared.engine.Engine.{Engine}
-use Rattle.hg_session.specs.declared.new_engine.Passes.{Passes}
+use Rattle.hg_session.specs.declared.engine.Passes.{Passes}
 use Rattle.hg_session.specs.Engines.{engine_board_id}
 
 -- pass p of a board, which has its own part alone, with all of its share

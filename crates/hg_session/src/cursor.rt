@@ -18,8 +18,8 @@ ghost use Rattle.hg_session.specs.Replies.{Answers, AnswersFrom, inside};
 ghost use Rattle.hg_session.specs.Sessions.{IsOf, cursor_of, view_of, open_of, left_of, retries_of};
 
 use crate::engine::Engine;
-use crate::get::only;
 use crate::session::Session;
+use crate::statements::only;
 use hg_base::{NoMemory, RowList, TableId};
 use hg_cursor::{Cursor, Tables};
 use std::sync::Wait;

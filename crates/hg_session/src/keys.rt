@@ -68,44 +68,47 @@ fn next_there(held: &Held<'_>, table: TableId, from: u64, high: u64) -> Option<u
     }
 }
 
-impl Engine {
-    // The first key to read of the bucket held, in a range. Where no other key of the bucket is left there, nothing needs to
-    // look it up.
-    pub(crate) fn next_within(&self, held: &Held<'_>, bucket: u32, range: Range) -> Option<u64>
-        requires bucket { bucket < (engine_sizes self.now).buckets }
-        ensures within { IsWithin range.low range.high result }
-        ensures leads { (v : View) → Holds v held.now →
-            AreOwn (engine_sizes self.now).buckets bucket (bucket_in v).content →
-            LeadsOn (HasVersion (bucket_in v).content range.table) range.low range.high result }
-    {
-        let count = self.store.buckets();
-        let home = self.bucket_of(range.first());
-        let first = first_key(bucket, home, count, range)?;
-        if range.high - first < u64::from(count) {
-            Some(first)
-        } else {
-            next_there(held, range.table, first, range.high)
-        }
+// The first key to read of the bucket held, in a range. Where no other key of the bucket is left there, nothing needs to
+// look it up.
+pub(crate) fn next_within(
+    engine: &Engine,
+    held: &Held<'_>,
+    bucket: u32,
+    range: Range,
+) -> Option<u64>
+    requires bucket { bucket < (engine_sizes engine.now).buckets }
+    ensures within { IsWithin range.low range.high result }
+    ensures leads { (v : View) → Holds v held.now →
+        AreOwn (engine_sizes engine.now).buckets bucket (bucket_in v).content →
+        LeadsOn (HasVersion (bucket_in v).content range.table) range.low range.high result }
+{
+    let count = engine.store.buckets();
+    let home = engine.bucket_of(range.first());
+    let first = first_key(bucket, home, count, range)?;
+    if range.high - first < u64::from(count) {
+        Some(first)
+    } else {
+        next_there(held, range.table, first, range.high)
     }
+}
 
-    // The next one after a key.
-    pub(crate) fn next_after(
-        &self,
-        held: &Held<'_>,
-        bucket: u32,
-        range: Range,
-        key: u64,
-    ) -> Option<u64>
-        requires bucket { bucket < (engine_sizes self.now).buckets }
-        ensures within { IsWithin (key + 1) range.high result }
-        ensures leads { (v : View) → Holds v held.now →
-            AreOwn (engine_sizes self.now).buckets bucket (bucket_in v).content →
-            LeadsOn (HasVersion (bucket_in v).content range.table) (key + 1) range.high result }
-    {
-        if key < range.high {
-            self.next_within(held, bucket, range.over(key))
-        } else {
-            None
-        }
+// The next one after a key.
+pub(crate) fn next_after(
+    engine: &Engine,
+    held: &Held<'_>,
+    bucket: u32,
+    range: Range,
+    key: u64,
+) -> Option<u64>
+    requires bucket { bucket < (engine_sizes engine.now).buckets }
+    ensures within { IsWithin (key + 1) range.high result }
+    ensures leads { (v : View) → Holds v held.now →
+        AreOwn (engine_sizes engine.now).buckets bucket (bucket_in v).content →
+        LeadsOn (HasVersion (bucket_in v).content range.table) (key + 1) range.high result }
+{
+    if key < range.high {
+        next_within(engine, held, bucket, range.over(key))
+    } else {
+        None
     }
 }

@@ -1,9 +1,7 @@
-//! How a transaction is taken back.
+//! How an open transaction is taken back.
 
 ghost use Rattle.std.specs.Prelude.{◌≡◌, ◌∷◌, [], List, map, false, None, IsSome, IsTrue};
 ghost use Rattle.hg_base.specs.declared.rid.Rid.{Rid};
-ghost use Rattle.hg_base.specs.declared.statement.Statement.TheVariants as say;
-ghost use Rattle.hg_base.specs.declared.line.Answer.TheVariants.{Undone};
 ghost use Rattle.hg_base.specs.History.{NoneTwice, is_among};
 ghost use Rattle.hg_core.specs.declared.log.LogEntry.TheVariants.{Undid, Over};
 ghost use Rattle.hg_core.specs.Logs.{own_writes, open_in};
@@ -12,9 +10,8 @@ ghost use Rattle.hg_rule.specs.Views.{session, HasOnlySession};
 ghost use Rattle.hg_rule.specs.Holding.{writer as writer_of};
 ghost use Rattle.hg_rule.specs.Seats.{session_view, IsSessionOf};
 ghost use Rattle.hg_session.specs.Engines.{engine_board_id, engine_sizes};
-ghost use Rattle.hg_session.specs.Sessions.{IsIn, IsOf, view_of, log_of, open_of, cursor_of, retries_of, opened_of};
-ghost use Rattle.hg_session.specs.Frames.{KeepsCounts, SpendsNone};
-ghost use Rattle.hg_session.specs.Replies.{Answers, inside};
+ghost use Rattle.hg_session.specs.Sessions.{IsIn, view_of, log_of, opened_of};
+ghost use Rattle.hg_session.specs.Frames.{KeepsCounts};
 ghost use Rattle.hg_session.specs.Gains.{Gains, HasUndone};
 
 use crate::engine::Engine;
@@ -65,36 +62,19 @@ fn undo_each<R: Wait>(
     }
 }
 
-impl Session {
-    // Takes each write of the open transaction back, the last one first, and ends it.
-    pub(crate) fn undo_open<R: Wait>(&mut self, rt: &R, engine: &Engine)
-        requires own { IsIn engine.now 0 0 self.old }
-        requires opened { IsSome (opened_of self.old) }
-        ensures gains { (undone : List Rid) ×
-            (UndoesAll (own_writes (log_of self.old)) undone ×
-            Gains (view_of self.old) (Over ∷ map Undid undone) (view_of self.new)) }
-        ensures over { opened_of self.new ≡ None }
-        ensures kept { KeepsCounts self.old self.new }
-        ensures own { IsIn engine.now 0 0 self.new }
-    {
-        let by = self.pass.writer();
-        undo_each(rt, engine, &mut self.pass, &mut self.written, by);
-        engine.trackers.end(&mut self.pass);
-        self.opened = None;
-    }
-
-    /// Takes every write of the open transaction back, and ends it. No memory is taken.
-    pub fn rollback<R: Wait>(&mut self, rt: &R, engine: &Engine)
-        requires own { IsOf engine.now self.old }
-        requires opened { IsSome (open_of self.old) }
-        requires cursor { cursor_of self.old ≡ None }
-        ensures answers { Answers (engine_sizes engine.now) (view_of self.old) say.Rollback
-            (inside Undone) (view_of self.new) }
-        ensures over { open_of self.new ≡ None }
-        ensures retries { retries_of self.new ≡ retries_of self.old }
-        // no cursor is open, and no statement is counted
-        ensures stays { SpendsNone engine.now self.old self.new }
-    {
-        self.undo_open(rt, engine);
-    }
+// Takes each write of the open transaction back, the last one first, and ends it.
+pub(crate) fn undo_open<R: Wait>(rt: &R, engine: &Engine, session: &mut Session)
+    requires own { IsIn engine.now 0 0 session.old }
+    requires opened { IsSome (opened_of session.old) }
+    ensures gains { (undone : List Rid) ×
+        (UndoesAll (own_writes (log_of session.old)) undone ×
+        Gains (view_of session.old) (Over ∷ map Undid undone) (view_of session.new)) }
+    ensures over { opened_of session.new ≡ None }
+    ensures kept { KeepsCounts session.old session.new }
+    ensures own { IsIn engine.now 0 0 session.new }
+{
+    let by = session.pass.writer();
+    undo_each(rt, engine, &mut session.pass, &mut session.written, by);
+    engine.trackers.end(&mut session.pass);
+    session.opened = None;
 }

@@ -16,10 +16,8 @@ ghost use Rattle.hg_rule.specs.Seats.{board_id, sizes_of, pass_view, IsPassOf, I
 ghost use Rattle.hg_store.specs.Stores.{store_board_id, store_buckets};
 ghost use Rattle.hg_headline.specs.Totalled.{plus};
 ghost use Rattle.hg_session.specs.Ended.{committed, IsEnded, KeepsLogs, KeepsRemoved};
-ghost use Rattle.hg_session.specs.Engines.{engine_board_id, engine_sizes};
-ghost use Rattle.hg_session.specs.Visited.{Counts, HasVisited, AreBucketsOf, AreTotals, TellOf};
+ghost use Rattle.hg_session.specs.Visited.{Counts, HasVisited, AreBucketsOf, TellOf};
 
-use crate::engine::Engine;
 use hg_base::Totals;
 use hg_rule::{Board, CollectorPass, CommitSeat};
 use hg_store::Store;
@@ -132,26 +130,4 @@ pub(crate) fn totals_with<R: Wait>(
     let totals = counted(rt, board, store, pass);
     let seat = board.split_commit(pass);
     (totals, seat)
-}
-
-impl Engine {
-    /// The sums of all buckets' counts. They are those of some history that contains each group of the logs once (`totals`). All
-    /// sessions and all other passes were joined to the pass. Each bucket is taken once, in order, and nothing is removed
-    /// from it (`visited`). The call waits for the commit lock and for each bucket's lock, and allocates nothing.
-    pub fn totals<R: Wait>(&self, rt: &R, pass: &mut CollectorPass) -> Totals
-        requires own { IsPassOf (engine_board_id self.now) pass.old }
-        requires ended { IsEnded (engine_sizes self.now) (pass_view pass.old) }
-        ensures totals { AreTotals (engine_sizes self.now) (pass_view pass.old) result }
-        ensures visited { HasVisited (pass_view pass.old) (engine_sizes self.now).buckets
-            (pass_view pass.new) }
-        ensures kept { KeepsLogs (pass_view pass.old) (pass_view pass.new) }
-        ensures removed { KeepsRemoved (pass_view pass.old) (pass_view pass.new) }
-        ensures ended { IsEnded (engine_sizes self.now) (pass_view pass.new) }
-        ensures own { IsPassOf (engine_board_id self.now) pass.new }
-    {
-        let (held, seat) = self.groups.take(rt);
-        let (totals, seat) = totals_with(rt, self.board(), &self.store, seat, pass);
-        held.give(seat);
-        totals
-    }
 }

@@ -1,7 +1,7 @@
 use Rattle.std.proofs.Common.{◌∙◌, ◌<◌, ◌≤◌, ◌+◌, length, refl, arith, rules}
 use Rattle.hg_collectors.specs.Collecting.{view_in}
 use Rattle.hg_collectors.proofs.Meetings.{met_none, met_more}
-use Rattle.hg_drivers.proofs.Sweeping.{partly_none, partly_own, partly_next, partly_all}
+use Rattle.hg_drivers.proofs.MeetingAll.{partly_none, partly_own, partly_next, partly_all}
 use Rattle.hg_drivers.proofs.gc.meet_all.Goals as goal
 
 pub loop-k-init : goal.loop-k-init

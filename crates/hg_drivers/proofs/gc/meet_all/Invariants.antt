@@ -3,7 +3,7 @@ use Rattle.hg_base.specs.declared.report.Kind.{Kind}
 use Rattle.hg_drivers.specs.Collecting.{AreCollectors}
 use Rattle.hg_collectors.specs.Collecting.{removed_of, view_in}
 use Rattle.hg_collectors.specs.Swept.{HasMetSessions}
-use Rattle.hg_drivers.proofs.Sweeping.{HavePartlyMet}
+use Rattle.hg_drivers.proofs.MeetingAll.{HavePartlyMet}
 use Rattle.hg_drivers.proofs.gc.meet_all.Given as goal
 
 abbrev pub invariant-loop-k : goal.invariant-loop-k

@@ -10,7 +10,8 @@ use Rattle.hg_drivers.specs.Listed.{none_left}
 use Rattle.hg_collectors.specs.Swept.{told_of, swept_by}
 use Rattle.hg_collectors.proofs.Driving.{made_one}
 use Rattle.hg_drivers.proofs.Going.{are_placed}
-use Rattle.hg_drivers.proofs.Sweeping.{HasOneMet, HaveAllMet, ready_one, swept_reply, swept_ready}
+use Rattle.hg_drivers.proofs.MeetingAll.{HasOneMet, HaveAllMet, ready_one}
+use Rattle.hg_drivers.proofs.Sweeping.{swept_reply, swept_ready}
 use Rattle.hg_drivers.proofs.gc.sweep.Goals as goal
 
 pub meet_at-requires-clause-within : goal.meet_at-requires-clause-within

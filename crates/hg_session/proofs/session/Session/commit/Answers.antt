@@ -13,7 +13,7 @@ use Rattle.hg_session.proofs.session.Session.commit.Goals as goal
 pub returns-in-Ok-clause-answers : goal.returns-in-Ok-clause-answers
 returns-in-Ok-clause-answers g c =
     let v = view_of c.args.self.now in
-    let w = view_of c.commit_open.new.self in
+    let w = view_of c.commit_open.new.session in
     let r = c.in-Ok.receipt in
     let opened : current (session v).log ≡ Some c.in-Some.snapshot = search rules in
     let gains : Gains v (close (receipt_number r)) w = search rules in

@@ -17,4 +17,4 @@ returns-clause-answers g c =
     let v = view_of c.args.self.now in
     let one = open_one (current (session v).log) c.requires.opened in
     let r = c.undo_open.ensures.gains in
-    rollback_inside (engine_sizes c.args.engine.now) v (view_of c.undo_open.new.self) one.0 r.0 one.1 r.1.0 r.1.1
+    rollback_inside (engine_sizes c.args.engine.now) v (view_of c.undo_open.new.session) one.0 r.0 one.1 r.1.0 r.1.1

@@ -22,7 +22,7 @@ returns-in-Err-clause-refused g c =
     let z = engine_sizes c.args.engine.now in
     let v = view_of c.args.self.now in
     let m = view_of c.write_row.new.self in
-    let w = view_of c.undo_open.new.self in
+    let w = view_of c.undo_open.new.session in
     let r = c.undo_open.ensures.gains in
     let wrote = subst (λ x. Gains v (entries_of c.args.rid c.args.image x) m) c.in-Err.is c.write_row.ensures.gains in
     let bare = refused_bare v m c.args.rid c.args.image c.in-Err.refusal wrote
@@ -37,7 +37,7 @@ pub returns-in-Ok-clause-stored : goal.returns-in-Ok-clause-stored
 returns-in-Ok-clause-stored g c =
     let v = view_of c.args.self.now in
     let m = view_of c.write_row.new.self in
-    let w = view_of c.commit_open.new.self in
+    let w = view_of c.commit_open.new.session in
     let r = c.in-Ok.receipt in
     let is : c.write_row.result ≡ Ok tt = search rules in
     let wrote = subst (λ x. Gains v (entries_of c.args.rid c.args.image x) m) is c.write_row.ensures.gains in
@@ -53,8 +53,8 @@ pub returns-in-Err-commit_open-clause-refused : goal.returns-in-Err-commit_open-
 returns-in-Err-commit_open-clause-refused g c =
     let v = view_of c.args.self.now in
     let m = view_of c.write_row.new.self in
-    let n = view_of c.commit_open.new.self in
-    let w = view_of c.undo_open-in-Err-commit_open.new.self in
+    let n = view_of c.commit_open.new.session in
+    let w = view_of c.undo_open-in-Err-commit_open.new.session in
     let r = c.undo_open-in-Err-commit_open.ensures.gains in
     let stored = Wrote c.args.rid c.args.image ∷ [] in
     let is : c.write_row.result ≡ Ok tt = search rules in
@@ -71,7 +71,7 @@ pub returns-in-Err-clause-first : goal.returns-in-Err-clause-first
 returns-in-Err-clause-first g c =
     let v = view_of c.args.self.now in
     let m = view_of c.write_row.new.self in
-    let w = view_of c.undo_open.new.self in
+    let w = view_of c.undo_open.new.session in
     let at = c.args.snapshot.at in
     let first = subst (λ x. ShowsWrite v c.args.rid at x m) c.in-Err.is c.write_row.ensures.first in
     subst (λ e. ShowsPut {T = Option ℕ} v c.args.rid at (Err e) w) (sym c.refused_at.ensures)
@@ -81,7 +81,7 @@ pub returns-in-Ok-clause-first : goal.returns-in-Ok-clause-first
 returns-in-Ok-clause-first g c =
     let v = view_of c.args.self.now in
     let m = view_of c.write_row.new.self in
-    let w = view_of c.commit_open.new.self in
+    let w = view_of c.commit_open.new.session in
     let r = c.in-Ok.receipt in
     let is : c.write_row.result ≡ Ok tt = search rules in
     let closes : Gains m (close (receipt_number r)) w = subst (λ x. IfOk x (λ receipt. Gains m (close (receipt_number receipt)) w)) c.in-Ok.is c.commit_open.ensures.gains in

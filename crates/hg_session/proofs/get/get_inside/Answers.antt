@@ -1,0 +1,40 @@
+use Rattle.std.proofs.Common.{◌≡◌, [], ◌∷◌, Some, refl, sym, subst, rules}
+use Rattle.hg_base.specs.declared.statement.Statement.TheVariants as say
+use Rattle.hg_core.specs.Reading.{saw}
+use Rattle.hg_core.specs.Logs.{current}
+use Rattle.hg_rule.specs.Views.{session}
+use Rattle.hg_session.specs.Engines.{engine_sizes}
+use Rattle.hg_session.specs.Sessions.{view_of}
+use Rattle.hg_session.specs.Gains.{Gains, rows_at, outside_entries}
+use Rattle.hg_session.proofs.Replying.{get_inside, undeclared_inside}
+use Rattle.hg_session.proofs.Settling.{gains_on}
+use Rattle.hg_session.proofs.get.get_inside.Goals as goal
+
+pub returns-then-is_outside-clause-reply : goal.returns-then-is_outside-clause-reply
+returns-then-is_outside-clause-reply g c =
+    let z = engine_sizes c.args.engine.now in
+    let v = view_of c.args.session.now in
+    let opened : current (session v).log ≡ Some c.args.snapshot = search rules in
+    let gains = subst (λ b. Gains v (outside_entries b c.args.rid.table) (view_of c.is_outside.new.self)) c.if-is_outside.true c.is_outside.ensures.gains in
+    undeclared_inside z v (view_of c.is_outside.new.self) c.args.snapshot (say.Get c.args.rid) c.args.rid.table opened refl refl tt refl gains
+
+pub returns-in_err-row-clause-refused : goal.returns-in_err-row-clause-refused
+returns-in_err-row-clause-refused g c =
+    let v = view_of c.args.session.now in
+    let none = subst (λ b. Gains v (outside_entries b c.args.rid.table) (view_of c.is_outside.new.self)) c.if-is_outside.false c.is_outside.ensures.gains in
+    λ same. record {
+      looks = saw (engine_sizes c.args.engine.now).buckets c.args.rid (rows_at c.args.rid.key c.see_row.ensures.gains.0) ∷ [];
+      there = ((refl, (refl, refl)), tt);
+      gains = gains_on v (view_of c.is_outside.new.self) (view_of c.see_row.new.session) [] _ none c.see_row.ensures.gains.1.0 (λ l. refl);
+    }
+
+pub returns-clause-reply : goal.returns-clause-reply
+returns-clause-reply g c =
+    let z = engine_sizes c.args.engine.now in
+    let v = view_of c.args.session.now in
+    let w = view_of c.see_row.new.session in
+    let opened : current (session v).log ≡ Some c.args.snapshot = search rules in
+    let none = subst (λ b. Gains v (outside_entries b c.args.rid.table) (view_of c.is_outside.new.self)) c.if-is_outside.false c.is_outside.ensures.gains in
+    let all = gains_on v (view_of c.is_outside.new.self) w [] _ none c.see_row.ensures.gains.1.0 (λ l. refl) in
+    let row : c.in_ok-row.row ≡ c.see_row.ensures.gains.0 = search rules in
+    get_inside z v w c.args.snapshot c.args.rid c.in_ok-row.row opened (subst (λ r. Gains v (saw z.buckets c.args.rid (rows_at c.args.rid.key r) ∷ []) w) (sym row) all)

@@ -1,0 +1,51 @@
+use Rattle.std.proofs.Common.{◌≡◌, [], ◌++◌, Some, refl, sym, ap, subst, rules, append-nil}
+use Rattle.std.specs.Prelude.{IsTrue}
+use Rattle.hg_base.specs.declared.statement.Statement.TheVariants as say
+use Rattle.hg_base.specs.Transcript.{has}
+use Rattle.hg_core.specs.Reading.{saws}
+use Rattle.hg_core.specs.Logs.{current}
+use Rattle.hg_rule.specs.Views.{session}
+use Rattle.hg_session.specs.Engines.{engine_sizes}
+use Rattle.hg_session.specs.Sessions.{view_of}
+use Rattle.hg_session.specs.Gains.{Gains, outside_entries}
+use Rattle.hg_session.specs.Scans.{Scans, ScansAll, ScansSome}
+use Rattle.hg_session.proofs.Replying.{undeclared_inside}
+use Rattle.hg_session.proofs.Ranged.{scan_inside, all_behind}
+use Rattle.hg_session.proofs.Refusing.{saws_there}
+use Rattle.hg_session.proofs.Settling.{gains_on}
+use Rattle.hg_session.proofs.scan.scan_inside.Goals as goal
+
+pub returns-then-is_outside-clause-reply : goal.returns-then-is_outside-clause-reply
+returns-then-is_outside-clause-reply g c =
+    let z = engine_sizes c.args.engine.now in
+    let v = view_of c.args.session.now in
+    let opened : current (session v).log ≡ Some c.args.snapshot = search rules in
+    let gains = subst (λ b. Gains v (outside_entries b c.args.range.table) (view_of c.is_outside.new.self)) c.if-is_outside.true c.is_outside.ensures.gains in
+    undeclared_inside z v (view_of c.is_outside.new.self) c.args.snapshot (say.Scan c.args.range.table c.args.range.low c.args.range.high) c.args.range.table opened refl refl tt refl gains
+
+pub returns-in_err-rows-clause-refused : goal.returns-in_err-rows-clause-refused
+returns-in_err-rows-clause-refused g c =
+    let z = engine_sizes c.args.engine.now in
+    let v = view_of c.args.session.now in
+    let m = view_of c.is_outside.new.self in
+    let w = view_of c.scan_rows.new.session in
+    let none = subst (λ b. Gains v (outside_entries b c.args.range.table) m) c.if-is_outside.false c.is_outside.ensures.gains in
+    let k : ScansSome z.buckets m c.args.range.table c.args.range.low c.args.range.high w = subst (λ r. Scans z.buckets m c.args.range.table c.args.range.low c.args.range.high r w)
+    c.in_err-rows.was c.scan_rows.ensures.gains in
+    let es = saws z.buckets c.args.range.table c.args.range.low c.args.range.high k.part k.seen in
+    let all = gains_on v m w [] es none k.gains (λ l. ap (λ x. x ++ l) (sym (append-nil es))) in
+    λ same. record { looks = es; there = saws_there z.buckets c.args.range.table c.args.range.low c.args.range.high k.part k.seen; gains = subst (λ x. Gains v x w) (append-nil es) all }
+
+pub returns-clause-reply : goal.returns-clause-reply
+returns-clause-reply g c =
+    let z = engine_sizes c.args.engine.now in
+    let v = view_of c.args.session.now in
+    let m = view_of c.is_outside.new.self in
+    let w = view_of c.scan_rows.new.session in
+    let opened : current (session v).log ≡ Some c.args.snapshot = search rules in
+    let none = subst (λ b. Gains v (outside_entries b c.args.range.table) m) c.if-is_outside.false c.is_outside.ensures.gains in
+    let declared : IsTrue (has c.args.snapshot.scope c.args.range.table) = search rules in
+    let k : ScansAll z.buckets m c.args.range.table c.args.range.low c.args.range.high c.in_ok-rows.rows w = subst
+    (λ r. Scans z.buckets m c.args.range.table c.args.range.low c.args.range.high r w) c.in_ok-rows.was c.scan_rows.ensures.gains in
+    scan_inside z v w c.args.snapshot c.args.range.table c.args.range.low c.args.range.high c.in_ok-rows.rows opened declared
+    (all_behind z v m w c.args.range.table c.args.range.low c.args.range.high c.in_ok-rows.rows none k)
