@@ -58,7 +58,7 @@ impl Worker for GroupCollector {
 
     fn make_round<R: Wait>(&mut self, rt: &R, lent: &Lent, _long: u64) -> Result<Sweep, NoMemory> {
         self.collect(rt, lent.trackers, lent.store, lent.groups);
-        self.rounds.report().told()
+        self.rounds.report.told()
     }
 }
 
@@ -71,7 +71,7 @@ impl Worker for TableCollector {
 
     fn make_round<R: Wait>(&mut self, rt: &R, lent: &Lent, long: u64) -> Result<Sweep, NoMemory> {
         self.collect(rt, lent.trackers, lent.store, long);
-        self.rounds.report().told()
+        self.rounds.report.told()
     }
 }
 
@@ -98,7 +98,7 @@ fn sweep_intervals<R: Wait, L: Ledger>(
 {
     let mut steps: Steps<L> = Steps::new(blank);
     collector.collect(rt, lent.trackers, lent.store, &mut steps);
-    collector.rounds.report().told()
+    collector.rounds.report.told()
 }
 
 // A round of a team, whose helpers ask the gate before each bucket.
@@ -118,7 +118,7 @@ fn sweep_beside<R: Threads + Wait + Sync, G: Gate + Sync>(
     ensures own { teams.IsTeamOf (lent_board_id lent.now) (lent_sizes lent.now) team.new }
 {
     team.collect(rt, lent.trackers, lent.store, gate);
-    team.rounds.report().told()
+    team.rounds.report.told()
 }
 
 /// A round of the interval collector, or of its team, and what its report says. If memory for that runs out, the round was made all the

@@ -8,7 +8,7 @@ ghost use Rattle.hg_collectors.specs.Rounding.{HavePlaces};
 ghost use Rattle.hg_collectors.specs.Collecting.{HaveMadeAll};
 ghost use Rattle.hg_drivers.specs.Working.{IsHired, HasEnded};
 
-use crate::loan::lent_by;
+use crate::gc::lent_by;
 use crate::work::Worker;
 use hg_base::Gate;
 use hg_collectors::{Collectors, Plan, RoundLists, run_collectors};

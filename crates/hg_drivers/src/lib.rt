@@ -17,8 +17,6 @@ mod dump;
 mod end;
 mod engine;
 mod gc;
-mod loan;
-mod pass;
 mod reader;
 mod replay;
 mod reply;

@@ -8,7 +8,7 @@ use Rattle.hg_session.specs.Engines.{engine_board_id, engine_sizes}
 use Rattle.hg_session.specs.Sessions.{view_of, number_of}
 use Rattle.hg_collectors.specs.Workers.{IsCollectorOf}
 use Rattle.hg_collectors.proofs.Teams.{team_met}
-use Rattle.hg_drivers.proofs.pass.meet_worker.Goals as goal
+use Rattle.hg_drivers.proofs.gc.meet_worker.Goals as goal
 
 pub returns-in-One-clause-agrees : goal.returns-in-One-clause-agrees
 returns-in-One-clause-agrees c = rw c.in-One.is (subst (λ (p : CollectorPass). AgreesWith (pass_view p) (number_of c.args.session.now) (session (view_of c.args.session.now)))

@@ -1,7 +1,7 @@
 use Rattle.hg_collectors.specs.Workers.{view_of}
 use Rattle.hg_drivers.proofs.Meetings.{met_pass, met_sessions, heard_session}
 use Rattle.hg_collectors.proofs.Meetings.{met_none, met_kinds}
-use Rattle.hg_drivers.proofs.pass.meet_interval.Goals as goal
+use Rattle.hg_drivers.proofs.gc.meet_interval.Goals as goal
 
 pub returns-clause-met : goal.returns-clause-met
 returns-clause-met c = met_pass 2 (view_of c.args.collectors.now.interval)

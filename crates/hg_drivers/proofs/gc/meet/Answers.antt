@@ -2,7 +2,7 @@ use Rattle.std.proofs.Common.{sym, subst}
 use Rattle.hg_session.specs.Finished.{AreAmong}
 use Rattle.hg_session.specs.Sessions.{seen_by}
 use Rattle.hg_collectors.specs.Collecting.{view_in}
-use Rattle.hg_drivers.proofs.pass.meet.Goals as goal
+use Rattle.hg_drivers.proofs.gc.meet.Goals as goal
 
 pub returns-in-Group-clause-heard : goal.returns-in-Group-clause-heard
 returns-in-Group-clause-heard c = subst (λ kind. AreAmong (seen_by c.args.session.now) (view_in kind c.meet_group.new.collectors).sights) (sym c.in-Group.is) c.meet_group.ensures.heard

@@ -7,7 +7,7 @@ use Rattle.hg_rule.specs.Views.{session}
 use Rattle.hg_session.specs.Sessions.{view_of, number_of}
 use Rattle.hg_drivers.proofs.Meetings.{met_pass, met_sessions, heard_session}
 use Rattle.hg_collectors.proofs.Meetings.{met_none, met_kinds}
-use Rattle.hg_drivers.proofs.pass.meet_table.Goals as goal
+use Rattle.hg_drivers.proofs.gc.meet_table.Goals as goal
 
 pub returns-clause-met : goal.returns-clause-met
 returns-clause-met c =
