@@ -21,7 +21,6 @@ mod lent;
 mod pace;
 mod round_list;
 mod round_lists;
-mod worker;
 
 pub use collectors::{Collectors, Room};
 pub use interval::IntervalWorker;

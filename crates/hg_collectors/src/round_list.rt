@@ -8,9 +8,9 @@ ghost use Rattle.hg_collectors.specs.Workers as interval;
 ghost use Rattle.hg_collectors.specs.Lent.{lent_board_id, lent_sizes};
 ghost use Rattle.hg_collectors.specs.Rounding.{HasPlaces, HasMadeAll};
 
+use crate::collectors::{Worker, sweep_round};
 use crate::interval::IntervalWorker;
 use crate::lent::Lent;
-use crate::worker::{Worker, sweep_round};
 use hg_base::{Gate, NoMemory, Sweep};
 use std::alloc::Global;
 use std::sync::Wait;

@@ -6,7 +6,7 @@ use Rattle.hg_sweep.specs.Teams.{report_in, view_of}
 use Rattle.hg_collectors.specs.Lent.{lent_sizes}
 use Rattle.hg_collectors.specs.Rounding.{IsRoundBy}
 use Rattle.hg_collectors.proofs.Among.{if_ok}
-use Rattle.hg_collectors.proofs.worker.sweep_beside.Goals as goal
+use Rattle.hg_collectors.proofs.collectors.sweep_beside.Goals as goal
 
 pub returns-clause-round : goal.returns-clause-round
 returns-clause-round g c =
