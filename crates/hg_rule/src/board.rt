@@ -1,5 +1,8 @@
-//! The board itself: its words under the rule, a new board with all its seats, what a look at the mark tells of the state, and how a
-//! bucket's part of the state or the committer's comes to a pass and leaves.
+//! The board itself: its words under the rule, and a new board with all its seats.
+//!
+//! The protocol here is that of the parts under locks. A bucket's part of the state, or the committer's, comes to a pass (`join_bucket`,
+//! `join_commit`) and leaves it again (`split_bucket`, `split_commit`). Each join looks at the mark: then all is known that the rule says
+//! of the view (`look_at`, `know_all`).
 
 ghost use Rattle.std.specs.Prelude.{◌≡◌, ℕ, ◌<◌, ◌^◌};
 ghost use Rattle.atomic_table.specs.Table.{State};

@@ -1,6 +1,6 @@
 -- By the logs that a look heard, what it answers a write is the first cause.
-use Rattle.std.proofs.Common.{◌≡◌, ◌⊎◌, inl, inr, ℕ, List, [], ◌∷◌, false, Option, None, Some, refl, sym, ap, ◌∙◌, subst, arith}
-use Rattle.std.specs.Prelude.{IfSome, IsSome, IsTrue, Result, Ok, Err, option_and_then}
+use Rattle.std.proofs.Common.{◌≡◌, inl, inr, ℕ, List, [], ◌∷◌, Option, None, Some, sym, ap, ◌∙◌, subst}
+use Rattle.std.specs.Prelude.{IfSome, IsSome, IsTrue, Result, Ok, Err}
 use Rattle.hg_base.specs.declared.rid.Rid.{Rid}
 use Rattle.hg_base.specs.declared.writer.Writer.{Writer}
 use Rattle.hg_base.specs.declared.line.Answer.{Answer}
@@ -18,8 +18,6 @@ use Rattle.hg_core.specs.Phases.{declared_in, snapshot_in}
 use Rattle.hg_core.specs.Replies.{refusal}
 use Rattle.hg_core.specs.Shown.{HasOpen, IsFirstAt, IsNewestIn, NoOtherHas}
 use Rattle.hg_core.specs.State.{CoreState}
-use Rattle.hg_core.specs.Versions.{newest_at, unpublished}
-use Rattle.hg_core.specs.Replies.{refused_by, refused_over}
 use Rattle.hg_core.proofs.Firsts.{first_newer, first_stored}
 use Rattle.hg_bucket.specs.declared.refusal.WriteRefusal.{WriteRefusal}
 use Rattle.hg_bucket.specs.declared.refusal.WriteRefusal.TheVariants.{Open, Newer, NoMemory}
@@ -30,12 +28,10 @@ use Rattle.hg_rule.specs.declared.view.Sizes.{Sizes}
 use Rattle.hg_rule.specs.declared.view.View.{View}
 use Rattle.hg_rule.specs.Facts.{EndsWith, IsAmong, Known, Shown}
 use Rattle.hg_rule.specs.Holding.{held, snapshot, tables, writer}
-use Rattle.hg_rule.specs.Steps.{loaded_in}
 use Rattle.hg_rule.specs.Views.{number, session}
-use Rattle.hg_rule.specs.Writes.{TrulyLooks, log_asked, with_log}
+use Rattle.hg_rule.specs.Writes.{TrulyLooks, with_log}
 use Rattle.hg_rule.proofs.Lists.{among_left}
 use Rattle.hg_store.specs.declared.held.Held.{Held}
-use Rattle.hg_store.specs.Kept.{refusal_of}
 use Rattle.hg_store.specs.Stores.{Holds, held_number}
 use Rattle.hg_store.specs.Writing.{GoOn, ShowsAnswer, refused_at, IsCause}
 use Rattle.hg_store.proofs.Deciding.{begans_same, live_is}
