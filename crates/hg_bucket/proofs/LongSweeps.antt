@@ -1,5 +1,5 @@
 -- What a sweep makes of a record whose place its table's list has at an index, as callers see it, and what it costs.
-use Rattle.std.proofs.Common.{◌≡◌, ℕ, ◌+◌, ◌<◌, ◌≤◌, List, length, slice_get, Bool, true, false, Option, Some, None, Path, set, not, sym, ap, ◌∙◌, subst}
+use Rattle.std.proofs.Common.{◌≡◌, ℕ, ◌+◌, ◌<◌, ◌≤◌, List, length, slice_get, Bool, true, false, Option, Some, None, set, not, sym, ap, ◌∙◌, subst}
 use Rattle.std.specs.Prelude.{option_map, option_to_list}
 use Rattle.std.specs.Bool.{OnFalse}
 use Rattle.hg_base.specs.declared.rid.Rid.{Rid}
@@ -30,12 +30,12 @@ pub found_at : (h : Recorded) (es : List (Rid × ℕ)) (cs : Places) (places : L
     option_map (λ e. e.place) (slice_get (list_of ls r.table.0) at) ≡ Some p → IsFound es cs r p
 found_at h es cs places ls r p at listed seen stands place = listed_at es cs ls r p at listed (ap (λ (x : Recorded). slice_get (keys_in x.long r.table) at) seen ∙ stands) place
 
--- what a chain's sweep says of its list of versions, where `base` is the number of the place's oldest image
-pub record ChainSwept (horizon : ℕ) (xs : List ℕ) (cs ds : Places) (p : ℕ) (base : Option ℕ) (b : Bool) (gone : ℕ) : Type 0 where
+-- what a chain's sweep says of its list of versions, where `base` is the number of the place's oldest image, and `many` went
+pub record ChainSwept (horizon : ℕ) (xs : List ℕ) (cs ds : Places) (p : ℕ) (base : Option ℕ) (b : Bool) (many : ℕ) : Type 0 where
   pub left : list_at ds p ≡ chain.swept horizon xs (list_at cs p)
   pub others : ListsStay p cs ds
   pub base_gone : b ≡ goes horizon xs (last_number (list_at cs p)) base
-  pub gone : gone ≡ swept_away horizon xs (list_at cs p)
+  pub gone : many ≡ swept_away horizon xs (list_at cs p)
   pub clean : chain.IsClean horizon xs (list_at ds p)
   pub base_clean : OnFalse b (MayStay horizon xs (last_number (list_at ds p)) base)
 

@@ -1,4 +1,4 @@
--- The run in which every event happens may happen in its turn.
+-- The events of the run in which each kind happens may happen in their turn.
 use Rattle.std.proofs.Common.{◌++◌, Some, false, refl, arith}
 use Rattle.hg_base.specs.declared.scope.Scope.TheVariants.{All, Declared}
 use Rattle.hg_core.specs.Contents.{bucket_of}

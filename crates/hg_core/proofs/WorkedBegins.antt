@@ -1,4 +1,4 @@
--- The worked runs in which sessions begin late, early or slowly, and that of an open write, may happen in their turn.
+-- The events of the worked runs in which a session begins slowly or late, and of that with an open write, may happen in their turn.
 use Rattle.std.proofs.Common.{refl, arith}
 use Rattle.hg_base.specs.declared.scope.Scope.TheVariants.{All, Declared}
 use Rattle.hg_core.specs.Contents.{bucket_of}

@@ -1,4 +1,4 @@
--- The worked runs with no declared table, with a declared one and without masks may happen in their turn.
+-- The events of the worked runs with declared tables, with none, and without masks may happen in their turn.
 use Rattle.std.proofs.Common.{Some, false, refl, arith}
 use Rattle.hg_base.specs.declared.scope.Scope.TheVariants.{All, Declared}
 use Rattle.hg_core.specs.Contents.{bucket_of}

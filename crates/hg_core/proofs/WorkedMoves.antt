@@ -1,4 +1,4 @@
--- The worked runs in which a record has two versions and a pass moves a snapshot may happen in their turn.
+-- The events of the worked runs of two versions, and of a snapshot that is moved, may happen in their turn.
 use Rattle.std.proofs.Common.{Some, false, refl, arith}
 use Rattle.hg_base.specs.declared.image.Image.{Image}
 use Rattle.hg_base.specs.declared.scope.Scope.TheVariants.{All, Declared}

@@ -1,4 +1,4 @@
--- What the worked runs share: their sessions are there, a commit may be published, and a pass has loaded all.
+-- What the worked runs share: the sessions exist, a commit may be published, and a pass has loaded all registers.
 use Rattle.std.proofs.Common.{◌≡◌, ℕ, zero, suc, ◌<◌, ◌≤◌, List, [], ◌∷◌, None, Some, Bool, true, false, ◌&&◌, ◌||◌, refl, sym, subst, arith}
 use Rattle.std.specs.Prelude.{if◌then◌else◌, IsSome, IsTrue}
 use Rattle.std.proofs.lemmas.Bool.Decides.{nat_tests}

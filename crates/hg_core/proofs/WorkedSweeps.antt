@@ -1,4 +1,4 @@
--- The worked runs of a late snapshot and of a visit that sweeps may happen in their turn.
+-- The events of the worked runs of a late snapshot, and of a visit that sweeps, may happen in their turn.
 use Rattle.std.proofs.Common.{refl, arith}
 use Rattle.hg_base.specs.declared.scope.Scope.TheVariants.{All}
 use Rattle.hg_core.specs.Contents.{bucket_of}

@@ -40,7 +40,7 @@ use Rattle.hg_exact.proofs.Keeping.{IsKept, none_of, wrote_by}
 use Rattle.hg_exact.proofs.Longer.{newest_is, newest_within, seen_longer}
 use Rattle.hg_exact.proofs.Standing.{open_as}
 use Rattle.hg_exact.proofs.Known.{Knows, swept_not}
-use Rattle.hg_exact.proofs.Unended.{not_begun, shown_at, plain_same, some_is, made}
+use Rattle.hg_exact.proofs.Unended.{Ended, not_begun, shown_at, plain_same, some_is, made}
 
 module _ (all : List Said) (s : State) (knows : Knows false all s) (ended : Ended (onto all [])) (place j : ℕ) (h : History) (more : History) (longer : h ≡ s.history ++ more) where
   abbrev earlier : List Said

@@ -1,4 +1,4 @@
--- A transaction that has written and was not ended is open, and answers that begin nothing show so.
+-- A transaction that has written and was not ended is open, and which answers begin nothing.
 use Rattle.std.proofs.Common.{◌≡◌, ℕ, List, [], ◌∷◌, Bool, true, false, Option, Some, None, refl, sym, ap, ◌∙◌, subst}
 use Rattle.std.specs.Prelude.{◌==◌, ◌&&◌, cond, filter, filter_map, is_some, nat_lt, IfSome, IsSome, ⊤}
 use Rattle.std.specs.Bool.{MatchBool}

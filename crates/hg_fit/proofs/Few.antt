@@ -1,4 +1,4 @@
--- Where there are few groups, each line is of a session, a transaction and a snapshot that are few.
+-- Where there are few groups, the session, the transaction and the snapshot of each line have their widths.
 use Rattle.std.proofs.Common.{◌≡◌, ◌⊎◌, inl, ℕ, ◌≤◌, List, [], ◌∷◌, length, Bool, true, false, Option, Some, None, refl, sym, ap, ◌∙◌, subst, arith}
 use Rattle.std.specs.Prelude.{sum_by, is_none, is_some, unwrap_or, IfSome, IsTrue, ◌==◌}
 use Rattle.std.specs.List.{list_any}
@@ -32,6 +32,7 @@ use Rattle.hg_fit.specs.Rows.{cursor_table}
 use Rattle.hg_fit.proofs.Opens.{IsStanding, begins}
 use Rattle.hg_fit.proofs.Widths.{either, collected_fits}
 
+-- a line's session and transaction have their widths
 abbrev pub IsFew : Said → Type 0
 IsFew s = Fits32 s.session × Fits64 s.transaction
 

@@ -1,4 +1,4 @@
--- The answer to a record that fits has numbers and rows of their widths.
+-- The answer to a statement has numbers and rows of their widths.
 use Rattle.std.proofs.Common.{◌≡◌, ℕ, ◌<◌, ◌≤◌, ◌^◌, List, [], ◌∷◌, length, Bool, true, false, Option, Some, None, refl, sym, ap, subst, arith}
 use Rattle.std.specs.Prelude.{map, is_some, IfSome, MatchOption, ⊤, ◌==◌, ◌||◌}
 use Rattle.std.specs.List.{list_any}

@@ -1,4 +1,4 @@
--- Own writes, and the line that ends a transaction: it says the same as its entries.
+-- Own writes, and the line that ends a transaction: it says what its entries say.
 use Rattle.std.proofs.Common.{◌≡◌, ℕ, suc, ◌<◌, ◌≤◌, ◌⊎◌, List, [], ◌∷◌, ◌++◌, Bool, true, Option, Some, None, refl, sym, ap, ◌∙◌, subst, arith}
 use Rattle.std.specs.Prelude.{◌==◌, cond}
 use Rattle.std.specs.List.{cons_option}

@@ -1,4 +1,4 @@
--- One step and then others, the records of the totals, and where each of a line is known.
+-- One step and then others, what is known of a line's records, and the records of the totals.
 use Rattle.std.proofs.Common.{◌≡◌, ◌<◌, ◌+◌, ◌∙◌, ℕ, suc, List, [], ◌∷◌, ◌++◌, length, Bool, true, false, ◌&&◌, Option, Some, None, nat_lt, refl, sym, ap, subst}
 use Rattle.std.proofs.Common.{arith}
 use Rattle.std.specs.Prelude.{codes, decimal, bytes_eq, if◌then◌else◌}

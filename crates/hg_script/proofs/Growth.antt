@@ -1,4 +1,4 @@
--- A record that may stand after those before it keeps the script lawful, by its kind.
+-- A statement or a table that breaks no rule keeps the script lawful.
 use Rattle.std.proofs.Common.{◌≡◌, ◌<◌, ◌≤◌, ◌+◌, ℕ, Bool, true, false, not, nat_lt, nat_le, List, [], ◌∷◌, ◌++◌}
 use Rattle.std.proofs.Common.{length, map, Option, Some, None, if◌then◌else◌, refl, sym, subst, arith, length-append, append_assoc}
 use Rattle.std.proofs.lemmas.Bool.{and_parts as and-parts, or_parts}

@@ -1,4 +1,4 @@
--- A record is taken out of a list: where each one stands afterwards, and what callers see of it.
+-- A record is taken out of a list: where each other one is afterwards, and what callers see of it.
 use Rattle.std.proofs.Common.{◌≡◌, ℕ, zero, suc, ◌-◌, ◌<◌, ◌≤◌, List, [], ◌∷◌, length, take, set, Bool, true, false, Option, Some, None, refl, sym, ap, ◌∙◌, subst}
 use Rattle.std.proofs.Common.{arith, slice_get, inl, inr, ◌⊎◌}
 use Rattle.std.specs.Prelude.{Vec, slice_index_or, nat_lt, ◌==◌, ◌↔◌, option_map}
