@@ -53,7 +53,7 @@ pub use limits::{
 pub use line::{Answer, Line, LineList, Printed, Reply, Totals};
 pub use memory::{MemorySink, MemorySource};
 pub use number::{Integer, Natural, read_integer, read_natural};
-pub use outside::{Gate, NoGate, Sink, Source};
+pub use outside::{Gate, Sink, Source};
 pub use report::{Entry, EntryList, Kind, Report, Sweep, Told, ToldList};
 pub use rid::{Rid, TableId};
 pub use row::{Row, RowList};

@@ -46,11 +46,3 @@ pub trait Sink {
 pub trait Gate {
     fn at<R: Wait>(&self, rt: &R, worker: u32, statement: u32);
 }
-
-/// Holds nobody.
-#[derive(Clone, Copy)]
-pub struct NoGate;
-
-impl Gate for NoGate {
-    fn at<R: Wait>(&self, _rt: &R, _worker: u32, _statement: u32) {}
-}

@@ -14,7 +14,8 @@ ghost use Rattle.hg_collectors.specs.Workers as by_worker;
 
 use crate::interval::IntervalWorker;
 use crate::lent::Lent;
-use hg_base::{Gate, Kind, NoGate, NoMemory, Steps, Sweep};
+use crate::pace::NoGate;
+use hg_base::{Gate, Kind, NoMemory, Steps, Sweep};
 use hg_gc_group::GroupCollector;
 use hg_gc_interval::IntervalCollector;
 use hg_gc_table::TableCollector;

@@ -25,6 +25,6 @@ mod round_lists;
 pub use collectors::{Collectors, Room};
 pub use interval::IntervalWorker;
 pub use lent::Lent;
-pub use pace::{Pace, READER};
+pub use pace::{NoGate, Pace, READER};
 pub use round_list::{Plan, RoundList};
 pub use round_lists::{RoundLists, run_collectors};

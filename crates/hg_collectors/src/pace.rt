@@ -19,6 +19,14 @@ use std::sync::atomic::AtomicU64;
 use std::sync::atomic::Ordering::SeqCst;
 use std::time::Duration;
 
+/// A gate that holds nobody.
+#[derive(Clone, Copy)]
+pub struct NoGate;
+
+impl Gate for NoGate {
+    fn at<R: Wait>(&self, _rt: &R, _worker: u32, _statement: u32) {}
+}
+
 // The numbers by which a gate knows the collectors' workers. A session's worker has its session's.
 pub(crate) const GROUP: u32 = 101;
 

@@ -44,7 +44,7 @@ mod status;
 mod steady;
 mod steps;
 
-pub use hg_collectors::{Collectors, IntervalWorker, Plan};
+pub use hg_collectors::{Collectors, IntervalWorker, NoGate, Plan};
 pub use hg_drivers::{Reader, close, dump_on, open_beside, open_for, replay_on, run_on};
 pub use hg_fit::{rows_have_their_columns, what_is_sound_fits};
 pub use laws::{

@@ -3,12 +3,11 @@
 
 use crate::watched::{WatchedSink, WatchedSource};
 use hg_base::{
-    Answer, Kind, Line, LineList, MemorySink, MemorySource, NoGate, NoMemory, Printed, Reply, Row,
-    RowList, Sink, Source, SteadySink, SteadySource, Sweep, TableId, Told, ToldList, Totals,
-    Writer,
+    Answer, Kind, Line, LineList, MemorySink, MemorySource, NoMemory, Printed, Reply, Row, RowList,
+    Sink, Source, SteadySink, SteadySource, Sweep, TableId, Told, ToldList, Totals, Writer,
 };
 use hg_report::text_of;
-use hg_run::{Status, StdinSource, StdoutSink, serve, serve_steadily};
+use hg_run::{NoGate, Status, StdinSource, StdoutSink, serve, serve_steadily};
 use hg_script::{Code, read_script};
 use std::alloc::{AllocError, Global};
 use std::sync::Wait;

@@ -14,8 +14,7 @@ ghost use Rattle.hg_run.specs.Status.{exit_code_of};
 ghost use Rattle.std_io.specs.IoError.{error_kind};
 ghost use Rattle.std_io.specs.declared.io.kind.ErrorKind.TheVariants.{OutOfMemory};
 
-use hg_base::NoGate;
-use hg_run::{Status, StdinSource, StdoutSink, serve};
+use hg_run::{NoGate, Status, StdinSource, StdoutSink, serve};
 use std::process::ExitCode;
 use std::{env, io};
 
