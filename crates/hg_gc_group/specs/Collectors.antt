@@ -14,10 +14,11 @@ use Rattle.hg_visit.specs.Rounds as rounds
 use Rattle.hg_gc_group.specs.Taking.{TakesAll}
 use Rattle.hg_gc_group.specs.declared.collector.GroupCollector.{GroupCollector}
 
--- its pass, and what that sees
+-- its pass
 abbrev pub pass_of : GroupCollector → CollectorPass
 pass_of c = rounds.pass_of c.rounds
 
+-- what its pass sees
 abbrev pub view_of : GroupCollector → View
 view_of c = rounds.view_of c.rounds
 

@@ -14,10 +14,11 @@ use Rattle.hg_visit.specs.Rounds as rounds
 use Rattle.hg_gc_interval.specs.Sweeping.{IsCleanBy}
 use Rattle.hg_gc_interval.specs.declared.collector.IntervalCollector.{IntervalCollector}
 
--- its pass, and what that sees
+-- its pass
 abbrev pub pass_of : IntervalCollector → CollectorPass
 pass_of c = rounds.pass_of c.rounds
 
+-- what its pass sees
 abbrev pub view_of : IntervalCollector → View
 view_of c = rounds.view_of c.rounds
 

@@ -18,10 +18,11 @@ use Rattle.hg_gc_table.specs.Cutting.{IsCutBy}
 use Rattle.hg_gc_table.specs.Moving.{TriesLong}
 use Rattle.hg_gc_table.specs.declared.collector.TableCollector.{TableCollector}
 
--- its pass, and what that sees
+-- its pass
 abbrev pub pass_of : TableCollector → CollectorPass
 pass_of c = rounds.pass_of c.rounds
 
+-- what its pass sees
 abbrev pub view_of : TableCollector → View
 view_of c = rounds.view_of c.rounds
 

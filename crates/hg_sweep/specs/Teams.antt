@@ -22,10 +22,11 @@ use Rattle.hg_sweep.specs.Word.{times, fresh}
 use Rattle.hg_sweep.specs.Helpers.{visited, AreVisits}
 use Rattle.hg_sweep.specs.Seats.{draws_id, drawn_by, IsDrawerOf}
 
--- its pass, and what that sees
+-- its pass
 abbrev pub pass_of : SweepTeam → CollectorPass
 pass_of c = rounds.pass_of c.rounds
 
+-- what its pass sees
 abbrev pub view_of : SweepTeam → View
 view_of c = rounds.view_of c.rounds
 
