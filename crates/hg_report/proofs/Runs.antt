@@ -79,10 +79,10 @@ pub scan_head : (session place left : ℕ) (at : Option ℕ) → behind session 
 scan_head session place left None = refl
 scan_head session place left (Some s) = refl
 
-record ScanFacts (tables : List Declaration) (table : TableId) (rows : List (ℕ × List Value)) : Type 0 where
-  few : AreFew (kinds_of tables table)
-  many : Fits64 (length rows)
-  each : Each (FitsKey tables table) rows
+pub record ScanFacts (tables : List Declaration) (table : TableId) (rows : List (ℕ × List Value)) : Type 0 where
+  pub few : AreFew (kinds_of tables table)
+  pub many : Fits64 (length rows)
+  pub each : Each (FitsKey tables table) rows
 
 fetch_facts : (tables : List Declaration) (cursor : Option TableId) (n : ℕ) (rows : List (ℕ × List Value)) → FitsAnswer tables cursor (Fetch n) (Rows rows) →
     HasColumns tables cursor (Fetch n) → ScanFacts tables (the_table (asked_by cursor (Fetch n))) rows

@@ -46,7 +46,7 @@ numbers-alone zero = tt
 numbers-alone (suc k) = (refl, numbers-alone k)
 
 -- the columns that a table record declares
-record AreColumns (version : ℕ) (kinds : List Column) : Type 0 where
+pub record AreColumns (version : ℕ) (kinds : List Column) : Type 0 where
   pub some : 1 ≤ length kinds
   pub most : length kinds ≤ 8
   pub numbers : version ≡ 1 → AreNumbers kinds
