@@ -24,11 +24,11 @@ ghost use Rattle.hg_rule.specs.Seats.{board_id, sizes_of, session_view, pass_vie
 ghost use Rattle.hg_tracker.specs.Gathers.{tables_in};
 ghost use Rattle.hg_trials.specs.Between.{own_session, own_bucket, own_commit, IsAlone, Rests, IsFreeFrom};
 
-use hg_base::{Image, Rid, Scope, TableId};
+use hg_base::{Image, NoMemory, Rid, Scope, TableId};
 use hg_core::Register;
 use hg_rule::{Board, BucketSeat, CollectorPass, CommitSeat, SessionPass};
 use hg_tracker::{Gathered, Trackers};
-use std::alloc::{AllocError, Global};
+use std::alloc::Global;
 use std::snapshot::Snapshot;
 use std::test::Fail;
 
@@ -197,21 +197,29 @@ fn a_session_enters_while_others_commit(rt: HostRuntime) -> Result<(), Fail> {
 // Where session 1 enters, and where it goes live; and after each the mark, the horizon, the least snapshot, the bound of table 0, and
 // the snapshots in use.
 const ENTERED: &str = "\
-1: 2 1 1 1 [Entry { session: 2, number: 2, scope: Declared(1), moved: false }]
-2: 2 2 2 2 [Entry { session: 1, number: 2, scope: All, moved: false }, Entry { session: 2, number: 2, scope: Declared(1), moved: false }]
+1: 2 1 1 1; 2 at 2, Declared(1), moved: false
+2: 2 2 2 2; 1 at 2, All, moved: false; 2 at 2, Declared(1), moved: false
 ";
 
-fn told(alloc: Global, gathered: &Gathered) -> Result<String, AllocError>
+fn told(alloc: Global, gathered: &Gathered) -> Result<String, NoMemory>
     requires { 0 < tables_in gathered.now }
 {
-    format!(in alloc;
-        "{} {} {} {} {:?}\n",
+    let mut told = format!(in alloc;
+        "{} {} {} {}",
         gathered.mark(),
         gathered.horizon(),
         gathered.least(),
-        gathered.bound(TableId(0)),
-        gathered.entries()
-    )
+        gathered.bound(TableId(0))
+    )?;
+    for entry in gathered.entries() {
+        write!(
+            told,
+            "; {} at {}, {:?}, moved: {}",
+            entry.session, entry.number, entry.scope, entry.moved
+        )?;
+    }
+    told.push_str("\n")?;
+    Ok(told)
 }
 
 // Loads the mask of session 1. The pass has loaded its register alone, after the mark 2: it reads at 1, with declared tables.
