@@ -37,7 +37,7 @@ returns-clause-opened c =
     let passes = c.in_ok-engine.passes in
     let alone = c.in_ok-engine.ensures.alone in
     let is = c.in_ok-collectors.ensures.same in
-    let same : passes_of c.in_ok-collectors.collectors ≡ passes = λ i. record { group = is.0 i; table = is.1.0 i; interval = is.1.1 i } in
+    let same : passes_of c.in_ok-collectors.collectors ≡ passes = λ i. record { group = is.0 i; table = is.1 i; interval = is.2 i } in
     record {
       sessions_are = omega (arith, size, c.sessions.ensures);
       tables = (search rules);
