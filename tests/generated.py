@@ -72,7 +72,7 @@ def eight_workers_commit_beside_the_collectors():
 
 
 def four_sessions_begin_and_end_beside_the_collectors():
-    """Nobody writes, so each report has the mark and the horizon 0, and whoever holds a snapshot holds 0."""
+    """Nobody writes, so each report has the mark and the horizon 0, and each session that holds a snapshot holds 0."""
     script = b"table,t,1\n" + b"1,begin\n2,begin\n3,begin\n4,begin\n1,rollback\n2,rollback\n3,rollback\n4,rollback\n" * 100
     text = sound_text("run --rounds 50", script)
     replies = list(replies_of(records_of(text)))
