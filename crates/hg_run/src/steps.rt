@@ -36,7 +36,18 @@ fn script_of_bytes(alloc: Global, bytes: Vec<u8>) -> Result<Script, Status>
     ensures refused_dump { (settings : Settings) →
         IfErr result (RefusesBytes (dumps settings) bytes.items) }
 {
-    read_script(alloc, &bytes).map_err(Status::from)
+    let script = read_script(alloc, &bytes).map_err(Status::from);
+    free(bytes);
+    script
+}
+
+// Frees the bytes, after all but one of them were given back. glibc maps a large block on its own, and such a block grows without a
+// copy. But once a mapped block is freed, it takes blocks of up to that size from its heap, where a list that grows is copied, and
+// leaves a hole.
+fn free(bytes: Vec<u8>) {
+    let mut bytes = bytes;
+    bytes.truncate(1);
+    bytes.shrink_to_fit();
 }
 
 // The text that a script prints.
