@@ -22,6 +22,7 @@ abbrev pub EventAgrees : ℕ → SessionPart → Event → Type 0
 EventAgrees j session (Sample p i register) = i ≡ j → HasBegun register session.log
 EventAgrees j session _ = ⊤
 
+-- a step that a view knows of agrees with session j's log; the other sights say nothing of loaded registers
 abbrev pub SightAgrees : ℕ → SessionPart → Sight → Type 0
 SightAgrees j session (Saw h) = ⊤
 SightAgrees j session (Heard i log) = ⊤
@@ -34,6 +35,7 @@ pub record RecordAgrees (j : ℕ) (session : SessionPart) (record_ : PassPart) :
   pub reaches : IfSome (found j record_.loaded) (λ loaded. StandsIn (heard j record_.seen) loaded.register session.log session.phase)
   pub bounds : IfSome (found j record_.loaded) (λ loaded. Bounds record_.mark loaded session.phase)
 
+-- the record of a collector's pass agrees with session j; the other parts have no record
 abbrev pub PartAgrees : ℕ → SessionPart → Part → Type 0
 PartAgrees j session (OfSession i s) = ⊤
 PartAgrees j session (OfBucket b c) = ⊤
@@ -48,7 +50,7 @@ pub record AgreesWith (v : View) (j : ℕ) (session : SessionPart) : Type 0 wher
   pub sights : Each (SightAgrees j session) v.sights
   pub parts : Each (PartAgrees j session) v.parts
 
--- with each session that the view has
+-- the view agrees with this part of its own, where that is a session's part
 abbrev pub AgreesAt : View → Part → Type 0
 AgreesAt v (OfSession j session) = AgreesWith v j session
 AgreesAt v (OfBucket b c) = ⊤

@@ -27,19 +27,22 @@ use Rattle.hg_rule.specs.Keys.{Key, session_key, bucket_key, commit_key, pass_ke
 
 -- ---- lists that grow
 
--- a list begins with another, or ends with it
+-- a list begins with another
 abbrev pub StartsWith : {A : Type 0} → List A → List A → Type 0
 StartsWith {A} xs start = (rest : List A) × (xs ≡ start ++ rest)
 
+-- a list ends with another
 abbrev pub EndsWith : {A : Type 0} → List A → List A → Type 0
 EndsWith {A} xs end = (later : List A) × (xs ≡ later ++ end)
 
+-- a value is an entry of a list
 abbrev pub IsAmong : {A : Type 0} → A → List A → Type 0
 IsAmong a [] = ⊥
 IsAmong a (x ∷ xs) = (x ≡ a) ⊎ IsAmong a xs
 
 -- ---- parts
 
+-- a history in the form that a view's sights and the committer's part have
 abbrev pub groups : History → Groups
 groups h = record { list = h }
 
@@ -55,11 +58,11 @@ heard j (Did e ∷ sights) = heard j sights
 abbrev pub record_of : PassPart → PassRecord
 record_of part = record { mark = part.mark; known = λ j. heard j part.seen; loaded = part.loaded }
 
--- the log is as it was when the mark was n, or has one commit number more, over n
+-- the log is as it was when the part was handed over at mark n, or has one commit number more, which is over n
 abbrev pub IsLeft : ℕ → List LogEntry → List LogEntry → Type 0
 IsLeft n was log = (log ≡ was) ⊎ ((c : ℕ) × (n < c) × (log ≡ Published c ∷ was))
 
--- the part is as it is in the state
+-- the state agrees with a part: of a part that was handed over, the log may have one commit number more
 abbrev pub Shown : CoreState → Part → Type 0
 Shown s (OfSession j part) = (s.phase j ≡ part.phase) × ((s.log j ≡ part.log) × (has_stamped j s.stamped_list ≡ part.stamped))
 Shown s (OfBucket b part) = (s.bucket b ≡ part.content) × (s.counters b ≡ part.counters)
@@ -68,19 +71,23 @@ Shown s (OfPass p part) = (s.pass p ≡ record_of part) × ((s.visits p ≡ part
 Shown s (Away j part n) = (s.phase j ≡ part.phase) × ((n ≤ s.mark) × IsLeft n part.log (s.log j))
 Shown s (Lent j part) = (s.phase j ≡ part.phase) × ((s.log j ≡ part.log) × (has_stamped j s.stamped_list ≡ part.stamped))
 
--- the parts of a new board
+-- a session's part on a new board: at rest, with an empty log
 abbrev pub new_session : SessionPart
 new_session = record { phase = phases.Idle; log = []; stamped = false }
 
+-- a bucket's part on a new board: without records, and with all counters 0
 abbrev pub new_bucket : BucketPart
 new_bucket = record { content = []; counters = no_counters }
 
+-- the committer's part on a new board: an empty history, and no group taken
 abbrev pub new_commit : CommitPart
 new_commit = record { history = groups []; stamped = []; taken = 0 }
 
+-- a collector pass's part on a new board: a record of nothing, at mark 0
 abbrev pub new_pass : PassPart
 new_pass = record { mark = 0; seen = []; loaded = []; visits = []; share = first_share }
 
+-- the part that a new board has for each key
 abbrev pub new_part : Key → Part
 new_part (session_key j) = OfSession j new_session
 new_part (bucket_key b) = OfBucket b new_bucket
@@ -96,11 +103,12 @@ HasBegun registers.Idle log = ⊤
 HasBegun (registers.Entering f) log = ⊤
 HasBegun (registers.Live number declared moved) log = (scope : Scope) × (declared ≡ is_declared scope) × IsAmong (Began number scope) log
 
--- a live register that was loaded has its begin in the log
+-- what a step says stays true of the state: a live register that was loaded has its begin in the session's log
 abbrev pub Stands : CoreState → Event → Type 0
 Stands s (Sample p j register) = HasBegun register (s.log j)
 Stands s _ = ⊤
 
+-- what a sight says is true of the state
 abbrev pub Known : CoreState → Sight → Type 0
 Known s (Saw h) = StartsWith s.history h.list
 Known s (Heard j log) = EndsWith (s.log j) log

@@ -26,15 +26,16 @@ use Rattle.hg_rule.specs.Writes.{stamping, listing, with_stamp, with_published}
 
 -- ---- sessions with their parts
 
+-- sessions, each with its part
 abbrev pub Members : Type 0
 Members = List (ℕ × SessionPart)
 
--- their parts, as they were handed over
+-- the parts of these sessions, as parts that were handed over
 abbrev pub lent : Members → List Part
 lent [] = []
 lent (m ∷ ms) = Lent m.0 m.1 ∷ lent ms
 
--- who handed over a part that is among these
+-- the sessions that handed over a part among these, each with that part
 abbrev pub members : List Part → Members
 members [] = []
 members (OfSession j s ∷ parts) = members parts
@@ -48,35 +49,35 @@ members (Lent j s ∷ parts) = (j, s) ∷ members parts
 abbrev pub AreLent : List Part → Type 0
 AreLent parts = parts ≡ lent (members parts)
 
--- their numbers
+-- the numbers of these sessions
 abbrev pub who : Members → List ℕ
 who ms = map (λ m. m.0) ms
 
--- session j's part
+-- session j's part among these, and a new session's where it is not one of them
 abbrev pub part_of : ℕ → Members → SessionPart
 part_of j [] = new_session
 part_of j (m ∷ ms) = if m.0 == j then m.1 else part_of j ms
 
--- and its transaction
+-- the open transaction of session j, by the begins in its part's log
 abbrev pub writer_at : ℕ → Members → Writer
 writer_at j ms = record { session = j; transaction = begans (part_of j ms).log }
 
--- session j has a write with the next number
+-- the same sessions, where session j is noted to have a write with the next number
 abbrev pub flag : ℕ → Members → Members
 flag j [] = []
 flag j (m ∷ ms) = (m.0, if m.0 == j then with_stamp m.1 else m.1) ∷ flag j ms
 
--- each is published under n
+-- the same sessions, after each one's transaction was published under n
 abbrev pub numbered : ℕ → Members → Members
 numbered n [] = []
 numbered n (m ∷ ms) = (m.0, with_published n m.1) ∷ numbered n ms
 
--- what is known of their logs then
+-- the sights of these sessions' logs after they were published under n
 abbrev pub hears : ℕ → Members → List Sight
 hears n [] = []
 hears n (m ∷ ms) = Heard m.0 (Published n ∷ m.1.log) ∷ hears n ms
 
--- their transactions, as a group
+-- the transactions of these sessions as one group of the history
 abbrev pub group_of : Members → Group
 group_of ms = map (λ m. commit_in m.0 m.1.log) ms
 
@@ -92,35 +93,36 @@ pub record MayPublish (ms : Members) (list : List (ℕ × Rid)) : Type 0 where
 
 -- ---- handing over, and back
 
--- the part behind v's first, and that session j handed it over
+-- the session's part that follows the view's first part
 abbrev pub next_lent : View → SessionPart
 next_lent v = session_there (first_in (others v))
 
+-- the part that follows the view's first was handed over by session j
 abbrev pub HasLent : ℕ → View → Type 0
 HasLent j v = others v ≡ Lent j (next_lent v) ∷ beyond v
 
--- v's place once its part was handed over when the mark was n
+-- the note that v keeps in place of its session's part, which was handed over when the mark was n
 abbrev pub away : View → ℕ → Part
 away v n = Away (number v) (session v) n
 
--- the part leaves v
+-- w is v after its session's part left it, when the mark was n; a note keeps the part's place
 abbrev pub HandsOver : View → ℕ → View → Type 0
 HandsOver v n w = (h : History) × (IsHistoryAt v n h × (w ≡ then_has v (away v n ∷ others v) (Saw (groups h) ∷ []) (HandOver (number v) n)))
 
--- before it leaves, it stands behind its place
+-- w is v in the middle of a hand-over: the part follows its place, and has not left yet
 abbrev pub Lends : View → ℕ → View → Type 0
 Lends v n w = (h : History) × (IsHistoryAt v n h × ((loaded_in (session v).phase ≤ n)
     × (w ≡ then_has v (away v n ∷ Lent (number v) (session v) ∷ others v) (Saw (groups h) ∷ []) (HandOver (number v) n))))
 
--- the part alone, which has seen what the view has
+-- the view of the seat that leaves: session j's part alone, and what w has seen
 abbrev pub lent_alone : ℕ → SessionPart → View → View
 lent_alone j s w = seeing (Lent j s ∷ []) w.sights []
 
--- v with what was handed over, behind all else
+-- v with the part of w after all of its own
 abbrev pub received : View → View → View
 received v w = seeing (v.parts ++ w.parts) (v.sights ++ w.sights) v.events
 
--- v without the part behind its first, which is handed back
+-- v without the part that follows its first, which is handed back
 abbrev pub hands_back : View → View
 hands_back v = seeing (but_second v.parts) v.sights (v.events ++ HandBack (part_number (others v)) ∷ [])
 
@@ -129,40 +131,44 @@ pub record IsBack (n : ℕ) (was now : SessionPart) : Type 0 where
   pub phase : now.phase ≡ was.phase
   pub log : IsLeft n was.log now.log
 
--- v once its part came back with w
+-- v after its session's part came back with w
 abbrev pub resuming : View → View → View
 resuming v w = seeing (OfSession (number v) (session w) ∷ others v) (v.sights ++ w.sights) v.events
 
--- the same where it stands behind its place already
+-- w is v after its session's part, which follows its place, came back to that place
 abbrev pub Retakes : View → View → Type 0
 Retakes v w = (w ≡ seeing (OfSession (number v) (next_lent v) ∷ beyond v) v.sights v.events) × IsBack (since v) (session v) (next_lent v)
 
 -- ---- a group
 
--- session j's open write of the record gets number n, and is listed
+-- w is v after session j's open write of the record got number n, and was listed in the committer's part
 abbrev pub Stamps : View → ℕ → Rid → ℕ → View → Type 0
 Stamps v j rid n w = let ms = members (farther v) in
     w ≡ then_has v (away v (since v) ∷ OfBucket (bucket_number v) (stamping n (writer_at j ms) rid (bucket v)) ∷ OfCommit (listing j rid (commit_behind v)) ∷ lent (flag j ms)) [] (Stamp j rid n)
 
--- the history goes on with their group, and no write has the next number
+-- the committer's part after the group of these sessions joined the history: no write has the next number then
 abbrev pub publishing : Members → CommitPart → CommitPart
 publishing ms part = record part { history = groups (part.history.list ++ group_of ms ∷ []); stamped = [] }
 
--- All that were received are published under n. The history before is the whole one, so n is over all that was seen.
+-- w is v after all that it received was published under n. The history before is the whole one, so n is over all that was seen.
 abbrev pub Publishes : View → ℕ → View → Type 0
 Publishes v n w = let ms = members (beyond v) in let h = (commit v).history.list in
     IsHistoryAt v (length h) h × (w ≡ then_has v (away v (since v) ∷ OfCommit (publishing ms (commit v)) ∷ lent (numbered n ms)) (Saw (groups (h ++ group_of ms ∷ [])) ∷ hears n ms) (Publish n))
 
--- ---- the same as a step of the table tells it
+-- ---- the same steps, as the table plays them
 
+-- the step of `Lends`, by the mark that was found
 abbrev pub lends : Step ℕ → Seated → ℕ → Seated → Type 0
 lends step m n w = Lends m.0 n w.0 × (w.1 ≡ m.1)
 
+-- the step of `Retakes`
 abbrev pub retakes : Step ℕ → Seated → ℕ → Seated → Type 0
 retakes step m n w = Retakes m.0 w.0 × (w.1 ≡ m.1)
 
+-- the step of `Stamps`, with the number that follows the length of the history
 abbrev pub stamps : ℕ → Rid → Step ℕ → Seated → ℕ → Seated → Type 0
 stamps j rid step m n w = Stamps m.0 j rid (suc (length (commit_behind m.0).history.list)) w.0 × (w.1 ≡ m.1)
 
+-- the step of `Publishes`, by the number that was stored
 abbrev pub publishes : Step ℕ → Seated → ℕ → Seated → Type 0
 publishes step m n w = Publishes m.0 n w.0 × (w.1 ≡ m.1)

@@ -28,7 +28,7 @@ abbrev pub both : Bool → Bool → Bool
 both true b = b
 both false b = false
 
--- the kind of a key, and its number
+-- a number for the kind of a key
 abbrev pub kind_of : Key → ℕ
 kind_of (session_key j) = 0
 kind_of (bucket_key b) = 1
@@ -36,6 +36,7 @@ kind_of commit_key = 2
 kind_of (pass_key p) = 3
 kind_of (home_key j) = 4
 
+-- the number that a key has within its kind
 abbrev pub index_of : Key → ℕ
 index_of (session_key j) = j
 index_of (bucket_key b) = b
@@ -43,10 +44,11 @@ index_of commit_key = 0
 index_of (pass_key p) = p
 index_of (home_key j) = j
 
+-- whether two keys are of one kind and have one number
 abbrev pub same_key : Key → Key → Bool
 same_key k h = both (eqb (kind_of k) (kind_of h)) (eqb (index_of k) (index_of h))
 
--- a session's part at its place counts for both of its keys
+-- whether a key is of session j: of its part, or of its part's place
 abbrev pub is_sessions : Key → ℕ → Bool
 is_sessions (session_key i) j = eqb j i
 is_sessions (home_key i) j = eqb j i
@@ -63,21 +65,22 @@ has k (OfPass p r) = same_key (pass_key p) k
 has k (Away j s n) = same_key (home_key j) k
 has k (Lent j s) = same_key (session_key j) k
 
--- how much it counts
+-- 1 where the test is true, else 0
 abbrev pub one : Bool → ℕ
 one true = 1
 one false = 0
 
--- how many parts of the key there are, in one list and in all views
+-- how many parts of the key there are in one list
 abbrev pub count : Key → List Part → ℕ
 count k [] = 0
 count k (p ∷ ps) = one (has k p) + count k ps
 
+-- how many parts of the key there are in all views together
 abbrev pub tally : Key → List View → ℕ
 tally k [] = 0
 tally k (v ∷ vs) = count k v.parts + tally k vs
 
--- the shares of the passes, added up
+-- the share of a collector's pass; other parts have none
 abbrev pub share_of : Part → ℕ
 share_of (OfSession j s) = 0
 share_of (OfBucket b c) = 0
@@ -86,18 +89,21 @@ share_of (OfPass p r) = r.share
 share_of (Away j s n) = 0
 share_of (Lent j s) = 0
 
+-- the shares of the passes in one list, added up
 abbrev pub shares : List Part → ℕ
 shares [] = 0
 shares (p ∷ ps) = share_of p + shares ps
 
+-- the shares of the passes in all views, added up
 abbrev pub all_shares : List View → ℕ
 all_shares [] = 0
 all_shares (v ∷ vs) = shares v.parts + all_shares vs
 
--- what a pass of a new board has of them, and the three together
+-- the share of a pass on a new board
 abbrev pub first_share : ℕ
 first_share = 4294967296
 
+-- the shares of the three passes of a new board together; splits and unions keep this sum
 abbrev pub whole_share : ℕ
 whole_share = 12884901888
 

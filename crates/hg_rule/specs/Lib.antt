@@ -1,4 +1,4 @@
--- Where words stand, what a seat at the board has and knows, and the rule.
+-- The places of the words, what a seat at the board has and knows, and the rule.
 pub mod Words
 pub mod Codes
 pub mod Keys
@@ -19,7 +19,7 @@ pub mod Rounds
 -- Seats.
 pub mod Lending
 pub mod Seats
--- What meetings tell, and who has everything.
+-- What a meeting shows, and the one view that has everything.
 pub mod Agreed
 pub mod Reading
 pub mod New

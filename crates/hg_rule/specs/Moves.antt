@@ -12,7 +12,7 @@ use Rattle.hg_rule.specs.Views.{seeing, after_first}
 
 -- ---- joins
 
--- other parts come behind the first
+-- other parts, put between the first and the rest
 abbrev pub put_in : List Part → List Part → List Part
 put_in [] others = others
 put_in (p ∷ parts) others = p ∷ (others ++ parts)

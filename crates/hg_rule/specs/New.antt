@@ -22,21 +22,26 @@ EachFrom P i (x ∷ xs) = P i x × EachFrom P (suc i) xs
 abbrev pub HasNew : BoardId → List Part → Seat ℕ View → Type 0
 HasNew t parts s = (s.table_id ≡ t) × (s.me ≡ (seeing parts [] [], []))
 
+-- a seat of the table with this part alone, which has seen and done nothing
 abbrev pub IsNew : BoardId → Part → Seat ℕ View → Type 0
 IsNew t part s = HasNew t (part ∷ []) s
 
--- the first of these parts
+-- a seat of the table with the first of these parts alone, which has seen and done nothing
 abbrev pub IsNewFirst : BoardId → List Part → Seat ℕ View → Type 0
 IsNewFirst t parts s = HasNew t (first_of parts) s
 
+-- the pass of session j on a new board
 abbrev pub IsNewSession : BoardId → ℕ → SessionPass → Type 0
 IsNewSession t j p = (p.number ≡ j) × (p.begun ≡ 0) × IsNew t (session_part j) p.seat
 
+-- the seat of bucket b on a new board
 abbrev pub IsNewBucket : BoardId → ℕ → BucketSeat → Type 0
 IsNewBucket t b p = (p.number ≡ b) × IsNew t (bucket_part b) p.seat
 
+-- collector pass n on a new board
 abbrev pub IsNewPass : BoardId → ℕ → CollectorPass → Type 0
 IsNewPass t n p = IsNew t (pass_part n) p.seat
 
+-- the committer's seat on a new board
 abbrev pub IsNewCommit : BoardId → CommitSeat → Type 0
 IsNewCommit t p = IsNew t (new_part commit_key) p.seat

@@ -36,7 +36,7 @@ abbrev pub arrive_first : ℕ → List Part → List Part
 arrive_first b [] = []
 arrive_first b (p ∷ parts) = arrive b p ∷ parts
 
--- v with the part of the bucket's seat w behind its own
+-- v with the part of the bucket's seat w after its own
 abbrev pub with_bucket : View → View → View
 with_bucket v w = seeing (put_in (arrive_first (part_number w.parts) v.parts) w.parts) (v.sights ++ w.sights) v.events
 

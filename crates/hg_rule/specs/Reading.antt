@@ -15,11 +15,12 @@ use Rattle.hg_rule.specs.Words.{register_at, mask_at}
 use Rattle.hg_rule.specs.Facts.{record_of, new_part}
 use Rattle.hg_rule.specs.Views.{session_there, bucket_there, commit_there, pass_there}
 
--- the first part of a key, and the part of a new board where there is none
+-- one of two parts, by a test
 abbrev pub chosen : Bool → Part → Part → Part
 chosen true p other = p
 chosen false p other = other
 
+-- the first part in a list that counts for a key, and the part of a new board where there is none
 abbrev pub seek : Key → List Part → Part
 seek k [] = new_part k
 seek k (p ∷ parts) = chosen (has k p) p (seek k parts)
@@ -65,6 +66,7 @@ all_parts (v ∷ views) = v.parts ++ all_parts views
 abbrev pub registers_in : Sizes → List ℕ → ℕ → Register
 registers_in z words j = if both (ltb 0 j) (ltb j (suc z.sessions)) then register_of (slice_index words (register_at j)) else registers.Idle
 
+-- the state that these words and views show
 abbrev pub read : Sizes → List ℕ → List View → CoreState
 read z words views = state_of z (slice_index words 0) (registers_in z words) (λ j. slice_index words (mask_at j)) (all_parts views)
 

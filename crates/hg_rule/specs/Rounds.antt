@@ -22,17 +22,18 @@ use Rattle.hg_rule.specs.declared.view.Sight.TheVariants.{Saw, Heard, Took, Did}
 
 -- ---- which steps are one
 
+-- a step that is not a load of the mark by a collector's pass
 abbrev pub IsNoMark : Event → Type 0
 IsNoMark (Mark p mark) = ⊥
 IsNoMark _ = ⊤
 
--- it takes away versions, or takes a group
+-- a step that removes versions, or takes a group
 abbrev pub IsWork : Event → Type 0
 IsWork (Reclaim p kind rid n) = ⊤
 IsWork (Take p mark) = ⊤
 IsWork _ = ⊥
 
--- they begin with a load of the mark by pass p, and no other follows
+-- these steps begin with a load of the mark by pass p, and no other load of the mark follows
 abbrev pub IsRound : ℕ → List Event → Type 0
 IsRound p [] = ⊥
 IsRound p (Mark q mark ∷ events) = (q ≡ p) × Each IsNoMark events
@@ -40,7 +41,7 @@ IsRound p (_ ∷ events) = ⊥
 
 -- ---- its record
 
--- the mark that it loaded
+-- the mark that the round loaded
 abbrev pub mark_in : List Event → ℕ
 mark_in [] = 0
 mark_in (Mark p mark ∷ events) = mark
@@ -53,11 +54,12 @@ then_loaded (SampleMask p j mask) loaded = masked_in j mask loaded
 then_loaded (Move p j number true) loaded = moved_in j loaded
 then_loaded _ loaded = loaded
 
+-- what is loaded once all of these steps were made
 abbrev pub loaded_after : List (ℕ × Loaded) → List Event → List (ℕ × Loaded)
 loaded_after loaded [] = loaded
 loaded_after loaded (e ∷ events) = loaded_after (then_loaded e loaded) events
 
--- the record that it makes; of the logs it says nothing
+-- the record that these steps make; of the logs it says nothing
 abbrev pub round_record : List Event → PassRecord
 round_record events = record { mark = mark_in events; known = λ j. 0; loaded = loaded_after [] events }
 
@@ -69,19 +71,19 @@ pub record IsRoundOf (p : ℕ) (part : PassPart) (events : List Event) : Type 0 
 
 -- ---- what it did
 
--- its tries to move a snapshot: whose, at which number, and whether it was moved
+-- the round's tries to move a snapshot: of which session, at which number, and whether it was moved
 abbrev pub moves_in : List Event → List (ℕ × (ℕ × Bool))
 moves_in [] = []
 moves_in (Move p j number moved ∷ events) = (j, (number, moved)) ∷ moves_in events
 moves_in (_ ∷ events) = moves_in events
 
--- how many groups it took
+-- how many groups the round took
 abbrev pub takes_in : List Event → ℕ
 takes_in [] = 0
 takes_in (Take p mark ∷ events) = suc (takes_in events)
 takes_in (_ ∷ events) = takes_in events
 
--- how many versions it removed
+-- how many versions the round removed
 abbrev pub gone_in : List Event → ℕ
 gone_in [] = 0
 gone_in (Reclaim p kind rid n ∷ events) = n + gone_in events
@@ -113,7 +115,7 @@ pub record IsReportOf (kind : Kind) (events : List Event) (report : Report) : Ty
   pub removed_is : report.removed ≡ gone_in events
   pub entries_are : report.entries.list ≡ entries_of (round_record events).loaded
 
--- and as it is printed
+-- the report of a round, in the form in which it is printed
 abbrev pub round_told : Kind → List Event → Sweep
 round_told kind events = record { kind = kind; mark = mark_in events; horizon = horizon (round_record events); removed = gone_in events; held = map told_of (entries_of (round_record events).loaded) }
 

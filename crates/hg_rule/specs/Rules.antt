@@ -33,7 +33,7 @@ pub record ShowsWords (z : Sizes) (s : CoreState) (words : List ℕ) : Type 0 wh
   pub registers : (j : ℕ) → IsSession z.sessions j → slice_index words (register_at j) ≡ word_of (s.register j)
   pub masks : (j : ℕ) → slice_index words (mask_at j) ≡ s.mask j
 
--- a view tells the truth of the state
+-- all that a view says is true of the state
 pub record IsTrueOf (s : CoreState) (v : View) : Type 0 where
   pub parts : Each (Shown s) v.parts
   pub sights : Each (Known s) v.sights
@@ -58,7 +58,7 @@ pub record Rule (z : Sizes) (t : State ℕ View) : Type 0 where
   pub outside : (k : Key) → expected z used k ≡ 0 → Shown state (new_part k)
   pub shown : (i : ℕ) (v : View) → get_elem? t.views i ≡ some v → IsTrueOf state v
 
--- What a load of the mark tells of a view: some state that meets the invariant has this mark, and is as the view says. Who
+-- What a load of the mark says of a view: some state that meets the invariant has this mark, and is as the view says. A view that
 -- has all shares has all passes.
 pub record IsBacked (z : Sizes) (mark : ℕ) (v : View) : Type 0 where
   pub state : CoreState

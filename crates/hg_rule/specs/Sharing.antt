@@ -11,10 +11,11 @@ use Rattle.hg_rule.specs.Steps.{Seated}
 
 -- ---- shares
 
--- what a pass that is split gives of its share, and what it keeps
+-- what a pass that is split gives of its share
 abbrev pub given_of : ℕ → ℕ
 given_of share = share / 2
 
+-- what a pass that is split keeps of its share
 abbrev pub kept_of : ℕ → ℕ
 kept_of share = share - share / 2
 
@@ -25,14 +26,15 @@ MaySplit (suc n) share = (2 ≤ share) × MaySplit n (kept_of share)
 
 -- ---- a split
 
--- the pass keeps its record and its visits
+-- the pass's part after a split: it keeps its record and its visits
 abbrev pub halving : PassPart → PassPart
 halving part = record part { share = kept_of part.share }
 
--- the new one has that record, and no visits
+-- the new pass's part after a split: it has the same record, and no visits
 abbrev pub branching : PassPart → PassPart
 branching part = record part { visits = []; share = given_of part.share }
 
+-- the view of a pass after a split
 abbrev pub halved : View → View
 halved v = seeing (OfPass (number v) (halving (pass v)) ∷ others v) v.sights v.events
 
@@ -40,7 +42,7 @@ halved v = seeing (OfPass (number v) (halving (pass v)) ∷ others v) v.sights v
 abbrev pub branch : ℕ → View → View
 branch n v = seeing (OfPass n (branching (pass v)) ∷ []) v.sights []
 
--- before it leaves, it stands behind the first
+-- w is v in the middle of a split: the new pass's part follows the first, and has not left yet
 abbrev pub Buds : ℕ → View → View → Type 0
 Buds n v w = w ≡ seeing (OfPass (number v) (halving (pass v)) ∷ OfPass n (branching (pass v)) ∷ others v) v.sights v.events
 
@@ -50,32 +52,36 @@ Buds n v w = w ≡ seeing (OfPass (number v) (halving (pass v)) ∷ OfPass n (br
 abbrev pub HasOnlyPass : View → Type 0
 HasOnlyPass v = v.parts ≡ OfPass (number v) (pass v) ∷ []
 
--- the other's visits come before a pass's own, and its share is added
+-- the part of two passes that become one: the other's visits come before the pass's own, and its share is added
 abbrev pub uniting : PassPart → PassPart → PassPart
 uniting other part = record part { visits = other.visits ++ part.visits; share = part.share + other.share }
 
--- and what it had seen and done is the pass's own
+-- v after it was united with w: what w had seen and done is v's too
 abbrev pub united : View → View → View
 united v w = seeing (OfPass (number v) (uniting (pass w) (pass v)) ∷ others v) (v.sights ++ w.sights) (v.events ++ w.events)
 
--- before they are one, the other's part stands behind the first
+-- v in the middle of a union: the part of w follows the first, and they are not one yet
 abbrev pub rejoined : View → View → View
 rejoined v w = seeing (put_in v.parts w.parts) (v.sights ++ w.sights) (v.events ++ w.events)
 
--- the pass behind the first, and that there is one
+-- the pass's part that follows the first
 abbrev pub next_pass : View → PassPart
 next_pass v = pass_there (first_in (others v))
 
+-- the part that follows the first is a pass's
 abbrev pub HasNextPass : View → Type 0
 HasNextPass v = others v ≡ OfPass (part_number (others v)) (next_pass v) ∷ beyond v
 
+-- w is v after its first part and the pass's part that follows it became one
 abbrev pub Unites : View → View → Type 0
 Unites v w = w ≡ seeing (OfPass (number v) (uniting (next_pass v) (pass v)) ∷ beyond v) v.sights v.events
 
--- ---- the same as a step of the table tells it
+-- ---- the same steps, as the table plays them
 
+-- the step of `Buds`, for some number of the new pass
 abbrev pub budded : Step ℕ → Seated → ℕ → Seated → Type 0
 budded step m n w = ((p : ℕ) × Buds p m.0 w.0) × (w.1 ≡ m.1)
 
+-- the step of `Unites`
 abbrev pub unites : Step ℕ → Seated → ℕ → Seated → Type 0
 unites step m n w = Unites m.0 w.0 × (w.1 ≡ m.1)

@@ -131,7 +131,7 @@ Samples v j register w = w ≡ then_has v (OfPass (number v) (loading j register
 abbrev pub SamplesMask : View → ℕ → ℕ → View → Type 0
 SamplesMask v j mask w = w ≡ then_has v (OfPass (number v) (masking j mask (pass v)) ∷ others v) [] (SampleMask (number v) j mask)
 
--- a try tells whether the register was moved
+-- the parts of v after the pass tried to move session j's register, which was moved or was not
 abbrev pub after_try : Bool → ℕ → View → List Part
 after_try true j v = OfPass (number v) (moving j (pass v)) ∷ others v
 after_try false j v = v.parts
@@ -158,7 +158,7 @@ abbrev pub HasRegister : Register → Option Loaded → Type 0
 HasRegister register None = ⊥
 HasRegister register (Some loaded) = loaded.register ≡ register
 
--- ---- the same as a step of the table tells it: of the step, the seat before, the number found or stored, the seat after
+-- ---- the same steps, as the table plays them: each takes the step, the seat before, the number found or stored, and the seat after
 
 -- a view, and what else the seat has, which these steps leave as it is
 abbrev pub Seated : Type 0

@@ -1,5 +1,5 @@
--- Where the words stand. Eight words are a cache line: word 0 is the mark, and begins one, and each session has one, of which all
--- but two words are nobody's.
+-- The places of the words. Eight words are a cache line. Line 0 begins with the mark, and line j with the two words of session j;
+-- nobody uses the other words of a line.
 use Rattle.std.specs.Prelude.{ℕ, ◌+◌, ◌*◌}
 
 -- the register of session j

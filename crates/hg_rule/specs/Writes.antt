@@ -35,9 +35,11 @@ use Rattle.hg_rule.specs.Steps.{IsHistoryAt, Seated}
 use Rattle.atomic_table.specs.Table.{Step}
 use Rattle.hg_rule.specs.Holding.{bucket_number, bucket, HasBucket, beyond, held, writer, snapshot, tables}
 
+-- a session's part with another log
 abbrev pub with_log : List LogEntry → SessionPart → SessionPart
 with_log log part = record part { log = log }
 
+-- a session's part with this entry as the newest of its log
 abbrev pub with_entry : LogEntry → SessionPart → SessionPart
 with_entry entry part = record part { log = entry ∷ part.log }
 
@@ -55,7 +57,7 @@ AreShown v (Read table low high) rows = AreRows (λ key. read_by (writer v) (sna
 AreShown v (Write rid) rows = rows ≡ []
 AreShown v (Outside table) rows = rows ≡ []
 
--- the log after it, where the mark is n: a write logs how the content held and that mark refuse it, or nothing
+-- the log after a look, where the mark is n: a write logs how the content held and that mark refuse it, or nothing
 abbrev pub log_asked : View → Ask → ℕ → List (ℕ × List Value) → List LogEntry
 log_asked v (Read table low high) n rows = entries.Saw table low high (bucket_number v) rows ∷ (session v).log
 log_asked v (Write rid) n rows = with_refusal rid (refusal n (writer v) (snapshot v) (held v rid)) (session v).log
@@ -85,19 +87,23 @@ pub record TrulyLooks (z : Sizes) (v : View) (ask : Ask) (n : ℕ) (w : View) : 
 abbrev pub IsOwnOrSeen : Writer → ℕ → Version → Type 0
 IsOwnOrSeen w at version = elim version.stamp [ Written by ↦ by ≡ w | Numbered number by ↦ number ≤ at | Oldest number ↦ number ≤ at ]
 
+-- a bucket's part after transaction w wrote the image to the record; a new version counts as made
 abbrev pub installing : Writer → Rid → Image → BucketPart → BucketPart
 installing w rid image part = record {
   content = store rid (installed w image (look rid part.content)) part.content;
   counters = record part.counters { made = part.counters.made + added (look rid part.content) };
 }
 
+-- a bucket's part after the open write of the record was taken back, which is counted
 abbrev pub undoing : Rid → BucketPart → BucketPart
 undoing rid part = record { content = store rid (undone (look rid part.content)) part.content; counters = record part.counters { undone = suc part.counters.undone } }
 
+-- w is v after its session wrote the image to the record in the bucket held, and logged it
 abbrev pub Installs : View → Rid → Image → View → Type 0
 Installs v rid image w = w ≡ then_has v (OfSession (number v) (with_entry (entries.Wrote rid image) (session v)) ∷ OfBucket (bucket_number v) (installing (writer v) rid image (bucket v)) ∷ beyond v)
     (Heard (number v) (entries.Wrote rid image ∷ (session v).log) ∷ []) (Install (number v) rid image)
 
+-- w is v after its session took its open write of the record back, and logged it
 abbrev pub Undoes : View → Rid → View → Type 0
 Undoes v rid w = w ≡ then_has v (OfSession (number v) (with_entry (entries.Undid rid) (session v)) ∷ OfBucket (bucket_number v) (undoing rid (bucket v)) ∷ beyond v)
     (Heard (number v) (entries.Undid rid ∷ (session v).log) ∷ []) (Undo (number v) rid)
@@ -111,27 +117,32 @@ IsGoing owner (Did e) = ⊤
 
 -- ---- a group
 
+-- a bucket's part after w's open write of the record got this number
 abbrev pub stamping : ℕ → Writer → Rid → BucketPart → BucketPart
 stamping number w rid part = record part { content = store rid (stamped number w (look rid part.content)) part.content }
 
+-- a session's part that is noted to have a write with the next number
 abbrev pub with_stamp : SessionPart → SessionPart
 with_stamp part = record part { stamped = true }
 
+-- a session's part after its transaction was published under n
 abbrev pub with_published : ℕ → SessionPart → SessionPart
 with_published n part = record part { log = entries.Published n ∷ part.log; stamped = false }
 
--- one more write has the next number
+-- the committer's part after session j's write of the record got the next number
 abbrev pub listing : ℕ → Rid → CommitPart → CommitPart
 listing j rid part = record part { stamped = (j, rid) ∷ part.stamped }
 
--- ---- the same as a step of the table tells it
+-- ---- the same steps, as the table plays them
 
--- and the view is true
+-- the step of `TrulyLooks`: a look, after which the view is true
 abbrev pub asked : Sizes → Ask → Step ℕ → Seated → ℕ → Seated → Type 0
 asked z ask step m n w = TrulyLooks z m.0 ask n w.0 × (w.1 ≡ m.1)
 
+-- the step of `Installs`
 abbrev pub wrote : Rid → Image → Step ℕ → Seated → ℕ → Seated → Type 0
 wrote rid image step m n w = Installs m.0 rid image w.0 × (w.1 ≡ m.1)
 
+-- the step of `Undoes`
 abbrev pub undid : Rid → Step ℕ → Seated → ℕ → Seated → Type 0
 undid rid step m n w = Undoes m.0 rid w.0 × (w.1 ≡ m.1)

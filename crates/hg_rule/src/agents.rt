@@ -6,7 +6,7 @@
 //! with the part as it was and the mark of that moment. Then no other step of that session is possible: the holder of the part can stamp
 //! and publish, and nothing else. While the committer's part is joined to the leader's pass (`join_commit`), nobody else stores the mark.
 //! `stamp` gives an open write the next number, in a bucket that is joined as well. `publish` stores that number: the lent parts that
-//! follow the committer's join the history as one group, in their order. So a part comes back as it left, or with one commit number more,
+//! follow the committer's join the history as one group, in their order. So a part returns as it left, or with one commit number more,
 //! which is over the mark in the note (`resume`).
 //!
 //!     pass of leader 2                               on the way   pass of 5       pass of 3
@@ -22,8 +22,9 @@
 //!
 //! # A collector's pass, from `mark` to `take_group`
 //!
-//! `mark` begins a record, and `sample` and `sample_mask` load what each session's words show into it. `move_one` marks a snapshot as moved.
-//! By a whole record `reclaim` removes what no snapshot needs, in a bucket that is joined. `take_group` takes from the committer's list.
+//! `mark` begins a record, and `sample` and `sample_mask` load what each session's words show into it. `move_one` marks a snapshot as
+//! moved. By a whole record `reclaim` removes what no snapshot needs, in a bucket that is joined. `take_group` takes a group out of the
+//! committer's list.
 
 ghost use Rattle.std.specs.Prelude.{◌≡◌, ◌≤◌, ◌<◌, suc, length, false, None, IsTrue};
 ghost use Rattle.hg_core.specs.Words.{IsRegister, number_of};
@@ -55,8 +56,8 @@ use hg_core::Register;
 use std::marker::Brand;
 
 impl Board {
-    /// The session's phase and log leave for the seat. Until they are back, this pass makes no step of its own session. The answer
-    /// is the mark beside the seat.
+    /// Moves the session's phase and log into a new seat. Until they are back, this pass makes no step of its own session. The answer
+    /// is the mark, and that seat.
     pub fn hand_over(&self, pass: &mut SessionPass) -> (u64, TxSeat)
         requires own { IsSessionOf (board_id self.now) (sizes_of self.now) pass.old }
         requires unstamped { (session (session_view pass.old)).stamped ≡ false }
@@ -74,7 +75,7 @@ impl Board {
         (mark, TxSeat { number, seat })
     }
 
-    /// What was handed over comes behind all that the pass has. The answer is the mark.
+    /// Appends what was handed over to all that the pass has. The answer is the mark.
     pub fn receive<P: Pass>(&self, pass: &mut P, seat: TxSeat) -> u64
         requires own { IsSeatOf (board_id self.now) (P.seat_of pass.old) }
         requires tx { IsTxOf (board_id self.now) seat }
@@ -147,7 +148,7 @@ impl Board {
             .store::<Publishing>(&mut pass.seat, 0, number);
     }
 
-    /// What stands behind the pass's first part, which was handed over by this session, leaves for its owner.
+    /// Gives the part that follows the pass's first one back to the session that handed it over.
     pub fn hand_back<P: Pass>(&self, pass: &mut P, session: u32) -> TxSeat
         requires own { IsSeatOf (board_id self.now) (P.seat_of pass.old) }
         requires next { HasLent session (view (P.seat_of pass.old)) }
@@ -166,7 +167,7 @@ impl Board {
         }
     }
 
-    /// The session's own part comes back, as it was, or with one commit number over the mark at which it was handed over.
+    /// Takes the session's own part back: it is as it was, or has one commit number more, over the mark at which it was handed over.
     pub fn resume(&self, pass: &mut SessionPass, seat: TxSeat)
         requires own { IsAwayOf (board_id self.now) (sizes_of self.now) pass.old }
         requires tx { IsTxOf (board_id self.now) seat × (seat.number ≡ pass.old.number) }
@@ -183,7 +184,7 @@ impl Board {
 }
 
 impl Board {
-    /// Loads the mark, which begins a record with what the pass has seen.
+    /// Loads the mark, and begins a record with what the pass has seen.
     pub fn mark(&self, pass: &mut CollectorPass) -> u64
         requires own { IsPassOf (board_id self.now) pass.old }
         ensures step { Marks (pass_view pass.old) result (pass_view pass.new) }
@@ -256,7 +257,7 @@ impl Board {
         self.table.shared.load::<Reclaiming<A>>(&mut pass.seat, 0);
     }
 
-    /// Takes away what the kind of collector removes of this record by the pass's record, which is whole, and counts it.
+    /// Removes the versions of a record that this kind of collector removes by the pass's record, which is whole, and counts them.
     pub fn reclaim(&self, pass: &mut CollectorPass, rid: Rid, kind: Kind)
         requires own { IsPassOf (board_id self.now) pass.old }
         requires whole { IsWhole (sizes_of self.now).sessions

@@ -1,7 +1,7 @@
 //! The board itself: its words under the rule, and a new board with all its seats.
 //!
 //! The protocol here is that of the parts under locks. A bucket's part of the state, or the committer's, comes to a pass (`join_bucket`,
-//! `join_commit`) and leaves it again (`split_bucket`, `split_commit`). Each join looks at the mark: then all is known that the rule says
+//! `join_commit`) and leaves it again (`split_bucket`, `split_commit`). Each join loads the mark, and so learns all that the rule says
 //! of the view (`look_at`, `know_all`).
 
 ghost use Rattle.std.specs.Prelude.{◌≡◌, ℕ, ◌<◌, ◌^◌};
@@ -35,7 +35,7 @@ impl TableRule<u8, View, Sizes> for Law {
 }
 
 /// The mark, and of each session its register and the mask of its tables. The mark has a cache line of its own, and so has each
-/// session: so who stores in one doesn't take another away from a processor that reads it.
+/// session: a store in one line does not take another line away from a processor that reads it.
 #[derive(Drop)]
 pub struct Board {
     pub(crate) table: Table<u8, View, Sizes, Law, Global>,
@@ -49,7 +49,8 @@ impl Board {
     ghost use Rattle.hg_rule.specs.Seats.{board_id, sizes_of};
     ghost use Rattle.hg_rule.specs.New.{EachFrom, IsNewSession, IsNewBucket, IsNewPass, IsNewCommit};
 
-    /// A board of these numbers, and each of its seats. Its mark is 0, its registers are idle, its masks are 0, and nobody has done anything.
+    /// A board of these sizes, and each of its seats. Its mark is 0, its registers are idle, its masks are 0, and no seat has made a
+    /// step yet.
     pub fn new(
         alloc: Global,
         sessions: u32,
@@ -115,7 +116,7 @@ impl Board {
         self.table.shared.load::<Looking<A>>(pass.seat(), 0)
     }
 
-    /// Loads the mark, and leaves the view. All that the rule says of the view is known then.
+    /// Loads the mark, and leaves the view as it is. Afterwards all is known that the rule says of the view.
     pub fn look_at<P: Pass>(&self, pass: &mut P) -> u64
         requires own { IsSeatOf (board_id self.now) (P.seat_of pass.old) }
         ensures backed { IsBacked (sizes_of self.now) result (view (P.seat_of pass.new)) }
@@ -150,7 +151,7 @@ impl Board {
     ghost use Rattle.hg_rule.specs.Places.{HasFirst, HoldsBucket, HoldsCommit, with_bucket, without_bucket, bucket_alone, without_commit, commit_alone};
     ghost use Rattle.hg_rule.specs.Seats.{board_id, sizes_of, view, bucket_view, commit_view, IsSeatOf, IsBucketOf, IsCommitOf};
 
-    /// The bucket's part comes behind the pass's own. A collector's pass begins a visit. The answer is the mark.
+    /// Joins the bucket's part, after the pass's own. A collector's pass begins a visit. The answer is the mark.
     pub fn join_bucket<P: Pass>(&self, pass: &mut P, bucket: BucketSeat) -> u64
         requires own { IsSeatOf (board_id self.now) (P.seat_of pass.old) ×
             HasFirst (view (P.seat_of pass.old)) }
@@ -167,7 +168,7 @@ impl Board {
         self.look_at(pass)
     }
 
-    /// The bucket's part, which was joined last, leaves. A collector's visit is over.
+    /// Splits off the bucket's part, which was joined last. A collector's visit is over.
     pub fn split_bucket<P: Pass>(&self, pass: &mut P, number: u32) -> BucketSeat
         requires own { IsSeatOf (board_id self.now) (P.seat_of pass.old) }
         requires holds { HoldsBucket number (view (P.seat_of pass.old)) }
@@ -182,7 +183,7 @@ impl Board {
         BucketSeat { number, seat }
     }
 
-    /// The committer's part comes behind the pass's own. The answer is the mark, which nobody else stores until that part is
+    /// Joins the committer's part, after the pass's own. The answer is the mark, which nobody else stores until that part is
     /// split off again.
     pub fn join_commit<P: Pass>(&self, pass: &mut P, seat: CommitSeat) -> u64
         requires own { IsSeatOf (board_id self.now) (P.seat_of pass.old) ×
@@ -202,7 +203,7 @@ impl Board {
         self.look_at(pass)
     }
 
-    /// The committer's part, which was joined last, leaves.
+    /// Splits off the committer's part, which was joined last.
     pub fn split_commit<P: Pass>(&self, pass: &mut P) -> CommitSeat
         requires own { IsSeatOf (board_id self.now) (P.seat_of pass.old) }
         requires holds { HoldsCommit (view (P.seat_of pass.old)) }

@@ -42,7 +42,7 @@ fn meet<P: Pass, Q: Pass>(board: &Board, pass: &mut P, other: &mut Q) -> u64
     mark
 }
 
-// The other's parts come behind the first, and what it had seen and done is known.
+// The other's parts come after the first, and what it had seen and done is known.
 fn take_in<P: Pass>(board: &Board, pass: &mut P, other: Seat<u8, View>) -> u64
     requires own { IsSeatOf (board_id board.now) (P.seat_of pass.old) ×
         IsSeatOf (board_id board.now) other }
@@ -73,7 +73,7 @@ impl SessionPass {
         meet(board, self, other);
     }
 
-    /// Its part of the state goes to a collector's pass for good, which then knows what it had seen and done.
+    /// Gives its part of the state to a collector's pass for good, which then knows what it had seen and done.
     pub fn finish(self, board: &Board, pass: &mut CollectorPass)
         requires own { IsSessionOf (board_id board.now) (sizes_of board.now) self ×
             IsPassOf (board_id board.now) pass.old }
@@ -106,7 +106,7 @@ impl CollectorPass {
         meet(board, self, other);
     }
 
-    /// The other's parts go to this pass, which then knows what that had seen and done. Its own record stays.
+    /// Moves the other's parts to this pass, which then knows what the other had seen and done. Its own record stays.
     pub fn join(&mut self, board: &Board, other: CollectorPass)
         requires own { IsPassOf (board_id board.now) self.old ×
             IsPassOf (board_id board.now) other }
@@ -120,7 +120,7 @@ impl CollectorPass {
 }
 
 impl CollectorPass {
-    /// A pass more, which has this one's record, no visits, and half of its share. It has seen what this one has.
+    /// Splits off one more pass, which has this one's record, no visits, and half of its share. It has seen what this one has.
     pub fn split(&mut self, board: &Board) -> CollectorPass
         requires own { IsPassOf (board_id board.now) self.old }
         requires share { 2 ≤ (own_pass (pass_view self.old)).share }
@@ -135,8 +135,8 @@ impl CollectorPass {
         CollectorPass { seat }
     }
 
-    /// The other's visits, steps and share come to this pass, which has seen then what that had seen. Its own record stays, and the
-    /// other's is forgotten: there is one pass less.
+    /// Moves the other's visits, steps and share to this pass, which then has seen what the other had seen. Its own record stays, and
+    /// the other's is forgotten: there is one pass less.
     pub fn unite(&mut self, board: &Board, other: CollectorPass)
         requires own { IsPassOf (board_id board.now) self.old ×
             IsPassOf (board_id board.now) other }

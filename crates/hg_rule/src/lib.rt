@@ -45,7 +45,8 @@
 //!
 //! The other calls join and split seats. To read or change a bucket, a pass first joins the bucket's seat (`join_bucket`). Then a session
 //! can `look`, `install` and `undo` there, and a collector can `reclaim`. A collector's visit of the bucket begins with the join, and ends
-//! when it gives the bucket back (`split_bucket`). `agents.rt` says how a session's part goes to the leader that commits it, and comes back.
+//! when it gives the bucket back (`split_bucket`). `agents.rt` says how a session's part goes to the leader that commits it, and
+//! returns.
 //!
 //! A load of the mark can say more: that some state which meets the rule agrees with the view (`look_at`). What two passes learn when they
 //! meet (`meet`), and what a pass knows to which all others were joined (`know_all`), are lemmas over that one fact.

@@ -16,7 +16,7 @@ impl Join<View> for Joining {
     ghost spent = { spent };
 }
 
-/// What the other did stays known.
+/// Another seat's parts join the first, and its steps stay known.
 pub(crate) struct Merging;
 
 impl Join<View> for Merging {
@@ -34,7 +34,7 @@ impl Split<View> for Giving {
     ghost right = { right_given };
 }
 
-/// The part behind the first leaves.
+/// The part that follows the first leaves.
 pub(crate) struct Returning;
 
 impl Split<View> for Returning {
@@ -52,7 +52,7 @@ impl Split<View> for Dealing {
     ghost right = { right_first };
 }
 
-/// A bucket's part comes behind the first, and a collector's visit begins.
+/// A bucket's part joins the first, and a collector's visit begins.
 pub(crate) struct Arriving;
 
 impl Join<View> for Arriving {
@@ -79,7 +79,7 @@ impl Split<View> for Resigning {
     ghost right = { commit_alone };
 }
 
-/// What was handed over comes behind all else.
+/// What was handed over is appended to all else.
 pub(crate) struct Receiving;
 
 impl Join<View> for Receiving {
@@ -88,7 +88,7 @@ impl Join<View> for Receiving {
     ghost spent = { spent };
 }
 
-/// The part behind the first is handed back.
+/// The part that follows the first is handed back.
 pub(crate) struct HandingBack;
 
 impl Split<View> for HandingBack {
@@ -97,7 +97,7 @@ impl Split<View> for HandingBack {
     ghost right = { right_second };
 }
 
-/// What was split off comes behind the first. What it did is the pass's own.
+/// What was split off joins the first again. What it did is the pass's own.
 pub(crate) struct Rejoining;
 
 impl Join<View> for Rejoining {

@@ -26,14 +26,14 @@ pub struct CollectorPass {
     pub(crate) seat: Seat<u8, View>,
 }
 
-/// The seat of a bucket, which lies beside its content.
+/// The seat of a bucket, kept next to the bucket's content.
 #[derive(Drop)]
 pub struct BucketSeat {
     pub(crate) number: u32,
     pub(crate) seat: Seat<u8, View>,
 }
 
-/// The committer's seat, which lies beside its list.
+/// The committer's seat, kept next to its list.
 #[derive(Drop)]
 pub struct CommitSeat {
     pub(crate) seat: Seat<u8, View>,
@@ -46,13 +46,13 @@ pub struct TxSeat {
     pub(crate) seat: Seat<u8, View>,
 }
 
-/// Who owns a seat lends it to the board's calls. What it says besides stays.
+/// A type that owns a seat, which the board's calls borrow. Its other fields stay as they are.
 pub trait Pass {
     ghost seat_of: { Self → Seat ℕ View };
 
     ghost with_seat: { Self → Seat ℕ View → Self };
 
-    /// What stands beside the seat.
+    /// The fields other than the seat, as numbers.
     ghost rest_of: { Self → ℕ × ℕ };
 
     fn seat(&mut self) -> &mut Seat<u8, View>

@@ -57,7 +57,7 @@ impl Board {
         self.declare_as::<Brand>(pass, scope);
     }
 
-    /// Loads the mark, of which nobody knows yet.
+    /// Loads the mark, which the session's register does not show yet.
     pub fn probe(&self, pass: &mut SessionPass) -> u64
         requires own { IsSessionOf (board_id self.now) (sizes_of self.now) pass.old }
         requires declared { (session (session_view pass.old)).phase ≡
@@ -68,7 +68,7 @@ impl Board {
         self.table.shared.load::<Probing>(&mut pass.seat, 0)
     }
 
-    /// Shows that the session enters at the mark that it loaded.
+    /// Stores in the register that the session enters at the mark that it loaded.
     pub fn enter(&self, pass: &mut SessionPass, f: u64)
         requires own { IsSessionOf (board_id self.now) (sizes_of self.now) pass.old }
         requires probed { ((session (session_view pass.old)).phase ≡
@@ -96,8 +96,8 @@ impl Board {
 }
 
 impl Board {
-    /// Shows the second mark as the snapshot, and whether tables were declared. The scope is the one that was declared. It is logged
-    /// as begun.
+    /// Stores the second mark as the snapshot, and whether tables were declared. The scope is the one that was declared. The
+    /// transaction is logged as begun.
     pub fn go_live(&self, pass: &mut SessionPass, m: u64, scope: Scope)
         requires own { IsSessionOf (board_id self.now) (sizes_of self.now) pass.old }
         requires fixed { ((session (session_view pass.old)).phase ≡
@@ -147,8 +147,8 @@ impl Board {
         self.table.shared.load::<Asking<A>>(&mut pass.seat, 0)
     }
 
-    /// Logs what the content held and the mark give for what is asked. The answer is the mark. All that the rule says of the
-    /// view is known then, and the log of every session as it is.
+    /// Logs the reply that the content held and the mark give to what is asked. The answer is the mark. Afterwards all is known
+    /// that the rule says of the view, and the log of every session as it is.
     pub fn look(&self, pass: &mut SessionPass, ask: &Ask) -> u64
         requires own { IsSessionOf (board_id self.now) (sizes_of self.now) pass.old }
         requires live { IsSome (snapshot_in (session (session_view pass.old)).phase) }
@@ -217,7 +217,7 @@ impl Board {
         self.table.shared.load::<Undoing<A>>(&mut pass.seat, 0);
     }
 
-    /// Takes an open write back, which is logged.
+    /// Takes an open write back, and logs that.
     pub fn undo(&self, pass: &mut SessionPass, rid: Rid)
         requires own { IsSessionOf (board_id self.now) (sizes_of self.now) pass.old }
         requires unstamped { (session (session_view pass.old)).stamped ≡ false }

@@ -1,5 +1,5 @@
-//! What each step makes of the view of the pass that makes it. The traits come first: what a step is told besides its words. Each call
-//! picks it.
+//! What each step makes of the view of the pass that makes it. The traits come first: each names what a step depends on besides the
+//! words, such as the record that is written. The call that makes the step sets it.
 
 ghost use Rattle.hg_base.specs.declared.rid.Rid.{Rid};
 ghost use Rattle.hg_base.specs.declared.scope.Scope.{Scope};
@@ -138,7 +138,7 @@ impl Play<u8, View> for Ending {
     ghost then = { ended };
 }
 
-/// A look logs what it finds.
+/// A look, which logs what it finds.
 pub(crate) struct Asking<A> {
     ask: PhantomData<A>,
 }
@@ -201,14 +201,14 @@ impl Play<u8, View> for Taking {
     ghost then = { took };
 }
 
-/// The own part is handed over, and stands behind its place.
+/// The own part is handed over, and follows its place until it leaves.
 pub(crate) struct Lending;
 
 impl Play<u8, View> for Lending {
     ghost then = { lends };
 }
 
-/// It comes back from there.
+/// The own part returns to its place.
 pub(crate) struct Retaking;
 
 impl Play<u8, View> for Retaking {
@@ -229,21 +229,21 @@ impl Play<u8, View> for Publishing {
     ghost then = { publishes };
 }
 
-/// A pass more stands behind the first, with its record.
+/// One more pass follows the first, with the first one's record.
 pub(crate) struct Budding;
 
 impl Play<u8, View> for Budding {
     ghost then = { budded };
 }
 
-/// The pass behind the first becomes one with it.
+/// The pass that follows the first becomes one with it.
 pub(crate) struct Uniting;
 
 impl Play<u8, View> for Uniting {
     ghost then = { unites };
 }
 
-/// A load of the mark that leaves the view.
+/// A load of the mark that leaves the view as it is.
 pub(crate) struct Looking<A> {
     sizes: PhantomData<A>,
 }

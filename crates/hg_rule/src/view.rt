@@ -12,22 +12,22 @@ pub struct SessionPart {
     pub stamped: bool,
 }
 
-/// A bucket's: its records with their versions, and its counters.
+/// A bucket's part of the state: its records with their versions, and its counters.
 pub struct BucketPart {
     pub content: [(Rid, [Version; 0]); 0],
     pub counters: Counters,
 }
 
-/// The committer's: the history, the writes that have the next number, each with its session, and how many groups were
-/// taken out of its list.
+/// The committer's part of the state: the history, the writes that have the next number, each with its session, and how many
+/// groups were taken out of its list.
 pub struct CommitPart {
     pub history: Groups,
     pub stamped: [(u64, Rid); 0],
     pub taken: u64,
 }
 
-/// A collector pass's: its record with what it had seen when the record began, what it loaded of sessions since, the last one
-/// first, and its visits, newest first. The shares of all passes add up to the same always, and none is 0.
+/// A collector pass's part of the state: its record with what it had seen when the record began, what it loaded of sessions
+/// since, the last one first, and its visits, newest first. No pass's share is 0, and the sum of all shares never changes.
 pub struct PassPart {
     pub mark: u64,
     pub seen: [Sight; 0],
@@ -48,13 +48,13 @@ pub enum Part {
     Lent(u64, SessionPart),
 }
 
-/// What was seen, which stays true.
+/// What a seat has seen. It stays true.
 pub enum Sight {
-    /// The history begins so.
+    /// The history begins with these groups.
     Saw(Groups),
-    /// The log of a session ends so, in its oldest entries.
+    /// The log of a session ends with these entries, its oldest.
     Heard(u64, [LogEntry; 0]),
-    /// At least so many groups were taken.
+    /// At least this many groups were taken.
     Took(u64),
     /// A step of a pass that was joined to this one.
     Did(Event),
@@ -123,7 +123,7 @@ pub enum Event {
         session: u64,
         mask: u64,
     },
-    /// Whether the register still was live at this number, and so was moved.
+    /// A try to move a snapshot: it was moved if the register still was live at this number.
     Move {
         pass: u64,
         session: u64,

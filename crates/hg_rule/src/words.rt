@@ -1,4 +1,4 @@
-//! The words of the board: where each stands, and what a register shows.
+//! The words of the board: the place of each, and what a register shows.
 
 ghost use Rattle.std.specs.Prelude.{◌≡◌};
 ghost use Rattle.hg_base.specs.Freshness.{is_declared};
@@ -11,14 +11,14 @@ use hg_core::Register;
 // How many words a cache line has.
 const LINE: usize = 8;
 
-// Where the register of a session stands.
+// The place of a session's register.
 pub(crate) fn register_at(session: u32) -> usize
     ensures { result ≡ register_at session }
 {
     LINE * session as usize
 }
 
-// Where the mask of its tables stands.
+// The place of the mask of its tables.
 pub(crate) fn mask_at(session: u32) -> usize
     ensures { result ≡ mask_at session }
 {
