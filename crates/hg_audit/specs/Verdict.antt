@@ -29,6 +29,7 @@ IsJudgedAs script lines replay = IsFalse (list_any is_session_report lines) → 
 
 -- ---- what fails first, and where
 
+-- the kind of a fault, as a verdict prints it
 abbrev pub why_of : Fault → Why
 why_of (in_shape k) = whys.Shape
 why_of in_commits = whys.Commits
@@ -40,6 +41,7 @@ why_of in_totals = whys.Totals
 abbrev pub first_record : Script → Printed → ℕ → ℕ
 first_record script printed k = suc (length (flat_map (line_records script.tables) (take k printed.lines)))
 
+-- the last record of the printed text
 abbrev pub last_record : Script → Printed → ℕ
 last_record script printed = length (text_records script printed)
 
@@ -67,6 +69,7 @@ IsOfRun script printed (Some verdict) = (rounds : ℕ) × HasShape (in_order (ru
 
 -- ---- the text of a verdict
 
+-- the word that a verdict prints for a kind of fault
 abbrev pub why_text : Why → List ℕ
 why_text whys.Text = codes "Text"
 why_text whys.Shape = codes "Shape"

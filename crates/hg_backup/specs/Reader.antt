@@ -24,18 +24,20 @@ reader_of script = suc (max 1 (greatest (map (λ (r : Record). r.session) script
 
 -- ---- its records and lines
 
--- a statement of session j, and its line; they are at no place of a script
+-- a statement of session j, which is at no place of a script
 abbrev pub asked : ℕ → Statement → Record
 asked j statement = record { place = 0; session = j; statement = statement }
 
+-- the line of such a statement
 abbrev pub answered : ℕ → Answer → Line
 answered j answer = record { session = j; place = 0; reply = record { at = None; answer = answer; number = None } }
 
--- at each of these snapshots a transaction of all tables, which ends without a write
+-- what session j asks: at each of these snapshots a transaction of all tables, which ends without a write
 abbrev pub read_records : ℕ → List ℕ → List Record
 read_records j [] = []
 read_records j (at ∷ ats) = asked j (Begin All) ∷ asked j CommitIt ∷ read_records j ats
 
+-- the lines of these transactions, each of which begins at its snapshot
 abbrev pub read_lines : ℕ → List ℕ → List Line
 read_lines j [] = []
 read_lines j (at ∷ ats) = answered j (Begun at) ∷ answered j Ended ∷ read_lines j ats

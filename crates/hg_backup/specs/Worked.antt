@@ -36,6 +36,7 @@ printed number moved = record {
 
 -- ---- its dump
 
+-- the one row of the dump
 abbrev pub rows : List Kept
 rows = record { rid = five; row = Number (pos 7) ∷ [] } ∷ []
 

@@ -30,6 +30,7 @@ pub record IsStillOpen (earlier : List Said) (r : Rid) (writer : Writer) : Type 
   pub does : IsSome (image_in r (stored_in writer.session writer.transaction earlier))
   pub opened : IsFalse (list_any ends (filter (is_of writer.session writer.transaction) earlier))
 
+-- what has to hold of a replay's text only
 abbrev pub OnReplay : Mode → Type 0 → Type 0
 OnReplay replay P = P
 OnReplay (run rounds) P = ⊤

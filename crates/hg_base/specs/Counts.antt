@@ -14,11 +14,12 @@ use Rattle.hg_base.specs.Shape.{same_kind, report_of}
 abbrev pub first_write : List Said → Said → Option Said
 first_write earlier now = if option_map_or (λ w. is_none (image_in w.rid (own_writes earlier now))) (stored now) false then Some now else None
 
--- one line for each record that a transaction writes
+-- of these lines, after the earlier ones, each first write of a record by its transaction
 abbrev pub first_writes_from : List Said → List Said → List Said
 first_writes_from earlier [] = []
 first_writes_from earlier (now ∷ later) = cons_option (first_write earlier now) (first_writes_from (now ∷ earlier) later)
 
+-- of all lines, each first write of a record by its transaction
 abbrev pub first_writes : List Said → List Said
 first_writes all = first_writes_from [] all
 

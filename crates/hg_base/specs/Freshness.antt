@@ -17,25 +17,28 @@ use Rattle.hg_base.specs.Transcript.{Said, open_of, committed, greatest_commit}
 use Rattle.hg_base.specs.Shape.{same_kind, report_of, IsReportOf}
 use Rattle.hg_base.specs.Conflicts.{OnReplay}
 
--- the snapshot that a line prints, and the number of a newer commit
+-- the snapshot that a line prints
 abbrev pub snapshot_of : Said → Option ℕ
 snapshot_of said = elim said.reply.answer [ Begun s ↦ Some s | _ ↦ said.reply.at ]
 
+-- the number of the newer commit for which a line refuses a write
 abbrev pub newer_of : Said → Option ℕ
 newer_of said = elim said.reply.answer [ Newer c ↦ Some c | _ ↦ None ]
 
--- every snapshot, commit number and `newer` number of a line, and of the session's lines before
+-- every snapshot, commit number and `newer` number of a line
 abbrev pub numbers_of : Said → List ℕ
 numbers_of said = present (snapshot_of said ∷ committed said ∷ newer_of said ∷ [])
 
+-- every such number of the earlier lines of session j
 abbrev pub known : ℕ → List Said → List ℕ
 known j earlier = flat_map numbers_of (filter (λ said. said.session == j) earlier)
 
--- the session's open transaction with its snapshot, and those of all sessions, by session
+-- a session with the snapshot of its open transaction
 abbrev pub open_snapshot : ℕ → Option Said → Option (ℕ × ℕ)
 open_snapshot j None = None
 open_snapshot j (Some said) = Some (j, said.at)
 
+-- the sessions with an open transaction, each with its snapshot, by ascending session
 abbrev pub open_snapshots : List Said → List (ℕ × ℕ)
 open_snapshots earlier = filter_map (λ j. open_snapshot j (open_of j earlier)) (numbers_from 1 (greatest (map (λ said. said.session) earlier)))
 
@@ -52,6 +55,7 @@ pub record IsExact (earlier : List Said) (now : Said) : Type 0 where
   pub newer : IfSome (newer_of now) (λ c. IsTrue (list_any (λ n. n == c) (filter_map committed earlier)))
   pub report : IfSome (report_of now.reply) (IsReplayed earlier now.statement)
 
+-- whether a scope names its tables
 abbrev pub is_declared : Scope → Bool
 is_declared All = false
 is_declared (Declared mask) = true

@@ -51,6 +51,7 @@ abbrev pub group_from : ℕ → History → ℕ → Group
 group_from first [] n = []
 group_from first (group ∷ groups) n = if first == n then group else group_from (suc first) groups n
 
+-- the group with number n, where the first has number 1; no commits where there is no such group
 abbrev pub group_at : History → ℕ → Group
 group_at h n = group_from 1 h n
 
@@ -73,10 +74,11 @@ abbrev pub NoNumberTwice : List ℕ → Type 0
 NoNumberTwice [] = ⊤
 NoNumberTwice (n ∷ ns) = IsFalse (list_any (λ m. m == n) ns) × NoNumberTwice ns
 
--- the records that are written, by one list of writes and by a group
+-- the records that these writes are of
 abbrev pub rids_of : List Write → List Rid
 rids_of images = map (λ w. w.rid) images
 
+-- the records that a group writes
 abbrev pub group_rids : Group → List Rid
 group_rids group = flat_map (λ c. rids_of c.images) group
 

@@ -7,6 +7,7 @@ use Rattle.hg_base.specs.declared.number.Natural.TheVariants.{No, Over, Is}
 use Rattle.hg_base.specs.declared.number.Integer.{Integer}
 use Rattle.hg_base.specs.declared.number.Integer.TheVariants as signed
 
+-- whether a byte is one of the digits 0 to 9
 abbrev pub is_digit : ℕ → Bool
 is_digit c = nat_le 48 c && nat_le c 57
 
@@ -41,14 +42,17 @@ integer_of text = if slice_index text 0 == 45 then minus (natural_of (drop 1 tex
 
 -- ---- what a field is
 
+-- whether a field is not written as a number
 abbrev pub is_no : Natural → Bool
 is_no No = true
 is_no _ = false
 
+-- whether a field is a number out of range
 abbrev pub is_over : Natural → Bool
 is_over Over = true
 is_over _ = false
 
+-- whether a field is a number from `low` to `high`
 abbrev pub is_between : ℕ → ℕ → Natural → Bool
 is_between low high (Is k) = nat_le low k && nat_le k high
 is_between low high _ = false

@@ -17,6 +17,7 @@ use Rattle.hg_base.specs.Script.{Mode, replay, run}
 use Rattle.hg_base.specs.History.{Write, History, seen}
 use Rattle.hg_base.specs.Transcript.{Said, Rest, has, passed, rest_in, stored, own_writes}
 
+-- the answer to a begin
 abbrev pub IsBegun : Answer → Type 0
 IsBegun (Begun s) = ⊤
 IsBegun _ = ⊥
@@ -48,6 +49,7 @@ pub record AreRows (look : ℕ → Image) (low : ℕ) (high : ℕ) (rows : List 
   pub each : Each (λ p. (low ≤ p.0) × (p.0 ≤ high) × ((look p.0).row ≡ Some p.1)) rows
   pub every : (key : ℕ) → low ≤ key → key ≤ high → IsTrue (list_any (λ p. p.0 == key) rows) ⊎ ((look key).row ≡ None)
 
+-- the answer to a scan: each row of the range that is seen
 abbrev pub IsScanned : (ℕ → Image) → ℕ → ℕ → Answer → Type 0
 IsScanned look low high (Rows rows) = AreRows look low high rows
 IsScanned look low high _ = ⊥
@@ -63,6 +65,7 @@ abbrev pub IsFetched : (Rid → Image) → ℕ → Option Rest → Answer → Ty
 IsFetched look n (Some rest) (Rows rows) = AreFirst (λ key. look (record { table = rest.table; key = key })) n rest.low rest.high rows
 IsFetched look n rest answer = ⊥
 
+-- the answer to the end of a cursor
 abbrev pub IsEnded : Answer → Type 0
 IsEnded Ended = ⊤
 IsEnded _ = ⊥
@@ -73,14 +76,17 @@ IsCommitted wrote (Committed c) = IsTrue wrote
 IsCommitted wrote Ended = IsFalse wrote
 IsCommitted wrote _ = ⊥
 
+-- the answer to a rollback
 abbrev pub IsUndone : Answer → Type 0
 IsUndone Undone = ⊤
 IsUndone _ = ⊥
 
+-- a collector's report
 abbrev pub IsSwept : Answer → Type 0
 IsSwept (Swept sweep) = ⊤
 IsSwept _ = ⊥
 
+-- the answer to a `gc` record in a run, whose collectors work on their own
 abbrev pub IsBeside : Answer → Type 0
 IsBeside Beside = ⊤
 IsBeside _ = ⊥
@@ -90,6 +96,7 @@ abbrev pub IsCollected : Mode → ℕ → Answer → Type 0
 IsCollected replay session answer = IsSwept answer
 IsCollected (run rounds) session answer = MatchBool (session == 0) (IsSwept answer) (IsBeside answer)
 
+-- the refusal of a statement on this table, which is not declared
 abbrev pub IsUndeclared : TableId → Answer → Type 0
 IsUndeclared table (Undeclared other) = other.0 ≡ table.0
 IsUndeclared table _ = ⊥

@@ -12,6 +12,7 @@ use Rattle.hg_base.specs.declared.line.Answer.TheVariants.{Swept}
 use Rattle.hg_base.specs.declared.line.Reply.{Reply}
 use Rattle.hg_base.specs.declared.line.Line.{Line}
 
+-- whether two collectors are of one kind
 abbrev pub same_kind : Kind → Kind → Bool
 same_kind kinds.Group kinds.Group = true
 same_kind kinds.Table kinds.Table = true

@@ -6,6 +6,7 @@ use Rattle.hg_base.specs.declared.value.Value.{Value}
 use Rattle.hg_base.specs.declared.value.Value.TheVariants.{Number}
 use Rattle.hg_base.specs.Packed.{unpacked, IsPacked}
 
+-- the values that a row holds
 abbrev pub stored_values : Storage → List Value
 stored_values (One ns) = map Number ns
 stored_values (Two ns) = map Number ns

@@ -27,16 +27,19 @@ use Rattle.hg_base.specs.Values.{FitsColumns}
 use Rattle.hg_base.specs.Script.{Declaration, Script}
 use Rattle.hg_base.specs.Transcript.{table_of}
 
--- a field is its bytes, and a record its fields
+-- a field, as its bytes
 abbrev pub Field : Type 0
 Field = List ℕ
 
+-- the name of a table
 abbrev pub name_of : List Declaration → TableId → Field
 name_of tables table = option_map_or (λ d. d.name) (slice_get tables table.0) []
 
+-- the kinds of a table's columns
 abbrev pub kinds_of : List Declaration → TableId → List Column
 kinds_of tables table = option_map_or (λ d. d.kinds) (slice_get tables table.0) []
 
+-- the word for a kind of collector
 abbrev pub kind_word : Kind → Field
 kind_word kinds.Group = codes "group"
 kind_word kinds.Table = codes "table"
@@ -49,7 +52,7 @@ value_field (Text t) = t
 
 -- ---- the records
 
--- what stands after the session, the place and the snapshot
+-- the fields of an answer, after the session, the place and the snapshot
 abbrev pub answer_fields : List Declaration → Answer → List Field
 answer_fields tables (Begun s) = codes "begun" ∷ decimal s ∷ []
 answer_fields tables Stored = codes "stored" ∷ []
@@ -66,9 +69,11 @@ answer_fields tables (Undeclared table) = codes "refused" ∷ codes "undeclared"
 answer_fields tables (Swept sweep) = codes "swept" ∷ kind_word sweep.kind ∷ decimal sweep.mark ∷ decimal sweep.horizon ∷ decimal sweep.removed ∷ []
 answer_fields tables Beside = codes "beside" ∷ []
 
+-- the fields of a held snapshot in a report, after the session and the place
 abbrev pub held_fields : Told → List Field
 held_fields told = codes "held" ∷ decimal told.session ∷ decimal told.number ∷ (if told.moved then codes "moved" else codes "unmoved") ∷ []
 
+-- the fields of a row of a scan, after the session and the place
 abbrev pub row_fields : ℕ × List Value → List Field
 row_fields p = codes "row" ∷ decimal p.0 ∷ map value_field p.1
 
@@ -83,17 +88,20 @@ abbrev pub told_as : Field → Option ℕ → List Field
 told_as word None = []
 told_as word (Some n) = word ∷ decimal n ∷ []
 
--- every record of a reply begins with the session and the place
+-- a record of a reply, which begins with the session and the place
 abbrev pub of_line : Line → List Field → List Field
 of_line line fields = decimal line.session ∷ decimal line.place ∷ fields
 
+-- all records of a reply: the answer, and then the rows or held snapshots that belong to it
 abbrev pub line_records : List Declaration → Line → List (List Field)
 line_records tables line = of_line line (told_as (codes "at") line.reply.at ++ answer_fields tables line.reply.answer ++ told_as (codes "committed") line.reply.number) ∷ map
     (of_line line) (more_fields line.reply.answer)
 
+-- the record of one total
 abbrev pub total_fields : Field → ℕ → List Field
 total_fields word n = codes "total" ∷ word ∷ decimal n ∷ []
 
+-- the records of the six totals
 abbrev pub totals_records : Totals → List (List Field)
 totals_records t = total_fields (codes "made") t.made ∷ total_fields (codes "undone") t.undone ∷ total_fields (codes "group") t.group ∷ total_fields
     (codes "table") t.table ∷ total_fields (codes "interval") t.interval ∷ total_fields (codes "left") t.left ∷ []
@@ -112,6 +120,7 @@ text_of row script printed = flat_map row (text_records script printed)
 abbrev pub Fits64 : ℕ → Type 0
 Fits64 n = n < 2 ^ 64
 
+-- a number of 32 bits, as those of sessions
 abbrev pub Fits32 : ℕ → Type 0
 Fits32 n = n < 2 ^ 32
 
@@ -119,31 +128,37 @@ Fits32 n = n < 2 ^ 32
 abbrev pub FitsRow : List Declaration → TableId → List Value → Type 0
 FitsRow tables table row = FitsColumns (kinds_of tables table) row
 
+-- a refusal of a write on this table, with numbers of the printed width
 abbrev pub FitsRefusal : TableId → Answer → Type 0
 FitsRefusal table (Newer c) = Fits64 c
 FitsRefusal table (OpenBy writer) = Fits32 writer.session × Fits64 writer.transaction
 FitsRefusal table (Undeclared other) = other.0 ≡ table.0
 FitsRefusal table _ = ⊥
 
+-- an answer that the format has for a begin
 abbrev pub FitsBegin : Answer → Type 0
 FitsBegin (Begun s) = Fits64 s
 FitsBegin _ = ⊥
 
+-- an answer that the format has for a get
 abbrev pub FitsGet : List Declaration → TableId → Answer → Type 0
 FitsGet tables table (Found row) = FitsRow tables table row
 FitsGet tables table Nothing = ⊤
 FitsGet tables table (Undeclared other) = other.0 ≡ table.0
 FitsGet tables table _ = ⊥
 
+-- an answer that the format has for a put
 abbrev pub FitsPut : TableId → Answer → Type 0
 FitsPut table Stored = ⊤
 FitsPut table answer = FitsRefusal table answer
 
+-- an answer that the format has for a del
 abbrev pub FitsDel : TableId → Answer → Type 0
 FitsDel table Gone = ⊤
 FitsDel table Nothing = ⊤
 FitsDel table answer = FitsRefusal table answer
 
+-- an answer that the format has for a scan
 abbrev pub FitsScan : List Declaration → TableId → Answer → Type 0
 FitsScan tables table (Rows rows) = Fits64 (length rows) × Each (λ p. Fits64 p.0 × FitsRow tables table p.1) rows
 FitsScan tables table (Undeclared other) = other.0 ≡ table.0
@@ -154,26 +169,32 @@ abbrev pub FitsFetch : List Declaration → Option TableId → Answer → Type 0
 FitsFetch tables (Some table) (Rows rows) = Fits64 (length rows) × Each (λ p. Fits64 p.0 × FitsRow tables table p.1) rows
 FitsFetch tables cursor answer = ⊥
 
+-- an answer that the format has for the end of a cursor
 abbrev pub FitsClose : Answer → Type 0
 FitsClose Ended = ⊤
 FitsClose _ = ⊥
 
+-- an answer that the format has for a commit
 abbrev pub FitsCommit : Answer → Type 0
 FitsCommit (Committed c) = Fits64 c
 FitsCommit Ended = ⊤
 FitsCommit _ = ⊥
 
+-- an answer that the format has for a rollback
 abbrev pub FitsRollback : Answer → Type 0
 FitsRollback Undone = ⊤
 FitsRollback _ = ⊥
 
+-- a report with numbers of the printed width
 abbrev pub FitsSweep : Sweep → Type 0
 FitsSweep sweep = Fits64 sweep.mark × Fits64 sweep.horizon × Fits64 sweep.removed × Each (λ told. Fits32 told.session × Fits64 told.number) sweep.held
 
+-- an answer that is a report
 abbrev pub FitsReport : Answer → Type 0
 FitsReport (Swept sweep) = FitsSweep sweep
 FitsReport _ = ⊥
 
+-- an answer that the format has for a `gc`
 abbrev pub FitsGc : Answer → Type 0
 FitsGc Beside = ⊤
 FitsGc answer = FitsReport answer
@@ -231,6 +252,7 @@ pub record Fits (script : Script) (line : Line) : Type 0 where
   pub reply : MatchBool (line.session == 0) (IsReport line.reply)
       (MatchOption (asked script.records line) ⊥ (λ statement. FitsReply script.tables (cursor_before script.records line.session line.place) statement line.reply))
 
+-- totals of the printed width
 pub record FitTotals (t : Totals) : Type 0 where
   pub made : Fits64 t.made
   pub undone : Fits64 t.undone

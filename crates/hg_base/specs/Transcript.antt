@@ -26,6 +26,7 @@ use Rattle.hg_base.specs.History.{Write, Commit, Group, History, same_rid, nothi
 abbrev pub sessions_of : List Record → List ℕ
 sessions_of records = numbers_from 1 (greatest (map (λ r. r.session) records))
 
+-- the records of session j
 abbrev pub of_session : ℕ → List Record → List Record
 of_session j records = filter (λ r. r.session == j) records
 
@@ -53,13 +54,14 @@ pub record Said : Type 0 where
   pub statement : Statement
   pub reply : Reply
 
--- whether the transaction ends with this statement, and with this record
+-- whether a statement ends its transaction
 abbrev pub is_end : Statement → Bool
 is_end CommitIt = true
 is_end Rollback = true
 is_end CursorClose = true
 is_end _ = false
 
+-- whether a line is the last of its transaction
 abbrev pub ends : Said → Bool
 ends said = said.alone || is_end said.statement
 
@@ -202,12 +204,13 @@ rest_in j x (said ∷ earlier) = if is_of j x said then rest_after said.statemen
 
 -- ---- what the records of a transaction write and commit
 
--- a stored write: a put that is answered `stored`, or a del that is answered `gone`
+-- the write that a statement with this answer stored: a put that is answered `stored`, or a del that is answered `gone`
 abbrev pub stored_by : Statement → Answer → Option Write
 stored_by (Put r row) Stored = Some (record { rid = r; image = record { row = Some row } })
 stored_by (Del r) Gone = Some (record { rid = r; image = nothing })
 stored_by _ _ = None
 
+-- the write that a line says was stored
 abbrev pub stored : Said → Option Write
 stored said = stored_by said.statement said.reply.answer
 
@@ -245,14 +248,16 @@ commit_by earlier now = record { session = now.session; transaction = now.transa
 abbrev pub commit_of : List Said → Said → Option (ℕ × Commit)
 commit_of earlier now = option_map (λ c. (c, commit_by earlier now)) (committed now)
 
--- every commit that is printed, with its number
+-- every commit that these lines print, after the earlier ones, with its number
 abbrev pub commits_from : List Said → List Said → List (ℕ × Commit)
 commits_from earlier [] = []
 commits_from earlier (now ∷ later) = cons_option (commit_of earlier now) (commits_from (now ∷ earlier) later)
 
+-- every commit that lines print, with its number
 abbrev pub commits : List Said → List (ℕ × Commit)
 commits all = commits_from [] all
 
+-- the greatest commit number that lines print
 abbrev pub greatest_commit : List Said → ℕ
 greatest_commit all = greatest (filter_map committed all)
 

@@ -13,6 +13,7 @@ abbrev pub kind_of : Value → Column
 kind_of (Number v) = columns.Number
 kind_of (Text t) = columns.Text
 
+-- whether a value is a text
 abbrev pub is_text : Value → Bool
 is_text (Number v) = false
 is_text (Text t) = true

@@ -23,12 +23,13 @@ use Rattle.hg_collectors.specs.declared.lent.Lent.{Lent}
 use Rattle.hg_collectors.specs.declared.round_list.RoundList.{RoundList}
 use Rattle.hg_collectors.specs.declared.round_lists.RoundLists.{RoundLists}
 
--- the pass of each kind, and what it sees
+-- the pass of the collector of each kind
 abbrev pub pass_in : Kind → Collectors → CollectorPass
 pass_in Group c = group.pass_of c.group
 pass_in Table c = table.pass_of c.table
 pass_in Interval c = interval.pass_of c.interval
 
+-- the view of that pass
 abbrev pub view_in : Kind → Collectors → View
 view_in kind c = pass_view (pass_in kind c)
 

@@ -37,6 +37,7 @@ pub record HasPlaces (rounds : ℕ) (told : RoundList) : Type 0 where
   pub room : rounds ≤ vec_capacity told.sweeps
   pub willing : told.refused ≡ false
 
+-- each collector's list has no round yet, and places for so many
 pub record HavePlaces (rounds : ℕ) (told : RoundLists) : Type 0 where
   pub group : HasPlaces rounds told.group
   pub table : HasPlaces rounds told.table

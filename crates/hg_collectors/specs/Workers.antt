@@ -8,11 +8,12 @@ use Rattle.hg_sweep.specs.Teams as team
 use Rattle.hg_collectors.specs.declared.interval.IntervalWorker.{IntervalWorker}
 use Rattle.hg_collectors.specs.declared.interval.IntervalWorker.TheVariants.{One, Team}
 
--- its pass, and what that sees
+-- the pass of the interval collector
 abbrev pub pass_of : IntervalWorker → CollectorPass
 pass_of (One c) = one.pass_of c
 pass_of (Team c) = team.pass_of c
 
+-- the view of that pass
 abbrev pub view_of : IntervalWorker → View
 view_of w = pass_view (pass_of w)
 

@@ -29,6 +29,7 @@ abbrev pub done_log : ℕ → Unprinted → Statement → Reply → List LogEntr
 done_log buckets u CommitIt reply log = log
 done_log buckets u statement reply log = own_entries buckets u statement reply.answer ++ begun_log statement reply log
 
+-- whether a statement runs a collector
 abbrev pub is_gc : Statement → Bool
 is_gc (Gc kind) = true
 is_gc _ = false

@@ -5,11 +5,12 @@ use Rattle.hg_core.specs.Versions.{stamp_number, is_up_to}
 use Rattle.hg_base.specs.Lifetimes.{goes, MayStay}
 use Rattle.hg_core.specs.Removal.{oldest}
 
--- each version may stay; the first is behind a successor with that number
+-- each version may stay; the first has a successor with that number
 abbrev pub MayAllStay : ℕ → List ℕ → Option ℕ → List Version → Type 0
 MayAllStay horizon snapshots successor [] = ⊤
 MayAllStay horizon snapshots successor (v ∷ vs) = MayStay horizon snapshots successor (stamp_number v.stamp) × MayAllStay horizon snapshots (stamp_number v.stamp) vs
 
+-- each of a record's versions may stay; the newest has no successor
 abbrev pub IsClean : ℕ → List ℕ → List Version → Type 0
 IsClean horizon snapshots vs = MayAllStay horizon snapshots None vs
 

@@ -17,9 +17,11 @@ use Rattle.hg_core.specs.Sums.{sum_to, sum_below}
 
 -- ---- how counters grow
 
+-- no version removed, by any kind of collector
 abbrev pub none_removed : Removed
 none_removed = record { group = 0; table = 0; interval = 0 }
 
+-- counters of a bucket in which nothing was done
 abbrev pub no_counters : Counters
 no_counters = record { made = 0; undone = 0; removed = none_removed }
 

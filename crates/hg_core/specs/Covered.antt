@@ -52,5 +52,6 @@ MayCommit h r (Entered scope f) = ⊥
 MayCommit h r (Fixed scope f m) = ⊥
 MayCommit h r (Live at scope) = IsTrue (has scope r.table) × Each (λ w. w.0 ≤ at) (writes h r)
 
+-- each open write may commit
 abbrev pub OpenWritesMayCommit : History → (ℕ → Phase) → (ℕ → Rid → Option Image) → Type 0
 OpenWritesMayCommit h phase opened = (j : ℕ) (r : Rid) (image : Image) → opened j r ≡ Some image → MayCommit h r (phase j)

@@ -103,13 +103,15 @@ looked s j (Read table low high) b rows = Saw table low high b rows ∷ s.log j
 looked s j (asks.Write r) b rows = with_refusal r (refusal s.mark (writer_of (begun_in s.log) j) (snapshot_number (current (s.log j))) (versions s.buckets s.bucket r)) (s.log j)
 looked s j (asks.Outside table) b rows = Outside table ∷ s.log j
 
--- a bucket's counters after so many versions more were made, one was taken back, or so many were removed by a kind
+-- the counters after n more versions were made in bucket b
 abbrev pub with_made : (ℕ → Counters) → ℕ → ℕ → ℕ → Counters
 with_made counters b n = put counters b (record (counters b) { made = (counters b).made + n })
 
+-- the counters after one version was taken back in bucket b
 abbrev pub with_undone : (ℕ → Counters) → ℕ → ℕ → Counters
 with_undone counters b = put counters b (record (counters b) { undone = suc (counters b).undone })
 
+-- the counters after n more versions were removed from bucket b by a kind of collector
 abbrev pub with_removed : (ℕ → Counters) → ℕ → Kind → ℕ → ℕ → Counters
 with_removed counters b kind n = put counters b (record (counters b) { removed = removed_more kind n (counters b).removed })
 

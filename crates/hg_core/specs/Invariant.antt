@@ -18,6 +18,7 @@ use Rattle.hg_core.specs.Placed.{IsPlaced}
 use Rattle.hg_core.specs.Counters.{CountersBalance}
 use Rattle.hg_core.specs.Visits.{VisitsStay}
 
+-- the invariant, which holds of a new state, and which each event that may happen keeps
 pub record IsSteady (s : CoreState) : Type 0 where
   -- the mark is the length of the history, and no number that was loaded of it is above it
   pub mark_is_length : MarkIsLength s.mark s.history s.phase s.pass

@@ -60,6 +60,7 @@ of_session j group = filter (λ c. c.session == j) group
 abbrev pub IsNamed : ℕ → (ℕ → List LogEntry) → ℕ → Type 0
 IsNamed sessions log n = (j : ℕ) × IsSession sessions j × IsTrue (has_number n (log j))
 
+-- what the logs say agrees with the phases and with the history
 pub record LogsAnswer (sessions quota : ℕ) (history : History) (phase : ℕ → Phase) (log : ℕ → List LogEntry) : Type 0 where
   -- a session reads at the snapshot of the transaction that its log has open
   pub reads : (j : ℕ) → current (log j) ≡ snapshot_in (phase j)

@@ -70,10 +70,11 @@ open_in r (Wrote rid image ∷ log) = if same_rid rid r then Some image else ope
 open_in r (Undid rid ∷ log) = if same_rid rid r then None else open_in r log
 open_in r (_ ∷ log) = open_in r log
 
--- the open writes of all sessions, and how many transactions each has begun
+-- the open writes of each session
 abbrev pub open_writes : (ℕ → List LogEntry) → ℕ → Rid → Option Image
 open_writes log j r = open_in r (log j)
 
+-- how many transactions each session has begun
 abbrev pub begun_in : (ℕ → List LogEntry) → ℕ → ℕ
 begun_in log j = begans (log j)
 
@@ -98,12 +99,13 @@ has_number n [] = false
 has_number n (Published number ∷ log) = (number == n) || has_number n log
 has_number n (_ ∷ log) = has_number n log
 
--- the greatest commit number of a log, and of the logs of the first sessions
+-- the greatest commit number of a log
 abbrev pub newest_number : List LogEntry → ℕ
 newest_number [] = 0
 newest_number (Published number ∷ log) = max number (newest_number log)
 newest_number (_ ∷ log) = newest_number log
 
+-- the greatest commit number of the logs of the first n sessions
 abbrev pub newest_of : ℕ → (ℕ → List LogEntry) → ℕ
 newest_of zero log = 0
 newest_of (suc n) log = max (newest_of n log) (newest_number (log (suc n)))

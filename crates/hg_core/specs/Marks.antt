@@ -14,6 +14,7 @@ PhaseUpTo mark (Entered scope f) = f ≤ mark
 PhaseUpTo mark (Fixed scope f m) = (f ≤ mark) × (m ≤ mark)
 PhaseUpTo mark (Live at scope) = at ≤ mark
 
+-- the mark is the length of the history, and no session or pass has loaded a greater number
 pub record MarkIsLength (mark : ℕ) (history : History) (phase : ℕ → Phase) (pass : ℕ → PassRecord) : Type 0 where
   pub is_length : mark ≡ length history
   pub sessions : (j : ℕ) → PhaseUpTo mark (phase j)

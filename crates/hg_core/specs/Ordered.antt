@@ -36,10 +36,11 @@ IsWriteOf mark h r (Written by) image = ⊤
 IsWriteOf mark h r (Numbered number by) image = number ≤ mark → group_write r (group_at h number) ≡ Some (by, image)
 IsWriteOf mark h r (Oldest number) image = number ≤ mark → group_image r (group_at h number) ≡ Some image
 
--- each version
+-- each published version of a record is what its group wrote
 abbrev pub IsBacked : ℕ → History → Rid → List Version → Type 0
 IsBacked mark h r vs = Each (λ v. IsWriteOf mark h r v.stamp v.image) vs
 
+-- the versions of each record are in order, and are true to the history
 pub record ContentsAreOrdered (mark : ℕ) (history : History) (versions : Rid → List Version) : Type 0 where
   pub ordered : (r : Rid) → IsOrdered mark (versions r)
   pub backed : (r : Rid) → IsBacked mark history r (versions r)

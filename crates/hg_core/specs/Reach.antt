@@ -34,6 +34,7 @@ pub record Reaches (known : ℕ) (register : Register) (log : List LogEntry) (ph
 abbrev pub StandsIn : ℕ → Register → List LogEntry → Phase → Type 0
 StandsIn known register log phase = (later : List LogEntry) × (then : List LogEntry) × Reaches known register log phase later then
 
+-- what each pass loaded of a session is what the session's log said when the pass loaded it
 pub record RecordsReachLogs (phase : ℕ → Phase) (log : ℕ → List LogEntry) (pass : ℕ → PassRecord) : Type 0 where
   pub known : (p j : ℕ) → (pass p).known j ≤ length (log j)
   pub stands : (p j : ℕ) → IfSome (found j (pass p).loaded) (λ loaded. StandsIn ((pass p).known j) loaded.register (log j) (phase j))

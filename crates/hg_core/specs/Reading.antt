@@ -58,16 +58,19 @@ abbrev pub close : Option ℕ → List LogEntry
 close None = Over ∷ []
 close (Some number) = Over ∷ Published number ∷ []
 
+-- what a begin leaves in the log
 abbrev pub begin_entries : Scope → Answer → List LogEntry
 begin_entries scope (Begun at) = Began at scope ∷ []
 begin_entries scope _ = []
 
+-- what a get leaves in the log
 abbrev pub get_entries : ℕ → Rid → Answer → List LogEntry
 get_entries buckets r (Found row) = saw buckets r ((r.key, row) ∷ []) ∷ []
 get_entries buckets r Nothing = saw buckets r [] ∷ []
 get_entries buckets r (Undeclared table) = Outside table ∷ []
 get_entries buckets r _ = []
 
+-- what a put leaves in the log
 abbrev pub put_entries : Rid → List Value → Answer → List LogEntry
 put_entries r row Stored = Wrote r (record { row = Some row }) ∷ []
 put_entries r row (Newer number) = Refused r (Newer number) ∷ []
@@ -75,6 +78,7 @@ put_entries r row (OpenBy writer) = Refused r (OpenBy writer) ∷ []
 put_entries r row (Undeclared table) = Outside table ∷ []
 put_entries r row _ = []
 
+-- what a del leaves in the log: it reads the row first, and then deletes it
 abbrev pub del_entries : ℕ → List Value → Rid → Answer → List LogEntry
 del_entries buckets found r Nothing = saw buckets r [] ∷ []
 del_entries buckets found r Gone = Wrote r nothing ∷ saw buckets r ((r.key, found) ∷ []) ∷ []
@@ -83,15 +87,18 @@ del_entries buckets found r (OpenBy writer) = Refused r (OpenBy writer) ∷ saw 
 del_entries buckets found r (Undeclared table) = Outside table ∷ []
 del_entries buckets found r _ = []
 
+-- what a scan leaves in the log: a read for each bucket that can have a key of its range
 abbrev pub scan_entries : ℕ → (ℕ → List (ℕ × List Value)) → TableId → ℕ → ℕ → Answer → List LogEntry
 scan_entries buckets part table low high (Rows rows) = saws buckets table low high part buckets
 scan_entries buckets part table low high (Undeclared other) = Outside other ∷ []
 scan_entries buckets part table low high _ = []
 
+-- what a fetch leaves in the log: a read for each bucket that it looked at
 abbrev pub fetch_entries : ℕ → Option Rest → (ℕ → List (ℕ × List Value)) → ℕ → Answer → List LogEntry
 fetch_entries buckets (Some rest) part looked (Rows rows) = looks buckets rest.table rest.low rest.high part looked
 fetch_entries buckets rest part looked answer = []
 
+-- what a commit leaves in the log
 abbrev pub commit_entries : Answer → List LogEntry
 commit_entries (Committed number) = close (Some number)
 commit_entries _ = close None
@@ -154,11 +161,13 @@ pub record Picks (buckets n : ℕ) (table : TableId) (low high looked : ℕ) (pa
   pub every : (i : ℕ) → i < looked → Each (λ p. p.0 ≤ passed n high rows → Contains rows p) (part i)
   pub none_left : (k : ℕ) → low ≤ k → k ≤ passed n high rows → (i : ℕ) × (i < looked) × (bucket_of buckets (record { table = table; key = k }) ≡ bucket_at buckets table low i)
 
+-- an answer to a get of a declared table
 abbrev pub IsGetAnswer : Answer → Type 0
 IsGetAnswer (Found row) = ⊤
 IsGetAnswer Nothing = ⊤
 IsGetAnswer _ = ⊥
 
+-- an answer to a del on a declared table
 abbrev pub IsDelAnswer : Answer → Type 0
 IsDelAnswer Nothing = ⊤
 IsDelAnswer Gone = ⊤
@@ -166,10 +175,12 @@ IsDelAnswer (Newer number) = ⊤
 IsDelAnswer (OpenBy writer) = ⊤
 IsDelAnswer _ = ⊥
 
+-- an answer to a scan of a declared table: the rows that the reads of its buckets found
 abbrev pub IsScanAnswer : (ℕ → Type 0) → (ℕ → List (ℕ × List Value)) → Answer → Type 0
 IsScanAnswer Reached part (Rows rows) = Joins Reached part rows
 IsScanAnswer Reached part _ = ⊥
 
+-- an answer to a fetch: the first n rows that the reads of its buckets found
 abbrev pub IsFetchAnswer : ℕ → ℕ → Option Rest → (ℕ → List (ℕ × List Value)) → ℕ → Answer → Type 0
 IsFetchAnswer buckets n (Some rest) part looked (Rows rows) = Picks buckets n rest.table rest.low rest.high looked part rows
 IsFetchAnswer buckets n rest part looked answer = ⊥

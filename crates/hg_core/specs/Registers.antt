@@ -28,6 +28,7 @@ pub record IsMaskOf (tables : ℕ) (scope : Scope) (mask : ℕ) : Type 0 where
   pub value : mask ≡ mask_of scope
   pub within : IsBelow tables scope
 
+-- each session's register and mask word show its phase
 pub record RegistersAgree (sessions tables : ℕ) (phase : ℕ → Phase) (register : ℕ → Register) (mask : ℕ → ℕ) : Type 0 where
   pub shows : (j : ℕ) → Shows (phase j) (register j)
   -- from the time when a session has declared its scope until it rests, its mask word is that of the scope

@@ -33,10 +33,12 @@ read_by w at (v ∷ vs) = elim v.stamp [
 abbrev pub in_bucket : ℕ → ℕ → TableId → (Rid → Image) → ℕ → Image
 in_bucket buckets b table f key = if bucket_of buckets (record { table = table; key = key }) == b then f (record { table = table; key = key }) else nothing
 
+-- a refusal for a newer group, where the newest write is numbered over the snapshot
 abbrev pub refused_over : ℕ → Option (ℕ × Image) → Option Answer
 refused_over at None = None
 refused_over at (Some pair) = if nat_le pair.0 at then None else Some (Newer pair.0)
 
+-- a refusal for another transaction's open write, and else what the rest says
 abbrev pub refused_by : Writer → Option (Writer × Image) → Option Answer → Option Answer
 refused_by w None rest = rest
 refused_by w (Some owner) rest = if same_writer owner.0 w then None else Some (OpenBy owner.0)
@@ -47,12 +49,13 @@ refusal mark w at vs = refused_by w (unpublished mark vs) (refused_over at (newe
 
 -- ---- what a log says
 
--- the stored writes of transaction x, newest first, and its commit numbers
+-- the stored writes of transaction x, newest first
 abbrev pub writes_in : ℕ → List LogEntry → List Write
 writes_in x [] = []
 writes_in x (Wrote rid image ∷ log) = if begans log == x then record { rid = rid; image = image } ∷ writes_in x log else writes_in x log
 writes_in x (_ ∷ log) = writes_in x log
 
+-- the commit numbers of transaction x
 abbrev pub numbers_in : ℕ → List LogEntry → List ℕ
 numbers_in x [] = []
 numbers_in x (Published number ∷ log) = if begans log == x then number ∷ numbers_in x log else numbers_in x log

@@ -32,6 +32,7 @@ step s (Arrive p b) = arrived s p b
 step s (Leave p) = departed s p
 step s (Split p) = split s p
 
+-- pass p and bucket b exist, so the pass may come to the bucket
 pub record MayArrive (s : CoreState) (p b : ℕ) : Type 0 where
   pub pass : p < s.passes
   pub bucket : b < s.buckets

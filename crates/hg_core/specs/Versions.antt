@@ -27,6 +27,7 @@ abbrev pub paired : Option ℕ → Image → Option (ℕ × Image)
 paired None image = None
 paired (Some number) image = Some (number, image)
 
+-- the number and the image of a version, if there is one and it has a number
 abbrev pub pair_of : Option Version → Option (ℕ × Image)
 pair_of None = None
 pair_of (Some v) = paired (stamp_number v.stamp) v.image

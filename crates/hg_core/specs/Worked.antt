@@ -16,13 +16,15 @@ use Rattle.hg_core.specs.declared.log.LogEntry.{LogEntry}
 use Rattle.hg_core.specs.declared.visit.Removed.{Removed}
 use Rattle.hg_core.specs.Reading.{Unprinted, log_after, Fits}
 
--- two records of table 0, and a row
+-- a record of table 0
 abbrev pub one_rid : Rid
 one_rid = record { table = record { 0 = 0 }; key = 5 }
 
+-- another record of table 0
 abbrev pub two_rid : Rid
 two_rid = record { table = record { 0 = 0 }; key = 6 }
 
+-- a row, as it is written to one of them
 abbrev pub row : Image
 row = record { row = Some (Number (pos 7) ∷ []) }
 
@@ -94,23 +96,27 @@ late_snapshot = acts (commits ++ commits_again row ++ Declare 1 All ∷ Probe 1 
 abbrev pub swept_visit : List Step
 swept_visit = late_snapshot ++ Act (Reclaim 0 Interval one_rid) ∷ Leave 0 ∷ []
 
+-- one version removed by an interval collector
 abbrev pub one_swept : Removed
 one_swept = record { group = 0; table = 0; interval = 1 }
 
--- What the log of session 2 says after its commits: a begin that is answered `begun,0`, a put that is answered `stored`, and
--- a commit that is answered `committed,1`.
+-- what the replies of these three statements leave out: nothing
 abbrev pub all_printed : Unprinted
 all_printed = record { found = []; part = λ b. []; undone = []; rest = None; looked = 0 }
 
+-- a reply that prints its answer alone
 abbrev pub only_answer : Answer → Reply
 only_answer answer = record { at = None; answer = answer; number = None }
 
+-- the log of session 2 after a begin that is answered `begun,0`
 abbrev pub begun_there : List LogEntry
 begun_there = log_after 1 all_printed (Begin All) (only_answer (Begun 0)) []
 
+-- the log of session 2 after a put that is answered `stored`
 abbrev pub written_there : List LogEntry
 written_there = log_after 1 all_printed (Put one_rid (Number (pos 7) ∷ [])) (only_answer Stored) begun_there
 
+-- the log of session 2 after a commit that is answered `committed,1`
 abbrev pub committed_there : List LogEntry
 committed_there = log_after 1 all_printed CommitIt (only_answer (Committed 1)) written_there
 

@@ -11,16 +11,19 @@ use Rattle.hg_cursor.specs.declared.cursor.Cursor.{Cursor}
 use Rattle.hg_cursor.specs.Keys.{Rows}
 use Rattle.hg_cursor.specs.Logs.{Adds}
 
--- a cursor's snapshot, its table, the last key of its range, and the first key that it has not passed: none once it is done
+-- a cursor's snapshot
 abbrev pub at_of : Cursor → ℕ
 at_of c = c.at
 
+-- a cursor's table
 abbrev pub table_of : Cursor → TableId
 table_of c = c.table
 
+-- the last key of a cursor's range
 abbrev pub high_of : Cursor → ℕ
 high_of c = c.high
 
+-- the first key that a cursor has not passed: none once it is done
 abbrev pub rest_of : Cursor → Option ℕ
 rest_of c = c.rest
 
@@ -35,11 +38,12 @@ pub record LooksAt (count : ℕ) (old : View) (table : TableId) (low high : ℕ)
   pub part : ℕ → Rows
   pub adds : Adds old (looks count table low high part number) new
 
--- the first n rows of a range, by looks at it; and only looks where memory ran out
+-- the first n rows of a range, by looks at it
 pub record FetchesRows (count n : ℕ) (old : View) (table : TableId) (low high : ℕ) (rows : Rows) (new : View) : Type 0 where
   pub looked : LooksAt count old table low high new
   pub picks : Picks count n table low high looked.number looked.part rows
 
+-- a fetch returns the first n rows of a range by looks at it; where memory ran out, it only looked
 abbrev pub Fetches : ℕ → ℕ → View → TableId → ℕ → ℕ → Result Rows NoMemory → View → Type 0
 Fetches count n old table low high (Ok rows) new = FetchesRows count n old table low high rows new
 Fetches count n old table low high (Err e) new = LooksAt count old table low high new

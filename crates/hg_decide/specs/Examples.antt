@@ -10,6 +10,7 @@ use Rattle.hg_base.specs.declared.line.Answer.TheVariants.{Begun, Stored, Nothin
 use Rattle.hg_base.specs.declared.line.Totals.{Totals}
 use Rattle.hg_decide.specs.Writing.{Example, Exchange, example, totals, t, u, only_t, t_and_u, get, put, del, row, rows, swept, moved_of, unmoved_of, inside, outside, outside_commit}
 
+-- a script without a record, for which only the totals are printed
 abbrev pub empty : Example
 empty = example [] [] (totals 0 0 0 0 0 0)
 
@@ -151,7 +152,7 @@ not_long = example t_and_u
     ∷ [])
     (totals 4 0 0 3 0 1)
 
--- a deletion is kept while an older transaction may write the record
+-- a script whose deletion is kept while an older transaction may write the record
 abbrev pub deletion : List Exchange
 deletion =
     outside_commit 2 2 (put t 5 (pos 10)) 0 Stored 1
@@ -165,6 +166,7 @@ deletion =
     ∷ inside 1 10 (put t 5 (pos 11)) (Newer 2)
     ∷ []
 
+-- that script with its totals: the table collector removed both versions at the end of the replay
 abbrev pub kept_deletion : Example
 kept_deletion = example only_t deletion (totals 2 0 0 2 0 0)
 

@@ -25,6 +25,7 @@ pub record Example : Type 0 where
 abbrev pub Exchange : Type 0
 Exchange = Record × Line
 
+-- the script and the printed text of these exchanges
 abbrev pub example : List Declaration → List Exchange → Totals → Example
 example tables exchanges sums = record { script = record { version = 1; tables = tables; records = map (λ e. e.0) exchanges }; printed = record { lines = map (λ e. e.1) exchanges; totals = sums } }
 
@@ -34,33 +35,41 @@ totals made undone group table interval left = record { made = made; undone = un
 
 -- ---- tables and statements
 
--- `table,t,1` first, and `table,u,1` behind it
+-- the first table, declared by `table,t,1`
 abbrev pub t : TableId
 t = record { 0 = 0 }
 
+-- the second table, declared by `table,u,1`
 abbrev pub u : TableId
 u = record { 0 = 1 }
 
+-- the declaration of table t
 abbrev pub only_t : List Declaration
 only_t = record { name = codes "t"; kinds = columns.Number ∷ [] } ∷ []
 
+-- the declarations of both tables
 abbrev pub t_and_u : List Declaration
 t_and_u = record { name = codes "t"; kinds = columns.Number ∷ [] } ∷ record { name = codes "u"; kinds = columns.Number ∷ [] } ∷ []
 
+-- a get of this key
 abbrev pub get : TableId → ℕ → Statement
 get table key = Get (record { table = table; key = key })
 
+-- a put of one number at this key
 abbrev pub put : TableId → ℕ → ℤ → Statement
 put table key value = Put (record { table = table; key = key }) (Number value ∷ [])
 
+-- a del of this key
 abbrev pub del : TableId → ℕ → Statement
 del table key = Del (record { table = table; key = key })
 
 -- ---- answers
 
+-- a row of one number, as a get finds it
 abbrev pub row : ℤ → Answer
 row value = Found (Number value ∷ [])
 
+-- the rows of one number that a scan finds, each with its key
 abbrev pub rows : List (ℕ × ℤ) → Answer
 rows found = Rows (map (λ p. (p.0, Number p.1 ∷ [])) found)
 
@@ -68,18 +77,21 @@ rows found = Rows (map (λ p. (p.0, Number p.1 ∷ [])) found)
 abbrev pub swept : Kind → ℕ → ℕ → ℕ → List Told → Answer
 swept kind mark horizon removed held = Swept (record { kind = kind; mark = mark; horizon = horizon; removed = removed; held = held })
 
+-- a held snapshot that was moved
 abbrev pub moved_of : ℕ → ℕ → Told
 moved_of session number = record { session = session; number = number; moved = true }
 
+-- a held snapshot that was not moved
 abbrev pub unmoved_of : ℕ → ℕ → Told
 unmoved_of session number = record { session = session; number = number; moved = false }
 
 -- ---- lines: the session, the place of the record, and the answer
 
--- in a transaction, or of a `gc`
+-- a line that prints its answer alone: that of a statement in a transaction, or of a `gc`
 abbrev pub line : ℕ → ℕ → Answer → Line
 line session place answer = record { session = session; place = place; reply = record { at = None; answer = answer; number = None } }
 
+-- a statement in a transaction with its answer
 abbrev pub inside : ℕ → ℕ → Statement → Answer → Exchange
 inside session place statement answer = (record { place = place; session = session; statement = statement }, line session place answer)
 

@@ -33,12 +33,15 @@ use Rattle.hg_collectors.specs.Collecting.{view_in}
 use Rattle.hg_drivers.specs.Driven.{IsOpenedWith, sessions_in}
 use Rattle.hg_collectors.specs.Rounding.{BeganIn}
 
+-- the allocator of a reader
 abbrev pub alloc_in : Reader → Global
 alloc_in r = r.alloc
 
+-- the engine that a reader reads
 abbrev pub engine_in : Reader → Engine
 engine_in r = r.engine.now
 
+-- the script whose tables a reader exports
 abbrev pub script_in : Reader → Script
 script_in r = r.script.now
 

@@ -114,6 +114,7 @@ abbrev pub hired : Script → ℕ → List Session → List Worker
 hired script j [] = []
 hired script j (s ∷ ss) = record { session = s; records = of_session j script.records; transcript = record { tables = script.tables; lines = [] }; refused = false } ∷ hired script (suc j) ss
 
+-- the sessions of workers
 abbrev pub sessions_in : List Worker → List Session
 sessions_in workers = map (λ (w : Worker). w.session) workers
 

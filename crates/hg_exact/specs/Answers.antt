@@ -25,6 +25,7 @@ use Rattle.hg_exact.specs.State.{Open, State, mark}
 abbrev pub sees : State → Open → Rid → Image
 sees s o r = seen s.history o.wrote o.at r
 
+-- the answer to a get, by the row that the transaction sees
 abbrev pub found : Option (List Value) → Answer
 found None = Nothing
 found (Some row) = Found row
@@ -54,14 +55,16 @@ fetched s o n (Some rest) = Rows (take n (rows_seen s o rest.table rest.low rest
 
 -- ---- what is written
 
+-- whether a transaction has written a record
 abbrev pub has_written : Rid → Open → Bool
 has_written r o = is_some (image_in r o.wrote)
 
--- the open transactions that have written a record, by session
+-- session j's open transaction, if it has written the record
 abbrev pub writer_of : Rid → ℕ → Option Open → Option Writer
 writer_of r j None = None
 writer_of r j (Some o) = if has_written r o then Some (record { session = j; transaction = o.transaction }) else None
 
+-- the open transactions that have written a record, by session
 abbrev pub writers : State → Rid → List Writer
 writers s r = filter_map (λ j. writer_of r j (s.opened j)) (numbers_from 1 s.sessions)
 
@@ -80,6 +83,7 @@ written s o r answer = if has_written r o then answer else unless_refused (write
 
 -- ---- what is reported
 
+-- how a report names session j's open transaction: by its snapshot, not moved
 abbrev pub told_of : ℕ → Option Open → Option Told
 told_of j None = None
 told_of j (Some o) = Some (record { session = j; number = o.at; moved = false })
@@ -90,9 +94,11 @@ report s kind = record { kind = kind; mark = mark s; horizon = mark s; removed =
 
 -- ---- any statement
 
+-- the answer where the table is declared, and else the refusal
 abbrev pub declared : Open → TableId → Answer → Answer
 declared o table answer = if has o.scope table then answer else Undeclared table
 
+-- the answer to a statement in a transaction
 abbrev pub answer_in : State → Open → Statement → Answer
 answer_in s o (Begin scope) = Begun (mark s)
 answer_in s o (CursorOpen table low high) = Begun (mark s)

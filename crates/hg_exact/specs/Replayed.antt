@@ -27,13 +27,15 @@ begins s j o = record s { begun = but s.begun j (suc (s.begun j)); opened = but 
 abbrev pub within : State → ℕ → Open → Statement → Answer → State
 within s j o st answer = record s { history = with_group (committed_by st answer) j (going o st answer) s.history; opened = but s.opened j (if is_end st then None else Some (going o st answer)) }
 
--- A statement outside is a transaction of its own, which declares its one table, and is committed if it stores a write.
+-- the commit number of a statement outside, which is a transaction of its own and is committed if it stores a write
 abbrev pub number_for : State → Statement → Answer → Option ℕ
 number_for s st answer = if is_some (stored_by st answer) then Some (suc (mark s)) else None
 
+-- the state after a statement outside, which declared its one table
 abbrev pub alone : State → ℕ → Open → Statement → Answer → State
 alone s j o st answer = record s { history = with_group (number_for s st answer) j (going o st answer) s.history; begun = but s.begun j (suc (s.begun j)) }
 
+-- a statement of session j, inside its open transaction or outside: its reply, and the state after it
 abbrev pub stands : State → ℕ → Option Open → Statement → Reply × State
 stands s j (Some o) st = let answer = answer_in s o st in (inside answer, within s j o st answer)
 stands s j None st =
@@ -48,6 +50,7 @@ step s j (CursorOpen table low high) = (inside (Begun (mark s)), begins s j (nex
 step s j (Gc kind) = (inside (Swept (report s kind)), s)
 step s j st = stands s j (s.opened j) st
 
+-- the lines of these records, from this state on
 abbrev pub lines_from : State → List Record → List Line
 lines_from s [] = []
 lines_from s (r ∷ rs) = let now = step s r.session r.statement in record { session = r.session; place = r.place; reply = now.0 } ∷ lines_from now.1 rs
@@ -58,16 +61,20 @@ replayed script = lines_from (start (greatest (map (λ r. r.session) script.reco
 
 -- ---- what is left open
 
+-- a held snapshot, without whether it was moved
 abbrev pub plain_told : Told → Told
 plain_told told = record { session = told.session; number = told.number; moved = false }
 
+-- a report, without what was removed and moved
 abbrev pub plain_sweep : Sweep → Sweep
 plain_sweep sweep = record { kind = sweep.kind; mark = sweep.mark; horizon = sweep.horizon; removed = 0; held = map plain_told sweep.held }
 
+-- an answer, without what a report says was removed and moved
 abbrev pub plain_answer : Answer → Answer
 plain_answer (Swept sweep) = Swept (plain_sweep sweep)
 plain_answer answer = answer
 
+-- a reply, without what a report says was removed and moved
 abbrev pub plain_reply : Reply → Reply
 plain_reply reply = record { at = reply.at; answer = plain_answer reply.answer; number = reply.number }
 

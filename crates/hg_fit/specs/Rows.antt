@@ -18,11 +18,12 @@ abbrev pub AsksRow : (Rid → List Value → Type 0) → Statement → Type 0
 AsksRow P (Put r row) = P r row
 AsksRow P _ = ⊤
 
--- and of each row that a record is found to have
+-- P holds of the row that a record is found to have
 abbrev pub FoundRow : (Rid → List Value → Type 0) → Rid → Answer → Type 0
 FoundRow P r (Found row) = P r row
 FoundRow P r _ = ⊤
 
+-- P holds of each row that a scan or a fetch finds
 abbrev pub FoundRows : (Rid → List Value → Type 0) → TableId → Answer → Type 0
 FoundRows P table (Rows rows) = Each (λ p. P (record { table = table; key = p.0 }) p.1) rows
 FoundRows P table _ = ⊤

@@ -95,6 +95,7 @@ abbrev pub HasRoomForAll : List OpenTx → Type 0
 HasRoomForAll [] = ⊤
 HasRoomForAll (tx ∷ txs) = length (all_records txs) ≤ tx.records.room
 
+-- a step that gives an open write its number
 abbrev pub IsStamp : Event → Type 0
 IsStamp (Stamp j rid n) = ⊤
 IsStamp _ = ⊥

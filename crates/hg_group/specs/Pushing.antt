@@ -17,5 +17,6 @@ IsPushing queue t line = IsPassOf queue line × ((known line).opens ≡ false) �
 abbrev pub IsPopping : Queue → BoardId → QueuePass → Type 0
 IsPopping queue t line = IsPassOf queue line × ((known line).opens ≡ false) × ((known line).leads ≡ true) × ((known line).board.id ≡ t)
 
+-- what lies under a session's lock is a pass that pushes to the tag's queue
 abbrev pub PusherFits : Snapshot Founding → ℕ → Pusher → Type 0
 PusherFits tag k x = IsPushing tag.value.queue.value (founding_board_id tag.value) x.line

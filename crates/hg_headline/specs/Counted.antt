@@ -17,10 +17,11 @@ use Rattle.hg_core.specs.Reading.{UndoesAll}
 abbrev pub every : Rid → Bool
 every r = true
 
--- how many versions the logs of the sessions made, one for each record that a transaction wrote, and how many were taken back
+-- how many versions the logs of the sessions made: one for each record that a transaction wrote
 abbrev pub made_in : ℕ → (ℕ → List LogEntry) → ℕ
 made_in sessions logs = sum_to sessions (λ j. first_writes every (logs j))
 
+-- how many writes the logs of the sessions took back
 abbrev pub undone_in : ℕ → (ℕ → List LogEntry) → ℕ
 undone_in sessions logs = sum_to sessions (λ j. undos every (logs j))
 

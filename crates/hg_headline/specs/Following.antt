@@ -80,10 +80,11 @@ IsMetIfGc sessions logs _ answer = ⊤
 
 -- ---- the end
 
--- how many versions a line says that a collector of that kind removed, and all lines
+-- how many versions a line says that a collector of that kind removed
 abbrev pub told_by : Kind → Line → ℕ
 told_by kind line = option_map_or (λ sweep. if same_kind sweep.kind kind then sweep.removed else 0) (report_of line.reply) 0
 
+-- how many versions all lines say that collectors of that kind removed
 abbrev pub told_removed : Kind → List Line → ℕ
 told_removed kind lines = sum_by (told_by kind) lines
 

@@ -51,11 +51,13 @@ abbrev pub IsMetGc : ℕ → (ℕ → List LogEntry) → Kind → Answer → Typ
 IsMetGc sessions logs kind (Swept sweep) = IsMetReport sessions logs kind sweep
 IsMetGc sessions logs kind _ = ⊥
 
+-- what an answer shows of the logs: a refused write shows the open write, and a report shows the live sessions
 abbrev pub IsMetAnswer : ℕ → (ℕ → List LogEntry) → Statement → Answer → Type 0
 IsMetAnswer sessions logs (Put r row) answer = IsMetWrite logs r answer
 IsMetAnswer sessions logs (Del r) answer = IsMetWrite logs r answer
 IsMetAnswer sessions logs (Gc kind) answer = IsMetGc sessions logs kind answer
 IsMetAnswer sessions logs _ answer = ⊤
 
+-- what a line shows of the logs before it
 abbrev pub IsMet : ℕ → (ℕ → List LogEntry) → Record → Line → Type 0
 IsMet sessions logs r line = IsMetAnswer sessions logs r.statement line.reply.answer

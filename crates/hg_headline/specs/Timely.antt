@@ -10,16 +10,19 @@ use Rattle.hg_base.specs.Lists.{Each, present}
 use Rattle.hg_base.specs.Transcript.{committed_by}
 use Rattle.hg_base.specs.Shape.{report_of}
 
--- the snapshot, the number of a newer commit, the mark of a report, and the commit number that a reply prints
+-- the snapshot that a reply prints
 abbrev pub snapshot_in : Reply → Option ℕ
 snapshot_in reply = elim reply.answer [ Begun at ↦ Some at | _ ↦ reply.at ]
 
+-- the number of the newer commit for which a reply refuses a write
 abbrev pub newer_in : Reply → Option ℕ
 newer_in reply = elim reply.answer [ Newer c ↦ Some c | _ ↦ None ]
 
+-- the mark of the report that a reply prints
 abbrev pub mark_in : Reply → Option ℕ
 mark_in reply = option_map (λ sweep. sweep.mark) (report_of reply)
 
+-- the commit number that a reply prints
 abbrev pub commit_in : Statement → Reply → Option ℕ
 commit_in statement reply = option_or reply.number (committed_by statement reply.answer)
 

@@ -7,6 +7,7 @@ use Rattle.hg_known.specs.Lines.{AreLasts}
 use Rattle.hg_known.specs.Heard.{AreHeard, AreCommitted}
 use Rattle.hg_known.specs.Marked.{AreMarks}
 
+-- all that is kept of the earlier lines is as these lines say
 pub record AreBefore (before : Before) (earlier : List Said) : Type 0 where
   pub heard : AreHeard before.heard earlier
   pub committed : AreCommitted before.committed earlier

@@ -17,13 +17,16 @@ pub record IsFit (p : ℕ × Commit) : Type 0 where
 abbrev pub AreOfTwo : Commit → Commit → Type 0
 AreOfTwo c d = IsFalse (c.session == d.session) × ((r : Rid) → IsSome (image_in r c.images) → image_in r d.images ≡ None)
 
+-- two numbered commits of one number are of two sessions, and write no record both
 abbrev pub AreApart : ℕ × Commit → ℕ × Commit → Type 0
 AreApart p q = p.0 ≡ q.0 → AreOfTwo p.1 q.1
 
+-- any two of these numbered commits are apart
 abbrev pub AllApart : List (ℕ × Commit) → Type 0
 AllApart [] = ⊤
 AllApart (p ∷ ps) = Each (AreApart p) ps × AllApart ps
 
+-- one of these numbered commits has number n
 abbrev pub has_number : ℕ → List (ℕ × Commit) → Type 0
 has_number n ps = IsTrue (list_any (λ p. p.0 == n) ps)
 

@@ -12,9 +12,11 @@ use Rattle.hg_known.specs.declared.own.Spot.{Spot}
 use Rattle.hg_known.specs.declared.context.Numbers.{Numbers}
 use Rattle.hg_known.specs.Owned.{IsOwn, own_at}
 
+-- transaction x of session j
 abbrev pub tx : ℕ → ℕ → Tx
 tx j x = record { session = j; number = x }
 
+-- transactions in the order of their sessions, and then of their numbers
 abbrev pub tx_order : Tx → Tx → Ordering
 tx_order a b = ordering_then (nat_cmp a.session b.session) (nat_cmp a.number b.number)
 
@@ -27,6 +29,7 @@ abbrev pub least_of : List ℕ → Option ℕ
 least_of [] = None
 least_of (n ∷ ns) = Some (min n (unwrap_or (least_of ns) n))
 
+-- of each transaction, the least commit number that the earlier lines print of it is kept
 abbrev pub AreNumbers : Numbers → List Said → Type 0
 AreNumbers numbers earlier = (j x : ℕ) → get tx_order numbers.least (tx j x) ≡ least_of (numbers_in j x earlier)
 

@@ -14,6 +14,7 @@ use Rattle.hg_known.specs.declared.before.Marks.{Marks}
 use Rattle.hg_known.specs.declared.context.Point.{Point}
 use Rattle.hg_known.specs.declared.context.Points.{Points}
 
+-- the mark that is kept of a kind of collector
 abbrev pub mark_in : Marks → Kind → ℕ
 mark_in marks kinds.Group = marks.group
 mark_in marks kinds.Table = marks.table
@@ -23,9 +24,11 @@ mark_in marks kinds.Interval = marks.interval
 abbrev pub AreMarks : Marks → List Said → Type 0
 AreMarks marks earlier = (kind : Kind) → mark_in marks kind ≡ greatest (filter_map (mark_of kind) earlier)
 
+-- snapshots in the order of their sessions, and then of their numbers
 abbrev pub point_cmp : Point → Point → Ordering
 point_cmp a b = ordering_then (nat_cmp a.session b.session) (nat_cmp a.number b.number)
 
+-- the snapshot n of session j
 abbrev pub point : ℕ → ℕ → Point
 point j n = record { session = j; number = n }
 
@@ -33,6 +36,7 @@ point j n = record { session = j; number = n }
 abbrev pub prints_point : ℕ → ℕ → Said → Bool
 prints_point j n said = (said.session == j) && option_map_or (λ s. s == n) (snapshot_of said) false
 
+-- which snapshots lines print is kept, and which of them lines of declared transactions print
 pub record ArePoints (points : Points) (lines : List Said) : Type 0 where
   pub printed : (j n : ℕ) → contains point_cmp points.printed (point j n) ≡ list_any (prints_point j n) lines
   pub declared : (j n : ℕ) → contains point_cmp points.declared (point j n) ≡ list_any (λ said. prints_point j n said && is_declared said.scope) lines

@@ -11,9 +11,11 @@ use Rattle.hg_base.specs.History.{Write, same_rid, image_in}
 use Rattle.hg_base.specs.Transcript.{Said, stored_in}
 use Rattle.hg_known.specs.declared.own.Spot.{Spot}
 
+-- whether two places are of one transaction and one record
 abbrev pub same_spot : Spot → Spot → Bool
 same_spot a b = ((a.tx.session == b.tx.session) && (a.tx.number == b.tx.number)) && same_rid a.rid b.rid
 
+-- the place of what transaction x of session j stores of record r
 abbrev pub spot : ℕ → ℕ → Rid → Spot
 spot j x r = record { tx = record { session = j; number = x }; rid = r }
 
@@ -21,6 +23,7 @@ spot j x r = record { tx = record { session = j; number = x }; rid = r }
 abbrev pub own_at : List (Spot × Image) → ℕ → ℕ → Rid → Option Image
 own_at own j x r = lookup (same_spot (spot j x r)) own
 
+-- a record and its image as a write
 abbrev pub write_of : Rid × Image → Write
 write_of p = record { rid = p.0; image = p.1 }
 

@@ -8,6 +8,7 @@ use Rattle.hg_base.specs.declared.statement.Statement.TheVariants.{Commit, Gc}
 use Rattle.hg_base.specs.Script.{Script}
 use Rattle.hg_base.specs.Transcript.{of_session, rounds_of, sessions_of}
 
+-- the record that is answered for an index out of range
 abbrev pub no_record : Record
 no_record = record { place = 0; session = 0; statement = Commit }
 
@@ -15,12 +16,15 @@ no_record = record { place = 0; session = 0; statement = Commit }
 abbrev pub record_at : Script → ℕ → Record
 record_at script i = get_or script.records i no_record
 
+-- the script has a record at this index
 abbrev pub IsIndex : Script → ℕ → Type 0
 IsIndex script i = i < length script.records
 
+-- this record is the script's at this index
 abbrev pub IsIndexOf : Script → Record → ℕ → Type 0
 IsIndexOf script r i = IsIndex script i × (record_at script i ≡ r)
 
+-- this record is one of the script's
 abbrev pub IsRecordOf : Script → Record → Type 0
 IsRecordOf script r = (i : ℕ) × IsIndexOf script r i
 
@@ -36,6 +40,7 @@ with_rounds shown n = shown ++ rounds_of kinds.Group n ++ rounds_of kinds.Table 
 abbrev pub sequence_of : Bool → Script → List ℕ → ℕ → List Record
 sequence_of plain script is n = if plain then script.records else with_rounds (map (record_at script) is) n
 
+-- the record of a collector's round: session 0 runs it at place n
 abbrev pub round : Kind → ℕ → Record
 round kind n = record { place = n; session = 0; statement = Gc kind }
 

@@ -14,9 +14,11 @@ use Rattle.hg_known.specs.declared.history.Commits as kept
 use Rattle.hg_known.specs.Written.{image_at}
 use Rattle.hg_known.specs.Commits.{IsFit, AreApart, image_of}
 
+-- seats in the order of their numbers, and then of their sessions
 abbrev pub seat_cmp : Seat → Seat → Ordering
 seat_cmp a b = ordering_then (nat_cmp a.number b.number) (nat_cmp a.session b.session)
 
+-- where a commit of session j under number n is kept
 abbrev pub seat : ℕ → ℕ → Seat
 seat n j = record { number = n; session = j }
 

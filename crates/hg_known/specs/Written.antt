@@ -14,9 +14,11 @@ use Rattle.std.specs.declared.cmp.Ordering.TheVariants.{Less}
 use Rattle.std.specs.Ordering.{nat_cmp, ordering_then, is_gt}
 use Rattle.hg_known.specs.declared.writes.Slot.{Slot}
 
+-- whether two places are of one record and one number
 abbrev pub same_slot : Slot → Slot → Bool
 same_slot a b = same_rid a.rid b.rid && (a.number == b.number)
 
+-- the place of what group n writes of record r
 abbrev pub slot : Rid → ℕ → Slot
 slot r n = record { rid = r; number = n }
 
@@ -39,6 +41,7 @@ IsLastAt writes r s found =
 abbrev pub IsOfHistory : History → List (Slot × Image) → Type 0
 IsOfHistory h writes = (r : Rid) (n : ℕ) → image_at writes r n ≡ group_image r (group_at h n)
 
+-- the record of a table with this key
 abbrev pub record_at : TableId → ℕ → Rid
 record_at table key = record { table = table; key = key }
 

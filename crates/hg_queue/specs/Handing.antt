@@ -25,10 +25,11 @@ pub record MayCommit (part : SessionPart) : Type 0 where
   pub plain : IsTrue (is_plain part.log)
   pub unstamped : part.stamped ≡ false
 
--- whose part it is, and the part
+-- the session whose part a seat carries
 abbrev pub seat_number : TxSeat → ℕ
 seat_number s = s.number
 
+-- the part that it carries
 abbrev pub seat_part : TxSeat → SessionPart
 seat_part s = session (tx_view s)
 

@@ -25,17 +25,19 @@ no_board = record { words = 0; slots = 0; views_name = 0; atom = 0; block = 0; o
 abbrev pub opening : Known
 opening = knows true true no_board []
 
--- the pass that pops, and one that pushes, of a new queue
+-- the pass of a new queue that pops
 abbrev pub leader : BoardId → Known
 leader t = knows false true t []
 
+-- a pass of a new queue that pushes
 abbrev pub pusher : BoardId → Known
 pusher t = knows false false t []
 
--- a pass may pop, or push
+-- a pass may pop
 abbrev pub MayPop : Known → Type 0
 MayPop v = (v.opens ≡ false) × (v.leads ≡ true)
 
+-- a pass may push
 abbrev pub MayPush : Known → Type 0
 MayPush v = (v.opens ≡ false) × (v.leads ≡ false)
 

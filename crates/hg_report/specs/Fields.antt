@@ -37,6 +37,7 @@ says fields i word = bytes_eq (nth fields i) word
 abbrev pub natural_at : List Field → ℕ → ℕ
 natural_at fields i = value_of (natural_of (nth fields i))
 
+-- a number of at most 32 bits, and 0 where it is greater
 abbrev pub narrow : ℕ → ℕ
 narrow n = if nat_lt n (2 ^ 32) then n else 0
 
@@ -44,6 +45,7 @@ narrow n = if nat_lt n (2 ^ 32) then n else 0
 abbrev pub session_in : List Field → ℕ → ℕ
 session_in fields i = narrow (natural_at fields i)
 
+-- the value of a field that is an integer, and 0 where it is none
 abbrev pub integer_value : Integer → ℤ
 integer_value (signed.Is value) = value
 integer_value _ = pos 0
@@ -66,6 +68,7 @@ abbrev pub value_in : Column → Field → Value
 value_in columns.Number field = Number (integer_value (integer_of field))
 value_in columns.Text field = Text (take MOST_TEXT_BYTES (text_in field))
 
+-- whether a column holds texts
 abbrev pub holds_text : Column → Bool
 holds_text columns.Number = false
 holds_text columns.Text = true

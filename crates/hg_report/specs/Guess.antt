@@ -21,6 +21,7 @@ use Rattle.hg_report.specs.Fields.{says, natural_at, session_in, row_in}
 
 -- ---- the guess of an answer, whose first field is field i
 
+-- the kind of collector that field i + 1 names: the interval collector where it names no other
 abbrev pub kind_guess : List Field → ℕ → Kind
 kind_guess fields i = if says fields i (codes "group") then kinds.Group else if says fields i (codes "table") then kinds.Table else kinds.Interval
 
@@ -28,33 +29,40 @@ kind_guess fields i = if says fields i (codes "group") then kinds.Group else if 
 abbrev pub sweep_guess : List Field → ℕ → Sweep
 sweep_guess fields i = record { kind = kind_guess fields (i + 1); mark = natural_at fields (i + 2); horizon = natural_at fields (i + 3); removed = natural_at fields (i + 4); held = [] }
 
+-- a refusal, by its cause in field i + 1
 abbrev pub refusal_guess : TableId → List Field → ℕ → Answer
 refusal_guess table fields i =
     if says fields (i + 1) (codes "newer") then Newer (natural_at fields (i + 2))
     else if says fields (i + 1) (codes "open") then OpenBy (record { session = session_in fields (i + 2); transaction = natural_at fields (i + 3) })
     else Undeclared table
 
--- by what the statement asks; the rows of a scan or a fetch are in the records that follow
+-- the answer to a get: a row, `none`, or a refusal; none where the row can't be read
 abbrev pub get_guess : List Declaration → TableId → List Field → ℕ → Option Answer
 get_guess tables table fields i =
     if says fields i (codes "row") then option_map Found (row_in fields (i + 1) (kinds_of tables table))
     else if says fields i (codes "none") then Some Nothing else Some (Undeclared table)
 
+-- the answer to a put
 abbrev pub put_guess : TableId → List Field → ℕ → Answer
 put_guess table fields i = if says fields i (codes "stored") then Stored else refusal_guess table fields i
 
+-- the answer to a del
 abbrev pub del_guess : TableId → List Field → ℕ → Answer
 del_guess table fields i = if says fields i (codes "gone") then Gone else if says fields i (codes "none") then Nothing else refusal_guess table fields i
 
+-- the answer to a scan; its rows are in the records that follow
 abbrev pub scan_guess : TableId → List Field → ℕ → Answer
 scan_guess table fields i = if says fields i (codes "rows") then Rows [] else Undeclared table
 
+-- the answer to a commit
 abbrev pub commit_guess : List Field → ℕ → Answer
 commit_guess fields i = if says fields i (codes "committed") then Committed (natural_at fields (i + 1)) else Ended
 
+-- the answer to a `gc`; its held snapshots are in the records that follow
 abbrev pub gc_guess : List Field → ℕ → Answer
 gc_guess fields i = if says fields i (codes "beside") then Beside else Swept (sweep_guess fields i)
 
+-- the answer to what is asked; the rows of a fetch are in the records that follow
 abbrev pub answer_guess : List Declaration → Asked → List Field → ℕ → Option Answer
 answer_guess tables Begin fields i = Some (Begun (natural_at fields (i + 1)))
 answer_guess tables (Get table) fields i = get_guess tables table fields i
@@ -94,6 +102,7 @@ piece_of asked session place at fields i (Swept sweep) = piece.Sweep session pla
 piece_of asked session place at fields i answer =
     piece.Line (record { session = session; place = place; reply = record { at = at; answer = answer; number = number_guess answer fields i } })
 
+-- the piece that begins a reply, whose answer starts after its snapshot
 abbrev pub answered_guess : List Declaration → Asked → ℕ → ℕ → Option ℕ → List Field → Option Piece
 answered_guess tables asked session place at fields =
     option_map (piece_of asked session place at fields (answer_place at)) (answer_guess tables asked fields (answer_place at))
@@ -102,10 +111,11 @@ answered_guess tables asked session place at fields =
 abbrev pub statement_at : List Record → ℕ → ℕ → Option Statement
 statement_at records session place = option_map_or (λ r. Some r.statement) (find (λ r. (r.place == place) && (r.session == session)) records) None
 
--- and what it asks
+-- what the script's record at this session and place asks
 abbrev pub asked_at : List Record → ℕ → ℕ → Option Asked
 asked_at records session place = option_map (asked_by (cursor_before records session place)) (statement_at records session place)
 
+-- the piece that begins the reply to the script's record at this session and place
 abbrev pub reply_guess : Script → ℕ → ℕ → List Field → Option Piece
 reply_guess script session place fields =
     option_and_then (λ asked. answered_guess script.tables asked session place (at_guess asked fields) fields) (asked_at script.records session place)
@@ -120,9 +130,10 @@ head_guess script fields =
 abbrev pub first_guess : Script → List Field → Option Piece
 first_guess script fields = if says fields 0 (codes "total") then Some (piece.Total 0 (natural_at fields 2)) else head_guess script fields
 
--- the rows and held snapshots of a line of that session and place
+-- a row of a scan or a fetch, in a record of its own
 abbrev pub row_guess : List Declaration → ℕ → ℕ → TableId → List Field → Option Piece
 row_guess tables session place table fields = option_map (λ row. piece.Row session place (natural_at fields 3) row) (row_in fields 4 (kinds_of tables table))
 
+-- a held snapshot of a report, in a record of its own
 abbrev pub held_guess : ℕ → ℕ → List Field → Piece
 held_guess session place fields = piece.Held session place (record { session = session_in fields 3; number = natural_at fields 4; moved = says fields 5 (codes "moved") })

@@ -20,6 +20,7 @@ use Rattle.hg_report.specs.Guess.{first_guess, row_guess, held_guess}
 
 -- ---- the guess of the next record
 
+-- the piece that comes next, by what may still be open: a scan's rows, a report's held snapshots, or totals
 abbrev pub guess_after : Script → Open → List Field → Option Piece
 guess_after script opens.Nothing fields = first_guess script fields
 guess_after script (opens.Scan session place at table left rows) fields = if nat_lt 0 left then row_guess script.tables session place table fields else first_guess script fields
@@ -28,13 +29,15 @@ guess_after script (opens.Totals index totals) fields = if nat_lt index 6 then S
 
 -- ---- what a piece adds
 
--- the line whose records may go on
+-- the line of a scan with these rows
 abbrev pub scan_line : ℕ → ℕ → Option ℕ → List (ℕ × List Value) → Line
 scan_line session place at rows = record { session = session; place = place; reply = record { at = at; answer = Rows rows; number = None } }
 
+-- the line of a report
 abbrev pub sweep_line : ℕ → ℕ → Sweep → Line
 sweep_line session place sweep = record { session = session; place = place; reply = record { at = None; answer = Swept sweep; number = None } }
 
+-- the line whose records may go on, if there is one
 abbrev pub open_lines : Open → List Line
 open_lines opens.Nothing = []
 open_lines (opens.Scan session place at table left rows) = scan_line session place at rows ∷ []
@@ -45,27 +48,32 @@ open_lines (opens.Totals index totals) = []
 abbrev pub lines_of : Progress → List Line
 lines_of progress = progress.lines ++ open_lines progress.last
 
+-- six totals of 0
 abbrev pub no_totals : Totals
 no_totals = record { made = 0; undone = 0; group = 0; table = 0; interval = 0; left = 0 }
 
+-- the totals that were read so far
 abbrev pub totals_of : Open → Totals
 totals_of (opens.Totals index totals) = totals
 totals_of _ = no_totals
 
--- the totals with one of them told
+-- the totals with one of them set, by its index
 abbrev pub with_total : ℕ → ℕ → Totals → Totals
 with_total index number totals =
     if index == 0 then record totals { made = number } else if index == 1 then record totals { undone = number } else if index == 2 then record totals { group = number }
     else if index == 3 then record totals { table = number } else if index == 4 then record totals { interval = number } else record totals { left = number }
 
+-- what is open, with one row more
 abbrev pub with_row : Open → ℕ × List Value → Open
 with_row (opens.Scan session place at table left rows) p = opens.Scan session place at table (left - 1) (rows ++ p ∷ [])
 with_row state p = state
 
+-- what is open, with one held snapshot more
 abbrev pub with_held : Open → Told → Open
 with_held (opens.Sweep session place sweep) told = opens.Sweep session place (record sweep { held = sweep.held ++ told ∷ [] })
 with_held state told = state
 
+-- how far the reader has come after this piece
 abbrev pub after : Progress → Piece → Progress
 after progress (piece.Line line) = record { lines = lines_of progress ++ line ∷ []; last = opens.Nothing }
 after progress (piece.Scan session place at table left) = record { lines = lines_of progress; last = opens.Scan session place at table left [] }

@@ -11,6 +11,7 @@ use Rattle.hg_run.specs.declared.source.ReadError.TheVariants as error
 use Rattle.hg_run.specs.declared.status.Status.{Status}
 use Rattle.hg_run.specs.declared.status.Status.TheVariants.{Done, Usage, BadScript, ReadFault, WriteFault, TooLong, NoMemory}
 
+-- the exit status of the program
 abbrev pub exit_code_of : Status → ℕ
 exit_code_of Done = 0
 exit_code_of Usage = 2
@@ -30,15 +31,18 @@ said_of WriteFault = codes "write fault"
 said_of TooLong = codes "script longer than " ++ decimal MOST_SCRIPT_BYTES ++ codes " bytes"
 said_of NoMemory = codes "out of memory"
 
+-- the status where the words of the command line are refused
 abbrev pub status_of_words : WordsRefusal → Status
 status_of_words words.Usage = Usage
 status_of_words words.NoMemory = NoMemory
 
+-- the status where the source can't be read
 abbrev pub status_of_read : ReadError → Status
 status_of_read error.Fault = ReadFault
 status_of_read error.TooLong = TooLong
 status_of_read error.NoMemory = NoMemory
 
+-- the status where the script is refused
 abbrev pub status_of_script : ScriptRefusal → Status
 status_of_script (refusal.At line code) = BadScript line code
 status_of_script refusal.NoMemory = NoMemory

@@ -13,6 +13,7 @@ pub record Change : Type 0 where
   pub faults : ℕ
   pub faults_after : ℕ
 
+-- the change from one value of a source or a sink to another: its bytes, and how many faults it had
 abbrev pub change_of : {A : Type 0} → (A → Option (List ℕ)) → (A → ℕ) → A → A → Change
 change_of bytes faults old new = record { before = bytes old; after = bytes new; faults = faults old; faults_after = faults new }
 

@@ -11,6 +11,7 @@ pub record Settings : Type 0 where
   pub buckets : ℕ
   pub long : ℕ
 
+-- the settings of these options in a mode
 abbrev pub settings_in : Mode → Options → Settings
 settings_in mode options = record { mode = mode; buckets = options.buckets; long = options.long }
 
@@ -18,6 +19,7 @@ settings_in mode options = record { mode = mode; buckets = options.buckets; long
 abbrev pub mode_of : Options → Mode
 mode_of options = elim options.command [ Run ↦ run options.rounds | Dump ↦ run options.rounds | _ ↦ replay ]
 
+-- the settings that the options give
 abbrev pub settings_of : Options → Settings
 settings_of options = settings_in (mode_of options) options
 
@@ -29,15 +31,18 @@ pub data Task : Type 0 where
   audits : Task
   dumps : Settings → Task
 
+-- the task that the options ask for
 abbrev pub task_of : Options → Task
 task_of options = elim options.command [ Load seed ↦ makes seed (settings_of options) | Audit ↦ audits | Dump ↦ dumps (settings_of options) | _ ↦ reads (settings_of options) ]
 
+-- the task reads the source
 abbrev pub IsReading : Task → Type 0
 IsReading (reads settings) = ⊤
 IsReading (makes seed settings) = ⊥
 IsReading audits = ⊤
 IsReading (dumps settings) = ⊤
 
+-- the task makes its script from a seed
 abbrev pub IsMaking : Task → Type 0
 IsMaking (reads settings) = ⊥
 IsMaking (makes seed settings) = ⊤

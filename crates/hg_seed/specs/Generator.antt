@@ -41,8 +41,7 @@ drawn n bound x = below bound (state_after n x)
 
 -- ---- what is chosen
 
--- The choice by a number below 16, outside of a transaction and inside one. A row takes the numbers up to its own that no row above
--- it takes.
+-- The choice by a number below 16, outside of a transaction. A row takes the numbers up to its own that no row above it takes.
 abbrev pub outside : List (ℕ × Choice)
 outside =
     (5, Begin)
@@ -54,6 +53,7 @@ outside =
     ∷ (15, Gc)
     ∷ []
 
+-- the choice by a number below 16, inside a transaction
 abbrev pub inside : List (ℕ × Choice)
 inside =
     (4, Put)
@@ -65,6 +65,7 @@ inside =
     ∷ (15, Gc)
     ∷ []
 
+-- the choice that a list gives to a number
 abbrev pub chosen_in : List (ℕ × Choice) → ℕ → Choice
 chosen_in [] r = Gc
 chosen_in ((last, choice) ∷ more) r = if nat_le r last then choice else chosen_in more r
@@ -80,10 +81,11 @@ abbrev pub made_tables : List Declaration
 made_tables = (record { name = codes "a"; kinds = columns.Number ∷ [] }) ∷ (record { name = codes "b"; kinds = columns.Number ∷ columns.Number ∷ [] }) ∷
     (record { name = codes "c"; kinds = columns.Number ∷ [] }) ∷ []
 
--- The first draw makes the choice, the second gives the table, and the third the key.
+-- The table that is drawn. The first draw makes the choice, the second gives the table, and the third the key.
 abbrev pub table_drawn : ℕ → TableId
 table_drawn x = table_at (drawn 2 3 x)
 
+-- the record that is drawn
 abbrev pub rid_drawn : ℕ → Rid
 rid_drawn x = record { table = table_drawn x; key = drawn 3 256 x }
 
@@ -91,6 +93,7 @@ rid_drawn x = record { table = table_drawn x; key = drawn 3 256 x }
 abbrev pub row_drawn : ℕ → ℕ → List Value
 row_drawn columns x = map (λ n. Number (pos (drawn n 1000 x))) (numbers_from 1 columns)
 
+-- the kind of collector by a number below 3
 abbrev pub kind_at : ℕ → Kind
 kind_at n = if n == 0 then kinds.Group else (if n == 1 then kinds.Table else kinds.Interval)
 
@@ -126,7 +129,7 @@ draws_of (say.Gc kind) = 2
 
 -- ---- the script
 
--- what a session adds to a script where the state is x, and the state after it
+-- the script with what a session adds to it where the state is x
 abbrev pub with_drawn : ℕ → ℕ → Script → Script
 with_drawn session x s = record s {
   records = s.records ++ (record {
@@ -136,6 +139,7 @@ with_drawn session x s = record s {
   }) ∷ [];
 }
 
+-- the state after what a session added
 abbrev pub state_drawn : ℕ → ℕ → Script → ℕ
 state_drawn session x s = state_after (draws_of (statement_at x (is_open session s.records))) x
 

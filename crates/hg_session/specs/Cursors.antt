@@ -16,6 +16,7 @@ pub record IsLeftBy (c : Cursor) (rest : Rest) : Type 0 where
   pub high : rest.high ≡ high_of c
   pub from : rest_of c ≡ begins_at rest.low rest.high
 
+-- an open cursor has the keys of this rest left; where no cursor is open, nothing is said of the rest
 abbrev pub FitsRest : Option Cursor → Option Rest → Type 0
 FitsRest None rest = ⊤
 FitsRest (Some c) None = ⊥

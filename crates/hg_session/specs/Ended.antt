@@ -15,13 +15,15 @@ use Rattle.hg_rule.specs.Views.{session_there, commit_there, pass_there, first_i
 use Rattle.hg_rule.specs.Reading.{seek, passes_in, AllRest}
 use Rattle.hg_rule.specs.Seats.{commit_view}
 
--- the log of each session, the visits of each pass, and the history
+-- the log of each session
 abbrev pub logs_in : View → ℕ → List LogEntry
 logs_in v = λ j. (session_there (seek (session_key j) v.parts)).log
 
+-- the visits of each pass
 abbrev pub visits_in : View → ℕ → List Visit
 visits_in v = λ p. (pass_there (seek (pass_key p) v.parts)).visits
 
+-- the history
 abbrev pub history_in : View → History
 history_in v = (commit_there (seek commit_key v.parts)).history.list
 

@@ -7,13 +7,15 @@ use Rattle.hg_group.specs.declared.list.GroupList.{GroupList}
 use Rattle.hg_store.specs.declared.store.Store.{Store}
 use Rattle.hg_session.specs.declared.engine.Engine.{Engine}
 
--- its board, the board's identity, and for how many of each it was opened
+-- the board of an engine
 abbrev pub engine_board : Engine → Board
 engine_board e = board_of e.trackers
 
+-- the identity of an engine's board
 abbrev pub engine_board_id : Engine → BoardId
 engine_board_id e = board_id (engine_board e)
 
+-- the sizes of an engine's board
 abbrev pub engine_sizes : Engine → Sizes
 engine_sizes e = sizes_of (engine_board e)
 

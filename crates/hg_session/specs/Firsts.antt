@@ -27,13 +27,14 @@ pub record ShownFirst (old : View) (r : Rid) (at : ℕ) (answer : Answer) (new :
   pub goes : GoOn logs old.sights
   pub first : IsFirstAt logs (session old).log (number old) at r answer
 
--- the same of a result: a stored write, or one that is refused for a newer group
+-- a stored write, or one that is refused for a newer group, shows its first cause
 abbrev pub ShowsWrite : {T : Type 0} → View → Rid → ℕ → Result T WriteRefusal → View → Type 0
 ShowsWrite old r at (Ok t) new = ShownFirst old r at answers.Stored new
 ShowsWrite old r at (Err (bucket.Newer n)) new = ShownFirst old r at (answers.Newer n) new
 ShowsWrite old r at (Err (bucket.Open session transaction)) new = ⊤
 ShowsWrite old r at (Err bucket.NoMemory) new = ⊤
 
+-- a put or a del that is stored, or that is refused for a newer group, shows its first cause
 abbrev pub ShowsPut : {T : Type 0} → View → Rid → ℕ → Result T PutRefusal → View → Type 0
 ShowsPut old r at (Ok t) new = ShownFirst old r at answers.Stored new
 ShowsPut old r at (Err (put.Newer s n)) new = ShownFirst old r at (answers.Newer n) new

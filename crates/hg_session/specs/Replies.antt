@@ -36,49 +36,59 @@ use Rattle.hg_session.specs.declared.answers.PutRefusal.TheVariants as put
 abbrev pub inside : Answer → Reply
 inside answer = record { at = None; answer = answer; number = None }
 
--- the snapshot of a statement is printed where it is a transaction of its own
+-- the snapshot that a reply prints: only that of a statement which is a transaction of its own
 abbrev pub shown : Bool → ℕ → Option ℕ
 shown true at = Some at
 shown false at = None
 
+-- a reply without a commit number
 abbrev pub reading : Bool → ℕ → Answer → Reply
 reading alone at answer = record { at = shown alone at; answer = answer; number = None }
 
+-- a reply with the commit number of a statement that is a transaction of its own
 abbrev pub writing : Bool → ℕ → Answer → Option ℕ → Reply
 writing alone at answer number = record { at = shown alone at; answer = answer; number = number }
 
+-- the answer to a get that found this row, or none
 abbrev pub row_answer : Option (List Value) → Answer
 row_answer None = Nothing
 row_answer (Some row) = Found row
 
+-- the reply to a get; none where memory ran out
 abbrev pub get_reply : Bool → Result Read GetRefusal → Option Reply
 get_reply alone (Ok read) = Some (reading alone read.at (row_answer read.row))
 get_reply alone (Err (get.Undeclared table)) = Some (inside (Undeclared table))
 get_reply alone (Err get.NoMemory) = None
 
+-- the reply to a scan; none where memory ran out
 abbrev pub scan_reply : Bool → Result Scanned GetRefusal → Option Reply
 scan_reply alone (Ok scanned) = Some (reading alone scanned.at (Rows scanned.rows))
 scan_reply alone (Err (get.Undeclared table)) = Some (inside (Undeclared table))
 scan_reply alone (Err get.NoMemory) = None
 
+-- the reply to a write that is refused; none where memory ran out
 abbrev pub refused_reply : Bool → PutRefusal → Option Reply
 refused_reply alone (put.Undeclared table) = Some (inside (Undeclared table))
 refused_reply alone (put.Open at session transaction) = Some (reading alone at (OpenBy (record { session = session; transaction = transaction })))
 refused_reply alone (put.Newer at number) = Some (reading alone at (Newer number))
 refused_reply alone put.NoMemory = None
 
+-- the reply to a put; none where memory ran out
 abbrev pub put_reply : Bool → Result Written PutRefusal → Option Reply
 put_reply alone (Ok written) = Some (writing alone written.at Stored written.number)
 put_reply alone (Err refusal) = refused_reply alone refusal
 
+-- the answer to a del, by whether a row was there
 abbrev pub gone_answer : Bool → Answer
 gone_answer true = Gone
 gone_answer false = Nothing
 
+-- the reply to a del; none where memory ran out
 abbrev pub del_reply : Bool → Result Deleted PutRefusal → Option Reply
 del_reply alone (Ok deleted) = Some (writing alone deleted.at (gone_answer deleted.there) deleted.number)
 del_reply alone (Err refusal) = refused_reply alone refusal
 
+-- the answer to a commit, by the number that it got, if it wrote
 abbrev pub commit_answer : Option ℕ → Answer
 commit_answer None = NothingWritten
 commit_answer (Some number) = Committed number
@@ -117,23 +127,28 @@ pub record AnswersFrom (rest : Option Rest) (z : Sizes) (old : View) (statement 
 
 -- ---- the snapshot in an answer
 
+-- the snapshot at which a get read
 abbrev pub get_at : Result Read GetRefusal → Option ℕ
 get_at (Ok read) = Some read.at
 get_at (Err e) = None
 
+-- the snapshot at which a scan read
 abbrev pub scan_at : Result Scanned GetRefusal → Option ℕ
 scan_at (Ok scanned) = Some scanned.at
 scan_at (Err e) = None
 
+-- the snapshot of a refused write: none where the table is not declared, or memory ran out
 abbrev pub refusal_at : PutRefusal → Option ℕ
 refusal_at (put.Open at session transaction) = Some at
 refusal_at (put.Newer at number) = Some at
 refusal_at _ = None
 
+-- the snapshot of a put
 abbrev pub put_at : Result Written PutRefusal → Option ℕ
 put_at (Ok written) = Some written.at
 put_at (Err refusal) = refusal_at refusal
 
+-- the snapshot of a del
 abbrev pub del_at : Result Deleted PutRefusal → Option ℕ
 del_at (Ok deleted) = Some deleted.at
 del_at (Err refusal) = refusal_at refusal

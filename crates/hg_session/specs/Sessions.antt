@@ -16,29 +16,35 @@ use Rattle.hg_session.specs.Engines.{engine_board_id, engine_sizes}
 use Rattle.hg_session.specs.Ties.{Ties, FitsCursor}
 use Rattle.hg_rule.specs.Facts.{IsHeard}
 
--- its pass, what that sees, its number, its log and what it has seen
+-- a session's pass
 abbrev pub pass_of : Session → SessionPass
 pass_of s = s.pass
 
+-- the view of a session's pass
 abbrev pub view_of : Session → View
 view_of s = session_view s.pass
 
+-- a session's number
 abbrev pub number_of : Session → ℕ
 number_of s = number (view_of s)
 
+-- a session's log, newest entry first
 abbrev pub log_of : Session → List LogEntry
 log_of s = (session (view_of s)).log
 
+-- what a session has seen
 abbrev pub seen_by : Session → List Sight
 seen_by s = (view_of s).sights
 
--- the snapshot of its open transaction, whether none is open, and how many statements it may still run
+-- the snapshot of a session's open transaction, if one is open
 abbrev pub open_of : Session → Option Snapshot
 open_of s = current (log_of s)
 
+-- whether no transaction of the session is open
 abbrev pub is_alone : Session → Bool
 is_alone s = is_none (open_of s)
 
+-- how many statements the session may still run
 abbrev pub left_of : Session → ℕ
 left_of s = s.left
 
@@ -50,9 +56,11 @@ cursor_of s = s.cursor
 abbrev pub retries_of : Session → ℕ
 retries_of s = s.retries
 
+-- the snapshot that the session keeps of its open transaction
 abbrev pub opened_of : Session → Option Snapshot
 opened_of s = s.opened
 
+-- the records that the session's open transaction has written
 abbrev pub written_of : Session → List Rid
 written_of s = s.written.list
 

@@ -21,6 +21,7 @@ columns_field version kinds = if version == 1 then decimal (length kinds) else m
 abbrev pub version_records : ℕ → List (List Field)
 version_records version = if version == 1 then [] else (codes "version" ∷ decimal version ∷ []) ∷ []
 
+-- the record that declares a table
 abbrev pub table_fields : ℕ → Declaration → List Field
 table_fields version d = codes "table" ∷ d.name ∷ columns_field version d.kinds ∷ []
 

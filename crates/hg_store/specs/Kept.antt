@@ -17,12 +17,13 @@ use Rattle.hg_bucket.specs.declared.refusal.WriteRefusal.{WriteRefusal}
 use Rattle.hg_bucket.specs.declared.refusal.WriteRefusal.TheVariants.{Open, Newer}
 use Rattle.hg_rule.specs.declared.view.BucketPart.{BucketPart}
 
--- a version as a bucket keeps it
+-- a version with this stamp and this image, as a bucket keeps it
 abbrev pub kept_as : Stamp → Image → Kept
 kept_as (Written by) image = record { number = None; by = Some by; image = image }
 kept_as (Numbered number by) image = record { number = Some number; by = Some by; image = image }
 kept_as (Oldest number) image = record { number = Some number; by = None; image = image }
 
+-- a version as a bucket keeps it
 abbrev pub kept : Version → Kept
 kept v = kept_as v.stamp v.image
 

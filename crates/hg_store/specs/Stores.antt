@@ -15,20 +15,23 @@ use Rattle.hg_store.specs.declared.held.Held.{Held}
 use Rattle.hg_store.specs.Kept.{Keeps, AreOrdered}
 use Rattle.hg_store.specs.Slots.{seat_board_id}
 
--- the board of a store, and how many buckets it has
+-- the board of a store
 abbrev pub store_board_id : Store → BoardId
 store_board_id s = seat_board_id (tag_of s.locks).value
 
+-- how many buckets a store has
 abbrev pub store_buckets : Store → ℕ
 store_buckets s = count_of s.locks
 
--- the board of a bucket that is held, its number, and what it keeps
+-- the board of a bucket that is held
 abbrev pub held_board_id : Held → BoardId
 held_board_id h = seat_board_id (tag_of h.locks.now).value
 
+-- the number of a bucket that is held
 abbrev pub held_number : Held → ℕ
 held_number h = h.number
 
+-- what a bucket that is held keeps
 abbrev pub held_records : Held → BucketModel
 held_records h = h.bucket.value
 

@@ -23,10 +23,11 @@ use Rattle.hg_sweep.specs.declared.helper.Helper.{Helper}
 use Rattle.hg_sweep.specs.Word.{times, sum, whole_quota, helper_quota}
 use Rattle.hg_sweep.specs.Helpers.{visited, AreVisits, IsHelperOf, IsReady, HasHelped}
 
--- a helper's share, and those of helpers together
+-- a helper's share
 abbrev pub share_of : Helper → ℕ
 share_of h = (pass (pass_view h.pass)).share
 
+-- the shares of helpers, added up
 abbrev pub shares : List Helper → ℕ
 shares hs = sum share_of hs
 

@@ -18,17 +18,19 @@ abbrev pub sum : {A : Type 0} → (A → ℕ) → List A → ℕ
 sum f [] = 0
 sum f (x ∷ xs) = f x + sum f xs
 
--- how many numbers a view has, and how many it may have
+-- how many numbers a view has drawn
 abbrev pub many : Drawn → ℕ
 many v = length v.numbers
 
+-- how many numbers a view may draw in all, with those that it has drawn
 abbrev pub quota : Drawn → ℕ
 quota v = v.left + length v.numbers
 
--- how many may be drawn in all, and by one helper: there are fewer buckets
+-- how many numbers may be drawn in all: there are fewer buckets
 abbrev pub whole_quota : ℕ
 whole_quota = 1099511627776
 
+-- how many numbers one helper may draw: there are fewer buckets
 abbrev pub helper_quota : ℕ
 helper_quota = 8589934592
 
@@ -45,17 +47,19 @@ pub record IsDrawn (t : State ℕ Drawn) : Type 0 where
 abbrev pub fresh : Drawn
 fresh = record { left = whole_quota; numbers = [] }
 
--- a helper's, and one that hires a helper
+-- the view of a new helper, which has drawn nothing
 abbrev pub hired : Drawn
 hired = record { left = helper_quota; numbers = [] }
 
+-- the view that hired a helper, after it gave the helper's quota away
 abbrev pub hirer : Drawn → Drawn
 hirer v = record v { left = v.left - helper_quota }
 
--- two that are joined
+-- the view of two that are joined
 abbrev pub together : Drawn → Drawn → Drawn
 together v w = record { left = v.left + w.left; numbers = w.numbers ++ v.numbers }
 
+-- the view of a seat that was joined to another: it has nothing, and may draw nothing
 abbrev pub spent : Drawn
 spent = record { left = 0; numbers = [] }
 
@@ -72,8 +76,10 @@ pub record Drew (v : Drawn) (n : ℕ) (w : Drawn) : Type 0 where
 
 -- ---- the same as a step of the table tells it
 
+-- the step of `Drew`, by the number that was found
 abbrev pub draws : Step ℕ → Me ℕ Drawn → ℕ → Me ℕ Drawn → Type 0
 draws step m n w = Drew m.0 n w.0 × (w.1 ≡ m.1)
 
+-- the step that begins a round again, where all numbers were drawn
 abbrev pub restarts : Step ℕ → Me ℕ Drawn → ℕ → Me ℕ Drawn → Type 0
 restarts step m n w = AreAll m.0.numbers × ((w.0 ≡ fresh) × (w.1 ≡ m.1))

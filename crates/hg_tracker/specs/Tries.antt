@@ -21,12 +21,13 @@ tries_of p [] outcomes = []
 tries_of p (e ∷ entries) [] = []
 tries_of p (e ∷ entries) (moved ∷ outcomes) = Move p e.session e.number moved ∷ tries_of p entries outcomes
 
--- what a record has after the tries
+-- what a record has loaded after the tries
 abbrev pub moved_by : List Entry → List Bool → List (ℕ × Loaded) → List (ℕ × Loaded)
 moved_by [] outcomes loaded = loaded
 moved_by (e ∷ entries) [] loaded = loaded
 moved_by (e ∷ entries) (moved ∷ outcomes) loaded = moved_by entries outcomes (if moved then moved_in e.session loaded else loaded)
 
+-- how many tries succeeded
 abbrev pub successes : List Bool → ℕ
 successes [] = 0
 successes (moved ∷ outcomes) = if moved then suc (successes outcomes) else successes outcomes

@@ -15,13 +15,15 @@ use Rattle.hg_rule.specs.declared.view.Sizes.{Sizes}
 use Rattle.hg_rule.specs.Views.{session, bucket_there, commit_there, first_in, HasOnlySession}
 use Rattle.hg_rule.specs.Seats.{BoardId, session_view, bucket_view, commit_view, IsSessionOf}
 
--- the part of a pass's session, of a bucket's seat, and of the committer's
+-- the part of a pass's session
 abbrev pub own_session : SessionPass → SessionPart
 own_session p = session (session_view p)
 
+-- the part of a bucket's seat
 abbrev pub own_bucket : BucketSeat → BucketPart
 own_bucket p = bucket_there (first_in (bucket_view p).parts)
 
+-- the part of the committer's seat
 abbrev pub own_commit : CommitSeat → CommitPart
 own_commit p = commit_there (first_in (commit_view p).parts)
 

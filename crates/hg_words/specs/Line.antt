@@ -11,6 +11,7 @@ mode_rule = record (new_rule (codes "mode")) { required = true }
 abbrev pub seed_rule : Rule
 seed_rule = record (new_rule (codes "seed")) { parser = Some (parser.Unsigned 0 18446744073709551615) }
 
+-- `--buckets`: 1 to 1,024, and 64 where it is not given
 abbrev pub buckets_rule : Rule
 buckets_rule = record (new_rule (codes "buckets")) {
   long = Some (codes "buckets");
@@ -18,6 +19,7 @@ buckets_rule = record (new_rule (codes "buckets")) {
   defaults = codes "64" ∷ [];
 }
 
+-- `--long`: 1 to 1,048,576, and 4 where it is not given
 abbrev pub long_rule : Rule
 long_rule = record (new_rule (codes "long")) {
   long = Some (codes "long");
@@ -25,6 +27,7 @@ long_rule = record (new_rule (codes "long")) {
   defaults = codes "4" ∷ [];
 }
 
+-- `--rounds`: 0 to 1,000, and 8 where it is not given
 abbrev pub rounds_rule : Rule
 rounds_rule = record (new_rule (codes "rounds")) {
   long = Some (codes "rounds");
@@ -32,6 +35,7 @@ rounds_rule = record (new_rule (codes "rounds")) {
   defaults = codes "8" ∷ [];
 }
 
+-- `--sweepers`: 1 to 16, and 1 where it is not given
 abbrev pub sweepers_rule : Rule
 sweepers_rule = record (new_rule (codes "sweepers")) {
   long = Some (codes "sweepers");
@@ -39,17 +43,18 @@ sweepers_rule = record (new_rule (codes "sweepers")) {
   defaults = codes "1" ∷ [];
 }
 
--- it reads words without the program's name
+-- the command without an argument, which reads words without the program's name
 abbrev pub bare_line : App
 bare_line = let a = new_app (codes "hybridgc") in record a { top = record a.top { no_binary_name = true } }
 
--- with what stands at a place alone
+-- the command with the two positionals
 abbrev pub placed_line : App
 placed_line = with_rule (with_rule bare_line mode_rule) seed_rule
 
--- and what an engine is opened with
+-- the command with the positionals and the options that an engine is opened with
 abbrev pub engine_line : App
 engine_line = with_rule (with_rule placed_line buckets_rule) long_rule
 
+-- the whole command of the program
 abbrev pub command_line : App
 command_line = with_rule (with_rule engine_line rounds_rule) sweepers_rule

@@ -21,13 +21,15 @@ command_of mode None = if bytes_eq mode (codes "replay") then Some Replay else
     (if bytes_eq mode (codes "run") then Some Run else (if bytes_eq mode (codes "audit") then Some Audit else (if bytes_eq mode (codes "dump") then Some Dump else None)))
 command_of mode (Some seed) = if bytes_eq mode (codes "load") then Some (Load seed) else None
 
--- the number that stands for a name among what `clap` found
+-- the number of so many bits that `clap` found for a name
 abbrev pub named_number : ℕ → Text → List Row → Option ℕ
 named_number bits name rows = option_and_then (number_of bits) (one_of name rows)
 
+-- the command among what `clap` found: its mode, with its seed where it has one
 abbrev pub command_in : List Row → Option Command
 command_in rows = option_and_then (λ mode. command_of mode (named_number 64 (codes "seed") rows)) (first_of (codes "mode") rows)
 
+-- the options of a command and four numbers, if all five were found
 abbrev pub options_of_all : Option Command → Option ℕ → Option ℕ → Option ℕ → Option ℕ → Option Options
 options_of_all (Some command) (Some buckets) (Some long) (Some rounds) (Some sweepers) = Some (record { command = command; buckets = buckets; long = long; rounds = rounds; sweepers = sweepers })
 options_of_all _ _ _ _ _ = None
@@ -37,6 +39,7 @@ abbrev pub options_in : List Row → Option Options
 options_in rows = options_of_all (command_in rows) (named_number 32 (codes "buckets") rows) (named_number 64 (codes "long") rows) (named_number 32 (codes "rounds") rows)
     (named_number 32 (codes "sweepers") rows)
 
+-- the options among what `clap` found, if it found no fault
 abbrev pub options_unless : Kinds → List Row → Option Options
 options_unless [] rows = options_in rows
 options_unless (fault ∷ faults) rows = None
@@ -45,7 +48,7 @@ options_unless (fault ∷ faults) rows = None
 abbrev pub options_of : List Text → Option Options
 options_of words = options_unless (fault_of command_line words) (matches_of command_line words)
 
--- the numbers lie in their ranges
+-- each number is in the range of its option
 pub record AreWithin (options : Options) : Type 0 where
   pub some_buckets : 1 ≤ options.buckets
   pub most_buckets : options.buckets ≤ 1024
