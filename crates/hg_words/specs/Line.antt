@@ -1,6 +1,6 @@
 -- The one command of the program, in `clap`'s terms.
-use Rattle.std.specs.Prelude.{true, [], ◌∷◌, codes, Some}
-use Rattle.clap.specs.Words.{App, Rule, new_app, new_rule, with_rule}
+use Rattle.std.specs.Prelude.{ℕ, true, [], ◌∷◌, codes, Some}
+use Rattle.clap.specs.Words.{App, Rule, Text, new_app, new_rule, with_rule}
 use Rattle.clap.specs.declared.builder.value_parser.ValueParser.TheVariants as parser
 
 -- the first positional, which has to be there
@@ -11,37 +11,25 @@ mode_rule = record (new_rule (codes "mode")) { required = true }
 abbrev pub seed_rule : Rule
 seed_rule = record (new_rule (codes "seed")) { parser = Some (parser.Unsigned 0 18446744073709551615) }
 
+-- an option of this name that takes a number from low to high, and has this value where it is not given
+abbrev pub number_rule : Text → ℕ → ℕ → Text → Rule
+number_rule name low high value = record (new_rule name) { long = Some name; parser = Some (parser.Unsigned low high); defaults = value ∷ [] }
+
 -- `--buckets`: 1 to 1,024, and 64 where it is not given
 abbrev pub buckets_rule : Rule
-buckets_rule = record (new_rule (codes "buckets")) {
-  long = Some (codes "buckets");
-  parser = Some (parser.Unsigned 1 1024);
-  defaults = codes "64" ∷ [];
-}
+buckets_rule = number_rule (codes "buckets") 1 1024 (codes "64")
 
 -- `--long`: 1 to 1,048,576, and 4 where it is not given
 abbrev pub long_rule : Rule
-long_rule = record (new_rule (codes "long")) {
-  long = Some (codes "long");
-  parser = Some (parser.Unsigned 1 1048576);
-  defaults = codes "4" ∷ [];
-}
+long_rule = number_rule (codes "long") 1 1048576 (codes "4")
 
 -- `--rounds`: 0 to 1,000, and 8 where it is not given
 abbrev pub rounds_rule : Rule
-rounds_rule = record (new_rule (codes "rounds")) {
-  long = Some (codes "rounds");
-  parser = Some (parser.Unsigned 0 1000);
-  defaults = codes "8" ∷ [];
-}
+rounds_rule = number_rule (codes "rounds") 0 1000 (codes "8")
 
 -- `--sweepers`: 1 to 16, and 1 where it is not given
 abbrev pub sweepers_rule : Rule
-sweepers_rule = record (new_rule (codes "sweepers")) {
-  long = Some (codes "sweepers");
-  parser = Some (parser.Unsigned 1 16);
-  defaults = codes "1" ∷ [];
-}
+sweepers_rule = number_rule (codes "sweepers") 1 16 (codes "1")
 
 -- the command without an argument, which reads words without the program's name
 abbrev pub bare_line : App

@@ -1,8 +1,8 @@
-//! The command line: the command, as `clap` is told of it, and the options that it matches.
+//! The command line: the command, as it is made for `clap`, and the options that it matches.
 
 ghost use Rattle.std.specs.Prelude.{◌≡◌, IfOk, false, Some, None, map, codes, IsErrOf, string_bytes, option_and_then, option_map};
 ghost use Rattle.clap.specs.Words.{app_of, rule_of, one_of, first_of, found_of, rows_of};
-ghost use Rattle.hg_words.specs.Line.{command_line, placed_line, engine_line, mode_rule, seed_rule, buckets_rule, long_rule, rounds_rule, sweepers_rule};
+ghost use Rattle.hg_words.specs.Line.{command_line, placed_line, engine_line, mode_rule, seed_rule, number_rule};
 ghost use Rattle.hg_words.specs.declared.options.WordsRefusal.TheVariants.{Usage};
 ghost use Rattle.hg_words.specs.Options.{AreWithin, options_of, options_in, command_of, number_of};
 
@@ -25,47 +25,19 @@ fn seed_argument<'a>(alloc: Global) -> Arg<'a>
     Arg::new(alloc, "seed").value_parser(value_parser!(u64))
 }
 
-fn buckets_argument<'a>(alloc: Global) -> Arg<'a>
-    ensures rule { rule_of result ≡ buckets_rule }
+// An option that takes a number from `low` to `high`. The value is the one that it has if it is not given.
+fn number_argument<'a>(alloc: Global, name: &'a str, low: u32, high: u32, value: &'a str) -> Arg<'a>
+    ensures rule { rule_of result ≡ number_rule name.entry.now low high value.entry.now }
     ensures local { result.global ≡ false }
 {
-    Arg::new(alloc, "buckets")
-        .long("buckets")
-        .value_parser(value_parser!(u64).range(1..=1024))
-        .default_value("64")
+    let range = i64::from(low)..=i64::from(high);
+    Arg::new(alloc, name)
+        .long(name)
+        .value_parser(value_parser!(u64).range(range))
+        .default_value(value)
 }
 
-fn long_argument<'a>(alloc: Global) -> Arg<'a>
-    ensures rule { rule_of result ≡ long_rule }
-    ensures local { result.global ≡ false }
-{
-    Arg::new(alloc, "long")
-        .long("long")
-        .value_parser(value_parser!(u64).range(1..=1_048_576))
-        .default_value("4")
-}
-
-fn rounds_argument<'a>(alloc: Global) -> Arg<'a>
-    ensures rule { rule_of result ≡ rounds_rule }
-    ensures local { result.global ≡ false }
-{
-    Arg::new(alloc, "rounds")
-        .long("rounds")
-        .value_parser(value_parser!(u64).range(0..=1000))
-        .default_value("8")
-}
-
-fn sweepers_argument<'a>(alloc: Global) -> Arg<'a>
-    ensures rule { rule_of result ≡ sweepers_rule }
-    ensures local { result.global ≡ false }
-{
-    Arg::new(alloc, "sweepers")
-        .long("sweepers")
-        .value_parser(value_parser!(u64).range(1..=16))
-        .default_value("1")
-}
-
-// What stands at a place.
+// The command with its positionals.
 fn placed<'a>(alloc: Global) -> Result<clap::Command<'a>, AllocError>
     ensures { IfOk result (λ c. app_of c ≡ placed_line) }
 {
@@ -76,13 +48,13 @@ fn placed<'a>(alloc: Global) -> Result<clap::Command<'a>, AllocError>
     Ok(line)
 }
 
-// And what an engine is opened with.
+// The command with the options that an engine is opened with, too.
 fn for_engine<'a>(alloc: Global) -> Result<clap::Command<'a>, AllocError>
     ensures { IfOk result (λ c. app_of c ≡ engine_line) }
 {
     let line = placed(alloc)?
-        .arg(buckets_argument(alloc))?
-        .arg(long_argument(alloc))?;
+        .arg(number_argument(alloc, "buckets", 1, 1024, "64"))?
+        .arg(number_argument(alloc, "long", 1, 1_048_576, "4"))?;
     Ok(line)
 }
 
@@ -91,8 +63,8 @@ pub(crate) fn line<'a>(alloc: Global) -> Result<clap::Command<'a>, AllocError>
     ensures { IfOk result (λ c. app_of c ≡ command_line) }
 {
     let line = for_engine(alloc)?
-        .arg(rounds_argument(alloc))?
-        .arg(sweepers_argument(alloc))?;
+        .arg(number_argument(alloc, "rounds", 0, 1000, "8"))?
+        .arg(number_argument(alloc, "sweepers", 1, 16, "1"))?;
     Ok(line)
 }
 
@@ -155,7 +127,7 @@ fn options_from(matches: &ArgMatches) -> Option<Options>
     })
 }
 
-/// Reads the words. A number's bounds, and what stands where an option is not given, are in the crate's head.
+/// Reads the words. The bounds of each number, and its value if the option is not given, are in the crate's head.
 pub fn read_words(alloc: Global, words: &[String]) -> Result<Options, WordsRefusal>
     ensures taken { IfOk result
         (λ options. options_of (map string_bytes words.now) ≡ Some options) }
