@@ -4,7 +4,6 @@ ghost use Rattle.std.specs.Prelude.{◌≡◌, ◌++◌, ◌∷◌, [], IfOk, On
 ghost use Rattle.hg_base.specs.Script.{Script};
 ghost use Rattle.hg_base.specs.Text.{text_of};
 ghost use Rattle.hg_csv.specs.Bytes.{record_bytes};
-ghost use Rattle.hg_transcript.specs.LinesText.{Shown, lines_text};
 
 use crate::line::{write_line, write_totals};
 use crate::told::ToldLines;
@@ -71,13 +70,6 @@ impl<'a> Transcript<'a> {
         self.text.extend_from_slice(&other.text)?;
         self.lines = self.lines.followed(&other.lines);
         Ok(())
-    }
-
-    /// The bytes of the lines so far, with no totals.
-    pub fn text(&self) -> &[u8]
-        ensures { result.now ≡ lines_text self.now.tables self.now.lines }
-    {
-        &self.text
     }
 
     /// The text of the lines, and then the totals.
