@@ -1,6 +1,6 @@
 //! Streams in memory of which listed calls fail, for tests.
 
-ghost use Rattle.std.specs.Prelude.{◌≡◌, ◌+◌, ◌-◌, ◌<◌, ◌≤◌, ◌==◌, ◌&&◌, ◌||◌, ◌++◌, ℕ, List, [], Ok, Some, None, length, take, drop, min, max, is_err, is_ok, vec_len, vec_capacity, IfOk, OnOk, OnErr, nat_lt};
+ghost use Rattle.std.specs.Prelude.{◌≡◌, ◌+◌, ◌-◌, ◌<◌, ◌≤◌, ◌==◌, ◌&&◌, ◌||◌, ◌++◌, [], Ok, Some, length, take, drop, min, max, is_err, vec_len, vec_capacity, IfOk, OnOk, OnErr, nat_lt};
 ghost use Rattle.std.specs.Io.{ReadsAtMost};
 ghost use Rattle.std.specs.Io.KnownBytes.{ReadConsumes, WriteAppends};
 ghost use Rattle.std.specs.List.{list_any};
@@ -175,8 +175,11 @@ impl Sink for MemorySink {
             (λ n. n ≡ min (min (length piece.now) self.old.most) self.old.room) }
         ensures taken { IfOk result (λ n.
             self.new ≡
-            record self.old
-            { taken = self.new.taken; room = self.old.room - n; calls = next_count self.old.calls }) }
+            record self.old {
+              taken = self.new.taken;
+              room = self.old.room - n;
+              calls = next_count self.old.calls;
+            }) }
         ensures failed { OnErr result (self.new ≡
             record self.old
             { calls = next_count self.old.calls; faults = next_count self.old.faults }) }
