@@ -1,5 +1,5 @@
 -- One of a list, one of the three kinds, and what follows of a result.
-use Rattle.std.proofs.Common.{◌≡◌, ◌⊎◌, inl, inr, List, [], ◌∷◌, ◌++◌, subst}
+use Rattle.std.proofs.Common.{inl, inr, List, [], ◌∷◌, subst}
 use Rattle.std.specs.Prelude.{Result, Ok, Err, IfOk}
 use Rattle.hg_base.specs.declared.report.Kind.{Kind}
 use Rattle.hg_base.specs.declared.report.Kind.TheVariants.{Group, Table, Interval}
@@ -10,10 +10,6 @@ pub of_among : {A : Type 0} (P : A → Type 0) (a : A) (xs : List A) → Each P 
 of_among P a [] h i = absurd i
 of_among P a (x ∷ xs) h (inl e) = subst P e h.0
 of_among P a (x ∷ xs) h (inr i) = of_among P a xs h.1 i
-
-pub among_right : {A : Type 0} (a : A) (xs ys : List A) → IsAmong a ys → IsAmong a (xs ++ ys)
-among_right a [] ys i = i
-among_right a (x ∷ xs) ys i = inr (among_right a xs ys i)
 
 -- what holds of each kind holds of all
 pub by_kind : (P : Kind → Type 0) → P Group → P Table → P Interval → (kind : Kind) → P kind

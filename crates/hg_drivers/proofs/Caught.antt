@@ -1,5 +1,5 @@
 -- One thread catches up on its sessions' logs, and so knows that each write's line shows its first cause.
-use Rattle.std.proofs.Common.{◌≡◌, ◌⊎◌, inl, inr, ℕ, zero, suc, ◌+◌, ◌<◌, ◌≤◌, ◌≢◌, List, [], ◌∷◌, ◌++◌, length, Option, Some, None, refl, sym, ap, ◌∙◌, subst, arith}
+use Rattle.std.proofs.Common.{◌≡◌, ◌⊎◌, inl, inr, ℕ, suc, ◌+◌, ◌<◌, ◌≤◌, ◌≢◌, List, [], ◌∷◌, ◌++◌, length, Option, refl, sym, ap, ◌∙◌, subst, arith}
 use Rattle.std.specs.Prelude.{get_or, IfSome, IsTrue}
 use Rattle.hg_base.specs.declared.rid.Rid.{Rid}
 use Rattle.hg_base.specs.declared.statement.Statement.{Statement}
@@ -16,7 +16,6 @@ use Rattle.hg_core.proofs.Indices.{put_else}
 use Rattle.hg_core.specs.Shown.{IsFirstAt, ShowsFirst, reads_at}
 use Rattle.hg_core.specs.State.{CoreState}
 use Rattle.hg_rule.specs.declared.view.Part.TheVariants.{OfSession}
-use Rattle.hg_rule.specs.declared.view.Sight.{Sight}
 use Rattle.hg_rule.specs.declared.view.Sight.TheVariants.{Heard}
 use Rattle.hg_rule.specs.declared.view.View.{View}
 use Rattle.hg_rule.specs.Agreed.{IsMet}
@@ -25,7 +24,7 @@ use Rattle.hg_rule.specs.Moves.{joined, put_in}
 use Rattle.hg_rule.specs.Views.{number, session}
 use Rattle.hg_rule.proofs.Lists.{among_left}
 use Rattle.hg_store.proofs.Firsts.{known_at}
-use Rattle.hg_collectors.proofs.Among.{among_right}
+use Rattle.hg_rule.proofs.Growing.{among_later}
 use Rattle.hg_session.specs.declared.engine.Engine.{Engine}
 use Rattle.hg_session.specs.declared.session.Session.{Session}
 use Rattle.hg_session.specs.Engines.{engine_sizes}
@@ -33,7 +32,6 @@ use Rattle.hg_session.specs.Finished.{logs_of}
 use Rattle.hg_session.specs.Firsts.{HasFirst, ShownFirst}
 use Rattle.hg_session.specs.Sessions.{log_of, view_of}
 use Rattle.hg_drivers.specs.Caught.{HasCaughtUp, HasOwn, IsHeardUpTo, IsStill, SeesAll}
-use Rattle.hg_drivers.specs.Heard.{HasHeard}
 use Rattle.hg_drivers.specs.Listed.{AreReady, IsPlaced, SawAt, none_left, one_more}
 use Rattle.hg_drivers.specs.Meeting.{HaveMet}
 use Rattle.hg_drivers.proofs.Closes.{by_place}
@@ -44,7 +42,7 @@ use Rattle.hg_drivers.proofs.Turns.{HasAsked, logs_asked, some_of}
 -- ---- a meeting
 
 pub sees_met : (e : Engine) (i j : ℕ) (old new : List Session) → HaveMet e i j old new → SeesAll j old i new
-sees_met e i j old new m d x there = subst (λ (v : View). IsAmong x v.sights) (sym (m.this d)) (among_right x (view_of (get_or old i d)).sights (view_of (get_or old j d)).sights there)
+sees_met e i j old new m d x there = subst (λ (v : View). IsAmong x v.sights) (sym (m.this d)) (among_later x (view_of (get_or old i d)).sights (view_of (get_or old j d)).sights there)
 
 pub still_sees_met : (e : Engine) (i j : ℕ) (old new : List Session) → HaveMet e i j old new → SeesAll i old i new
 still_sees_met e i j old new m d x there = subst (λ (v : View). IsAmong x v.sights) (sym (m.this d)) (among_left x (view_of (get_or old i d)).sights (view_of (get_or old j d)).sights there)

@@ -1,15 +1,13 @@
 -- What a look showed of a write shows the first cause by the logs that a driver has, where no other log has gone on since.
-use Rattle.std.proofs.Common.{◌≡◌, ◌⊎◌, inl, inr, ℕ, ◌+◌, ◌≤◌, List, [], ◌∷◌, ◌++◌, length, Bool, true, false, ◌==◌, Option, None, Some, refl, sym, ap, ◌∙◌, cond, subst, arith}
-use Rattle.std.specs.Prelude.{if◌then◌else◌, IsSome, IsTrue, is_some}
-use Rattle.std.specs.Option.{option_or}
+use Rattle.std.proofs.Common.{◌≡◌, ◌⊎◌, inl, inr, ℕ, ◌+◌, List, [], ◌∷◌, ◌++◌, length, true, false, ◌==◌, refl, sym, ap, ◌∙◌, subst, arith}
+use Rattle.std.specs.Prelude.{if◌then◌else◌, IsSome}
 use Rattle.hg_base.specs.declared.rid.Rid.{Rid}
-use Rattle.hg_base.specs.declared.image.Image.{Image}
 use Rattle.hg_base.specs.declared.line.Answer.{Answer}
 use Rattle.hg_base.specs.declared.line.Answer.TheVariants.{Stored, Gone, Newer}
-use Rattle.hg_base.specs.History.{Commit, Group, group_image, image_in}
+use Rattle.hg_base.specs.History.{Group, group_image, image_in}
 use Rattle.hg_core.specs.declared.log.LogEntry.{LogEntry}
 use Rattle.hg_core.specs.declared.log.LogEntry.TheVariants.{Began, Saw, Refused, Outside, Wrote, Undid, Published, Over}
-use Rattle.hg_core.specs.Logs.{commit_in, is_plain, open_in, published}
+use Rattle.hg_core.specs.Logs.{commit_in, open_in, published}
 use Rattle.hg_core.specs.Shown.{HasOpen, IsFirstAt, IsFreeIn, IsNewestIn, NoOtherHas, ShowsFirst}
 use Rattle.hg_core.proofs.Firsts.{not_open, some_keeps}
 use Rattle.hg_rule.specs.Facts.{EndsWith, IsAmong, IsHeard}

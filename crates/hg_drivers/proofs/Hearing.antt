@@ -24,7 +24,8 @@ use Rattle.hg_headline.specs.Following.{AreUpTo, IsOver, KnowsOpen}
 use Rattle.hg_headline.proofs.OpenWrites.{knows_open}
 use Rattle.hg_headline.proofs.OverBuckets.{state_logged}
 use Rattle.hg_session.specs.Finished.{AreAmong}
-use Rattle.hg_collectors.proofs.Among.{of_among, among_right}
+use Rattle.hg_rule.proofs.Growing.{among_later}
+use Rattle.hg_collectors.proofs.Among.{of_among}
 use Rattle.hg_drivers.specs.Heard.{HasLog, HasHeard, HasSeen}
 
 -- ---- what is known of every log
@@ -64,7 +65,7 @@ heard_met logs v w h k = go (h k)
   where
     go : (logs k ≡ []) ⊎ IsAmong (Heard k (logs k)) w.sights → (logs k ≡ []) ⊎ IsAmong (Heard k (logs k)) (v.sights ++ w.sights)
     go (inl e) = inl e
-    go (inr i) = inr (among_right (Heard k (logs k)) v.sights w.sights i)
+    go (inr i) = inr (among_later (Heard k (logs k)) v.sights w.sights i)
 
 -- what was seen is seen where all of that is
 pub seen_among : (n : ℕ) (xs ys : List Sight) → AreAmong xs ys → HasSeen n xs → HasSeen n ys

@@ -13,7 +13,7 @@ use Rattle.hg_session.specs.Sessions.{view_of, number_of, left_of, cursor_of}
 use Rattle.hg_session.specs.Finished.{AreAmong}
 use Rattle.hg_collectors.specs.Swept.{HasMetSessions}
 use Rattle.hg_drivers.specs.Meeting.{HasMetPass}
-use Rattle.hg_collectors.proofs.Among.{among_right}
+use Rattle.hg_rule.proofs.Growing.{among_later}
 
 -- ---- a session meets a pass
 
@@ -23,7 +23,7 @@ met_pass p v w s t only agrees this other left cursor = record {
   parts = ap (λ (x : View). x.parts) other;
   kept = (w.sights, ap (λ (x : View). x.sights) other);
   seen = λ a i. subst (IsAmong a) (sym (ap (λ (x : View). x.sights) other))
-      (among_right a (view_of s).sights w.sights (subst (IsAmong a) (sym (ap (λ (x : View). x.sights) this)) (among_left a v.sights (view_of s).sights i)));
+      (among_later a (view_of s).sights w.sights (subst (IsAmong a) (sym (ap (λ (x : View). x.sights) this)) (among_left a v.sights (view_of s).sights i)));
   left = left;
   cursor = cursor;
   agrees = (subst (Each (PartAgrees (number_of s) (session (view_of s)))) only agrees.parts).0;
@@ -33,4 +33,4 @@ pub met_sessions : (v w : View) (s : Session) → w ≡ meeting v (view_of s) �
 met_sessions v w s this = record { parts = ap (λ (x : View). x.parts) this; events = ap (λ (x : View). x.events) this; kept = ((view_of s).sights, ap (λ (x : View). x.sights) this) }
 
 pub heard_session : (v w : View) (s : Session) → w ≡ meeting v (view_of s) → AreAmong (view_of s).sights w.sights
-heard_session v w s this a i = subst (IsAmong a) (sym (ap (λ (x : View). x.sights) this)) (among_right a v.sights (view_of s).sights i)
+heard_session v w s this a i = subst (IsAmong a) (sym (ap (λ (x : View). x.sights) this)) (among_later a v.sights (view_of s).sights i)

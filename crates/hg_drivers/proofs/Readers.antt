@@ -24,7 +24,7 @@ use Rattle.hg_rule.specs.New.{EachFrom}
 use Rattle.hg_rule.specs.Seats.{session_view, IsSessionOf}
 use Rattle.hg_rule.specs.Views.{after_first, first_in, number, others, part_number, pass, pass_there, session, session_there, HasPass}
 use Rattle.hg_rule.proofs.Growing.{among_later}
-use Rattle.hg_rule.proofs.Lists.{each_left, each_map, starts_on}
+use Rattle.hg_rule.proofs.Lists.{each_left, each_map, starts_on, among_left}
 use Rattle.hg_tracker.specs.Begun.{AtMost}
 use Rattle.hg_session.specs.declared.engine.Engine.{Engine}
 use Rattle.hg_session.specs.declared.session.Session.{Session}
@@ -33,7 +33,6 @@ use Rattle.hg_session.specs.Finished.{logs_of, parts_of, AreAmong, HaveGone, IsC
 use Rattle.hg_session.specs.Opened.{seated}
 use Rattle.hg_session.specs.Sessions.{view_of, seen_by}
 use Rattle.hg_session.proofs.Bringing.{heard_finished, one_finishes}
-use Rattle.hg_session.proofs.Meetings.{among_first}
 use Rattle.hg_session.proofs.Quiet.{logs_shown}
 use Rattle.hg_collectors.specs.declared.collectors.Collectors.{Collectors}
 use Rattle.hg_drivers.specs.Closed.{AreAllThere, HasBrought}
@@ -174,7 +173,7 @@ gone_pass list v u h =
 gone_seen : (list : List Session) (v w u : View) (more : List Sight) → HaveGone list v w → u.parts ≡ w.parts → u.sights ≡ w.sights ++ more → u.events ≡ w.events → HaveGone list v u
 gone_seen list v w u more h parts sights events = record {
   parts = parts ∙ h.parts;
-  seen = each_map (λ s. AreAmong (seen_by s) w.sights) (λ s. AreAmong (seen_by s) u.sights) (λ s a x i. subst (IsAmong x) (sym sights) (among_first x w.sights more (a x i))) list h.seen;
+  seen = each_map (λ s. AreAmong (seen_by s) w.sights) (λ s. AreAmong (seen_by s) u.sights) (λ s a x i. subst (IsAmong x) (sym sights) (among_left x w.sights more (a x i))) list h.seen;
   kept = starts_on u.sights w.sights v.sights h.kept (more, sights);
   events = events ∙ h.events;
 }
@@ -192,7 +191,7 @@ gone_joined list s v w u h e =
   where
     seen_all : (all : List Sight) → all ≡ w.sights ++ seen_by s → (some : List Session) → Each (λ t. AreAmong (seen_by t) w.sights) some → Each (λ t. AreAmong (seen_by t) all) (some ++ s ∷ [])
     seen_all all is [] a = (λ x i. subst (IsAmong x) (sym is) (among_later x w.sights (seen_by s) i), tt)
-    seen_all all is (t ∷ some) a = (λ x i. subst (IsAmong x) (sym is) (among_first x w.sights (seen_by s) (a.0 x i)), seen_all all is some a.1)
+    seen_all all is (t ∷ some) a = (λ x i. subst (IsAmong x) (sym is) (among_left x w.sights (seen_by s) (a.0 x i)), seen_all all is some a.1)
 
 heard_in : (j : ℕ) (log : List LogEntry) (some all : List Sight) → AreAmong some all → IsHeard j log some → IsHeard j log all
 heard_in j log some all a (inl none) = inl none
@@ -265,7 +264,7 @@ module _ (e : Engine) (script : Script) (alloc : Global) (list : List Session) (
     where
       all : AreAmong w.sights (session_view q).sights
       all x i = subst (IsAmong x) (sym kept.1) (among_later x (session_view p).sights w1.sights
-          (subst (IsAmong x) (sym (ap (λ (v : View). v.sights) lent)) (among_first x w.sights (session_view p).sights i)))
+          (subst (IsAmong x) (sym (ap (λ (v : View). v.sights) lent)) (among_left x w.sights (session_view p).sights i)))
 
   own_up : UpTo at (log_in p)
   own_up = heard_up at (number (session_view p)) (log_in p) (session_view p).sights last.own.heard dumped_then.fresh

@@ -34,7 +34,7 @@ use Rattle.hg_session.specs.Finished.{logs_of}
 use Rattle.hg_drivers.specs.Listed.{IsPlaced, ArePlaced, AreReady, KeepCursors, SawAt, one_more}
 use Rattle.hg_drivers.specs.Meeting.{HaveMet}
 use Rattle.hg_drivers.specs.Asked.{IsAnswered, IsReplied, collector_asked}
-use Rattle.hg_collectors.proofs.Among.{among_right}
+use Rattle.hg_rule.proofs.Growing.{among_later}
 use Rattle.hg_drivers.proofs.Hearing.{heard_met, heard_kept, heard_more, heard_goes, met_open, seen_among, seen_kept}
 use Rattle.hg_drivers.proofs.Listing.{by_two, log_at, logs_same, logs_put}
 use Rattle.hg_drivers.proofs.FreshNumbers.{fresh_heard}
@@ -245,7 +245,7 @@ pub saw_turned : (e : Engine) (i last seen : ℕ) (old new : List Session) → H
 saw_turned e i last seen old new m saw d =
     let v : View = view_of (get_or old i d) in
     let w : View = view_of (get_or old last d) in
-    seen_among seen w.sights (view_of (get_or new i d)).sights (λ x k. subst (IsAmong x) (sym (ap (λ (u : View). u.sights) (m.this d))) (among_right x v.sights w.sights k)) (saw d)
+    seen_among seen w.sights (view_of (get_or new i d)).sights (λ x k. subst (IsAmong x) (sym (ap (λ (u : View). u.sights) (m.this d))) (among_later x v.sights w.sights k)) (saw d)
 
 pub saw_shown : (e : Engine) (i j seen : ℕ) (old new : List Session) → HaveMet e i j old new → SawAt seen i old → SawAt seen i new
 saw_shown e i j seen old new m saw d = seen_kept seen (view_of (get_or old i d)).sights (view_of (get_or new i d)).sights

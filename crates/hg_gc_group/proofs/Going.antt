@@ -18,19 +18,19 @@ use Rattle.hg_rule.specs.declared.view.Event.{Event}
 use Rattle.hg_rule.specs.declared.view.View.{View}
 use Rattle.hg_rule.specs.Views.{number, pass, HasPass}
 use Rattle.hg_rule.proofs.Growing.{among_later}
-use Rattle.hg_rule.proofs.Lists.{each_map}
+use Rattle.hg_rule.proofs.Lists.{each_map, among_left}
 use Rattle.hg_rule.proofs.Rounds.{gone_on, takes_on}
-use Rattle.hg_visit.proofs.Going.{among_first, same_pass, goes_none, goes_on}
+use Rattle.hg_visit.proofs.Going.{same_pass, goes_none, goes_on}
 use Rattle.hg_gc_group.specs.Cutting.{WasCut, CutsAll}
 
 module _ (buckets p mark bound : ℕ) (r : Rid) (visits more : List Visit) (steps later : List Event) where
   -- what was cut earlier
   pub cut_before : WasCut buckets p mark bound visits steps r → WasCut buckets p mark bound (more ++ visits) (steps ++ later) r
-  cut_before c = record { gone = c.gone; step = among_first _ steps later c.step; all = c.all; given = c.given; visit = among_later _ more visits c.visit; cut = c.cut }
+  cut_before c = record { gone = c.gone; step = among_left _ steps later c.step; all = c.all; given = c.given; visit = among_later _ more visits c.visit; cut = c.cut }
 
   -- and what is cut then
   pub cut_after : WasCut buckets p mark bound more later r → WasCut buckets p mark bound (more ++ visits) (steps ++ later) r
-  cut_after c = record { gone = c.gone; step = among_later _ steps later c.step; all = c.all; given = c.given; visit = among_first _ more visits c.visit; cut = c.cut }
+  cut_after c = record { gone = c.gone; step = among_later _ steps later c.step; all = c.all; given = c.given; visit = among_left _ more visits c.visit; cut = c.cut }
 
 each_append : (P : Rid → Type 0) (xs ys : List Rid) → Each P xs → Each P ys → Each P (xs ++ ys)
 each_append P [] ys a b = b

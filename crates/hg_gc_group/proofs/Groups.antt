@@ -19,14 +19,14 @@ use Rattle.hg_rule.specs.declared.view.View.{View}
 use Rattle.hg_rule.specs.Facts.{IsAmong, StartsWith, groups, record_of}
 use Rattle.hg_rule.specs.Views.{number, pass, HasPass}
 use Rattle.hg_rule.specs.Rounds.{IsWork, takes_in, gone_in, seen_taken}
-use Rattle.hg_rule.proofs.Lists.{each_left, each_right}
+use Rattle.hg_rule.proofs.Lists.{each_left, each_right, among_left}
 use Rattle.hg_rule.proofs.Rounds.{gone_on, takes_on, taken_append}
 use Rattle.hg_group.specs.declared.contexts.GroupContext.{GroupContext}
 use Rattle.hg_group.specs.Oldest.{AreNext, records_of, takes_by, TakesNext, TakesSome}
 use Rattle.hg_group.proofs.NextGroup.{records_more}
 use Rattle.hg_core.specs.Counters.{removed_all}
 use Rattle.hg_visit.specs.Visits.{GoesOn}
-use Rattle.hg_visit.proofs.Going.{among_first, same_pass, visits_after, removed_append, goes_none, goes_on}
+use Rattle.hg_visit.proofs.Going.{same_pass, visits_after, removed_append, goes_none, goes_on}
 use Rattle.hg_gc_group.specs.Cutting.{WasCut, CutsAll}
 use Rattle.hg_gc_group.specs.Taking.{WasTaken, FallsBelow, TakesGroups, TakesAll}
 use Rattle.hg_gc_group.proofs.Going.{cut_before, cut_after, cuts_more}
@@ -75,7 +75,7 @@ each_among P r (x ∷ rids) e a = pick (same_rid r x) refl a (each_among P r rid
     pick false q h later = later h
 
 saw_later : {A : Type 0} (a : A) (xs ys : List A) → StartsWith ys xs → IsAmong a xs → IsAmong a ys
-saw_later a xs ys k h = subst (IsAmong a) (sym k.1) (among_first a xs k.0 h)
+saw_later a xs ys k h = subst (IsAmong a) (sym k.1) (among_left a xs k.0 h)
 
 -- what was taken earlier
 taken_before : (buckets p mark bound : ℕ) (sights seen : List Sight) (visits more : List Visit) (steps later : List Event) (k : ℕ) → StartsWith seen sights →

@@ -18,7 +18,8 @@ use Rattle.hg_rule.specs.Removes.{Reclaims, left_of, removed_of}
 use Rattle.hg_rule.proofs.Growing.{among_later}
 use Rattle.hg_rule.proofs.Rounds.{gone_on, takes_on}
 use Rattle.hg_store.proofs.Clearing.{counts_none, counts_more, same_record, held_after, held_here}
-use Rattle.hg_visit.proofs.Going.{among_first, works}
+use Rattle.hg_visit.proofs.Going.{works}
+use Rattle.hg_rule.proofs.Lists.{among_left}
 use Rattle.hg_gc_group.specs.Cutting.{IsCutIn, CutsHeld}
 
 pub held_none : (bound : ℕ) (v : View) → CutsHeld bound v [] 0 v
@@ -37,7 +38,7 @@ module _ (bound : ℕ) (v w x : View) (rids : List Rid) (m : ℕ) (r : Rid) (a :
 
   -- what was cut earlier is cut still
   cut_still : (q : Rid) → IsCutIn bound (number v) a.removes.steps w q → IsCutIn bound (number v) (a.removes.steps ++ one) x q
-  cut_still q c = (c.0, (among_first _ a.removes.steps one c.1.0, go (same_rid q r) (held_after w x r Group step q)))
+  cut_still q c = (c.0, (among_left _ a.removes.steps one c.1.0, go (same_rid q r) (held_after w x r Group step q)))
     where
       go : (t : Bool) → held x q ≡ (if t then left_of w r Group else held w q) → IsCutAt bound (held x q)
       go true e = subst (IsCutAt bound) (sym e) left_cut

@@ -1,5 +1,5 @@
 -- A leader's view from the batch on to its receipts.
-use Rattle.std.proofs.Common.{◌≡◌, inl, inr, ℕ, suc, ◌+◌, ◌<◌, ◌≤◌, Bool, true, false, List, [], ◌∷◌, ◌++◌, length, map, refl, sym, ap, ◌∙◌, subst, arith}
+use Rattle.std.proofs.Common.{◌≡◌, inl, ℕ, suc, ◌+◌, ◌<◌, ◌≤◌, Bool, true, false, List, [], ◌∷◌, ◌++◌, length, map, refl, sym, ap, ◌∙◌, subst, arith}
 use Rattle.std.specs.Prelude.{ltb}
 use Rattle.hg_base.specs.Lists.{Each}
 use Rattle.hg_base.specs.History.{Group}
@@ -23,6 +23,7 @@ use Rattle.hg_rule.specs.Places.{without_commit}
 use Rattle.hg_rule.specs.Writes.{with_published}
 use Rattle.hg_rule.specs.Handing.{Members, members, lent, who, numbered, hears, group_of, publishing, Publishes}
 use Rattle.hg_rule.proofs.Lists.{among_left}
+use Rattle.hg_rule.proofs.Growing.{among_later}
 use Rattle.hg_rule.proofs.Found.{inside_is}
 use Rattle.hg_rule.proofs.Members.{there, each_in}
 use Rattle.hg_queue.specs.declared.open_tx.OpenTx.{OpenTx}
@@ -98,13 +99,9 @@ same_of f g ms ns e = sym (g ms) ∙ (ap f e ∙ g ns)
 
 -- ---- what was seen
 
-among_right : {A : Type 0} (a : A) (xs ys : List A) → IsAmong a ys → IsAmong a (xs ++ ys)
-among_right a [] ys m = m
-among_right a (x ∷ xs) ys m = inr (among_right a xs ys m)
-
 each_heard : (n : ℕ) (ms : Members) (before : List Sight) (after : List Sight) → Each (λ m. IsAmong (Heard m.0 (Published n ∷ m.1.log)) (before ++ (hears n ms ++ after))) ms
 each_heard n [] before after = tt
-each_heard n (m ∷ ms) before after = (among_right _ before _ (inl refl), turned ms (each_heard n ms (before ++ Heard m.0 (Published n ∷ m.1.log) ∷ []) after))
+each_heard n (m ∷ ms) before after = (among_later _ before _ (inl refl), turned ms (each_heard n ms (before ++ Heard m.0 (Published n ∷ m.1.log) ∷ []) after))
   where
     append_one : (xs : List Sight) (y : Sight) (ys : List Sight) → (xs ++ y ∷ []) ++ ys ≡ xs ++ y ∷ ys
     append_one [] y ys = refl
@@ -187,7 +184,7 @@ module _ (v w x y u : View) (part : CommitPart) (ms : Members) (txs : List OpenT
         (all_in z ms ms (sessions_in z mark w backed (Away (number v) (session v) (since v)) part ms o.parts) (each_in ms)));
     parts = u_parts ∙ (λ i. Away (sym number_is i) (sym session_is i) (sym since_is i) ∷ lent (numbered n ms));
     saw = subst (IsAmong (Saw (groups (part.history.list ++ group ∷ [])))) (sym u_sights)
-        (among_left _ (x.sights ++ (Saw (groups (part.history.list ++ group ∷ [])) ∷ hears n ms)) _ (among_right _ x.sights _ (inl refl)));
+        (among_left _ (x.sights ++ (Saw (groups (part.history.list ++ group ∷ [])) ∷ hears n ms)) _ (among_later _ x.sights _ (inl refl)));
     heard = turned ms (each_heard n ms (x.sights ++ Saw (groups (part.history.list ++ group ∷ [])) ∷ []) (Saw (commit y).history ∷ Took (commit y).taken ∷ []));
     number_is = next;
     place_is = at;

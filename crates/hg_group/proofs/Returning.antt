@@ -12,6 +12,7 @@ use Rattle.hg_rule.specs.Facts.{IsAmong, IsLeft, groups}
 use Rattle.hg_rule.specs.Views.{number, session, since, others, seeing, HasAway}
 use Rattle.hg_rule.specs.declared.view.Part.{Part}
 use Rattle.hg_rule.proofs.Lists.{starts_same, starts_on}
+use Rattle.hg_rule.proofs.Growing.{among_later}
 use Rattle.hg_group.specs.Leading.{Leads}
 use Rattle.hg_rule.specs.Writes.{with_published}
 use Rattle.hg_rule.specs.Handing.{IsBack, resuming}
@@ -41,10 +42,6 @@ stayed : (n : ℕ) (was now : List LogEntry) → IsTrue (is_plain now) → IsLef
 stayed n was now plain (inl e) = e
 stayed n was now plain (inr h) = absurd (true≢false (sym plain ∙ ap is_plain h.2))
 
-among_right : {A : Type 0} (a : A) (xs ys : List A) → IsAmong a ys → IsAmong a (xs ++ ys)
-among_right a [] ys m = m
-among_right a (x ∷ xs) ys m = inr (among_right a xs ys m)
-
 module _ (v u w : View) (j : ℕ) (same : number v ≡ j) (alone : others v ≡ []) (may : MayCommit (session v)) (back : IsBack (since v) (session v) (session w))
     (is : u ≡ resuming v w) (unstamped : (session w).stamped ≡ false) where
   parts_are : (p : SessionPart) → session w ≡ p → u.parts ≡ OfSession (number v) p ∷ []
@@ -61,9 +58,9 @@ module _ (v u w : View) (j : ℕ) (same : number v ≡ j) (alone : others v ≡ 
       let sights : u.sights ≡ v.sights ++ w.sights = ap (λ (y : View). y.sights) is in record {
         over = on.0;
         history = o.1.0;
-        saw = subst (IsAmong (Saw (groups o.1.0))) (sym sights) (among_right _ v.sights w.sights o.1.1.1.0.0);
+        saw = subst (IsAmong (Saw (groups o.1.0))) (sym sights) (among_later _ v.sights w.sights o.1.1.1.0.0);
         stands = subst (λ c. StandsIn o.1.0 receipt c) (λ i. commit_in (sym same i) (on.1 i)) o.1.1.1.1;
-        heard = subst (λ x. IsAmong x u.sights) (λ i. Heard (sym same i) (part i).log) (subst (IsAmong (Heard j (session w).log)) (sym sights) (among_right _ v.sights w.sights o.1.1.1.0.1));
+        heard = subst (λ x. IsAmong x u.sights) (λ i. Heard (sym same i) (part i).log) (subst (IsAmong (Heard j (session w).log)) (sym sights) (among_later _ v.sights w.sights o.1.1.1.0.1));
         parts = parts_are _ part;
         kept = (w.sights, sights);
         events = ([], ap (λ (y : View). y.events) is ∙ sym (append-nil v.events));

@@ -1,5 +1,5 @@
 -- What a call of group commit asks for and keeps: that board, store, queue and locks are of one engine, and what a leader's pass is.
-use Rattle.std.specs.Prelude.{◌≡◌, ◌<◌, true, false, List, length, Option}
+use Rattle.std.specs.Prelude.{◌≡◌, ◌<◌, List, length, Option}
 use Rattle.hg_rule.specs.declared.board.Board.{Board}
 use Rattle.hg_rule.specs.declared.passes.SessionPass.{SessionPass}
 use Rattle.hg_rule.specs.declared.view.View.{View}

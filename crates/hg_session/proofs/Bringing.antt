@@ -18,7 +18,7 @@ use Rattle.hg_rule.specs.Moves.{put_in, did, merged}
 use Rattle.hg_rule.specs.Reading.{chosen, seek, passes_in}
 use Rattle.hg_rule.proofs.Counts.{count_append}
 use Rattle.hg_rule.proofs.Growing.{among_later}
-use Rattle.hg_rule.proofs.Lists.{starts_on, each_map, each_append}
+use Rattle.hg_rule.proofs.Lists.{starts_on, each_map, each_append, among_left}
 use Rattle.hg_store.proofs.Filling.{each_from_at}
 use Rattle.hg_session.specs.declared.engine.Engine.{Engine}
 use Rattle.hg_session.specs.declared.session.Session.{Session}
@@ -27,7 +27,6 @@ use Rattle.hg_session.specs.Ties.{phase_at}
 use Rattle.hg_session.specs.Sessions.{view_of, number_of, log_of, seen_by}
 use Rattle.hg_session.specs.Ended.{logs_in, visits_in, HasAllPasses, IsEnded}
 use Rattle.hg_session.specs.Finished.{logs_of, parts_of, IsClosed, HasNoSession, HaveGone, AreAmong}
-use Rattle.hg_session.proofs.Meetings.{among_first}
 
 -- a session's part
 abbrev part_of : Session → Part
@@ -47,8 +46,8 @@ one_finishes v w u sessions s h e =
       parts = ap (λ (x : View). x.parts) e ∙ (λ i. put_in (h.parts i) (view_of s).parts)
           ∙ ap (λ l. OfPass (number v) (pass v) ∷ l) (sym (append_assoc (view_of s).parts (parts_of sessions) (others v)) ∙ ap (λ l. l ++ others v) (sym (parts_snoc sessions s)));
       seen = each_append (λ t. AreAmong (seen_by t) u.sights) sessions (s ∷ [])
-          (each_map (λ t. AreAmong (seen_by t) w.sights) (λ t. AreAmong (seen_by t) u.sights) (λ t a x i. subst (IsAmong x) (sym sights) (among_first x w.sights _ (a x i))) sessions h.seen)
-          (λ x i. subst (IsAmong x) (sym sights) (among_later x w.sights _ (among_first x (seen_by s) _ i)), tt);
+          (each_map (λ t. AreAmong (seen_by t) w.sights) (λ t. AreAmong (seen_by t) u.sights) (λ t a x i. subst (IsAmong x) (sym sights) (among_left x w.sights _ (a x i))) sessions h.seen)
+          (λ x i. subst (IsAmong x) (sym sights) (among_later x w.sights _ (among_left x (seen_by s) _ i)), tt);
       kept = starts_on u.sights w.sights v.sights h.kept (_, sights);
       events = ap (λ (x : View). x.events) e ∙ h.events;
     }

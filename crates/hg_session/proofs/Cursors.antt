@@ -39,7 +39,7 @@ use Rattle.hg_session.specs.Sessions.{IsIn, IsOf, pass_of, view_of, number_of, l
 use Rattle.hg_session.specs.Ties.{Ties, FitsCursor, phase_at, snapshot_of}
 use Rattle.hg_rule.specs.Facts.{IsHeard}
 use Rattle.hg_session.proofs.Replying.{no_writes}
-use Rattle.hg_session.proofs.Trips.{first_number, first_session}
+use Rattle.hg_cursor.proofs.Trips.{first_number, first_session}
 use Rattle.hg_session.proofs.Tying.{IsQuiet, ties_quiet}
 
 -- ---- with no cursor

@@ -24,7 +24,6 @@ use Rattle.hg_session.specs.declared.engine.Engine.{Engine}
 use Rattle.hg_session.specs.declared.session.Session.{Session}
 use Rattle.hg_session.specs.Engines.{engine_board_id, engine_sizes}
 use Rattle.hg_session.specs.Sessions.{pass_of, view_of, seen_by, opened_of, written_of, cursor_of, left_of, IsIn}
-use Rattle.hg_session.proofs.Meetings.{among_first}
 use Rattle.hg_session.proofs.Settling.{gained}
 use Rattle.hg_rule.specs.declared.view.View.{View}
 use Rattle.hg_rule.specs.Facts.{IsAmong, IsHeard}
@@ -32,14 +31,15 @@ use Rattle.hg_rule.specs.Views.{number, session}
 use Rattle.hg_rule.specs.Steps.{Within, logging, Ends}
 use Rattle.hg_rule.specs.Holding.{snapshot}
 use Rattle.hg_rule.specs.Writes.{with_published}
-use Rattle.hg_rule.proofs.Lists.{starts_on, each_map}
+use Rattle.hg_rule.proofs.Lists.{starts_on, each_map, among_left}
 use Rattle.hg_tracker.specs.Begun.{AtMost}
 use Rattle.hg_tracker.proofs.After.{within_most}
 use Rattle.hg_group.specs.declared.receipt.Receipt.{Receipt}
 use Rattle.hg_group.specs.Submitting.{HasCommitted, IsBackAgain}
 use Rattle.hg_session.specs.Ties.{AreWritten, Ties}
 use Rattle.hg_session.specs.Gains.{Alone, Gains, IsAfter}
-use Rattle.hg_session.proofs.Trips.{first_number, first_session, alone_only, ended}
+use Rattle.hg_session.proofs.Trips.{alone_only, ended}
+use Rattle.hg_cursor.proofs.Trips.{first_number, first_session}
 
 -- ---- what a transaction wrote
 
@@ -122,7 +122,7 @@ back_in e v s own b ties heard closed =
   where
     later : IsHeard (number v) (session v).log v.sights → IsHeard (number v) (session v).log (seen_by s)
     later (inl f) = inl f
-    later (inr m) = inr (subst (IsAmong (Heard (number v) (session v).log)) (sym b.kept.1) (among_first (Heard (number v) (session v).log) v.sights b.kept.0 m))
+    later (inr m) = inr (subst (IsAmong (Heard (number v) (session v).log)) (sym b.kept.1) (among_left (Heard (number v) (session v).log) v.sights b.kept.0 m))
 
 -- what it lists is what it wrote
 pub ties_back : (quota left : ℕ) (opened : Snapshot) (old new : List Rid) (j : ℕ) (part : SessionPart) (tx : OpenTx) → new ≡ tx.records.list → IsOpenTxOf j part tx →

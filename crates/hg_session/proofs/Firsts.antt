@@ -24,20 +24,20 @@ use Rattle.hg_rule.specs.Places.{without_bucket}
 use Rattle.hg_rule.specs.Views.{number, session}
 use Rattle.hg_rule.specs.Writes.{Installs}
 use Rattle.hg_rule.proofs.Growing.{among_later}
-use Rattle.hg_rule.proofs.Lists.{starts_same}
+use Rattle.hg_rule.proofs.Lists.{starts_same, among_left}
 use Rattle.hg_store.specs.Writing.{GoOn, ShowsAnswer, Writes}
 use Rattle.hg_session.specs.declared.answers.PutRefusal.{PutRefusal}
 use Rattle.hg_session.specs.declared.answers.PutRefusal.TheVariants as put
 use Rattle.hg_session.specs.Firsts.{AnswersWrite, HasFirst, ShownFirst, ShowsPut, ShowsWrite}
 use Rattle.hg_session.specs.Gains.{Gains}
 use Rattle.hg_session.specs.Replies.{Answers, refused_at, refused_reply}
-use Rattle.hg_session.proofs.Meetings.{among_first}
-use Rattle.hg_session.proofs.Trips.{Beside, first_number, first_session}
+use Rattle.hg_session.proofs.Trips.{Beside}
+use Rattle.hg_cursor.proofs.Trips.{first_number, first_session}
 
 -- ---- what was heard stays so
 
 among_on : (x : Sight) (xs ys : List Sight) → StartsWith ys xs → IsAmong x xs → IsAmong x ys
-among_on x xs ys s a = subst (IsAmong x) (sym s.1) (among_first x xs s.0 a)
+among_on x xs ys s a = subst (IsAmong x) (sym s.1) (among_left x xs s.0 a)
 
 heard_on : (k : ℕ) (log : List LogEntry) (xs ys : List Sight) → StartsWith ys xs → IsHeard k log xs → IsHeard k log ys
 heard_on k log xs ys s (inl e) = inl e

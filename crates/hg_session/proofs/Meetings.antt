@@ -1,26 +1,22 @@
 -- A session that met another, or a collector's pass: it keeps its part, and has seen more.
-use Rattle.std.proofs.Common.{◌≡◌, ℕ, ◌++◌, [], ◌∷◌, List, sym, subst, inl, inr}
+use Rattle.std.proofs.Common.{◌≡◌, ℕ, ◌++◌, List, sym, subst, inl, inr}
 use Rattle.hg_core.specs.declared.log.LogEntry.{LogEntry}
 use Rattle.hg_rule.specs.declared.view.Sight.{Sight}
 use Rattle.hg_rule.specs.declared.view.View.{View}
-use Rattle.hg_rule.specs.Facts.{IsAmong, IsHeard}
+use Rattle.hg_rule.specs.Facts.{IsHeard}
 use Rattle.hg_rule.specs.Views.{number, session, HasOnlySession}
 use Rattle.hg_rule.specs.Moves.{meeting}
 use Rattle.hg_rule.specs.Seats.{IsSessionOf}
+use Rattle.hg_rule.proofs.Lists.{among_left}
 use Rattle.hg_session.specs.declared.engine.Engine.{Engine}
 use Rattle.hg_session.specs.declared.session.Session.{Session}
 use Rattle.hg_session.specs.Engines.{engine_board_id, engine_sizes}
 use Rattle.hg_session.specs.Ties.{Ties, FitsCursor}
 use Rattle.hg_session.specs.Sessions.{IsOf, pass_of, view_of, cursor_of, left_of, opened_of, written_of}
 
-pub among_first : {A : Type 0} (a : A) (xs more : List A) → IsAmong a xs → IsAmong a (xs ++ more)
-among_first a [] more h = absurd h
-among_first a (x ∷ xs) more (inl e) = inl e
-among_first a (x ∷ xs) more (inr h) = inr (among_first a xs more h)
-
 heard_still : (j : ℕ) (log : List LogEntry) (sights more : List Sight) → IsHeard j log sights → IsHeard j log (sights ++ more)
 heard_still j log sights more (inl e) = inl e
-heard_still j log sights more (inr h) = inr (among_first _ sights more h)
+heard_still j log sights more (inr h) = inr (among_left _ sights more h)
 
 -- it is as it was, but for what it has seen
 pub met : (e : Engine) (s t : Session) (w : View) → IsOf e s → IsSessionOf (engine_board_id e) (engine_sizes e) (pass_of t) → view_of t ≡ meeting (view_of s) w

@@ -20,7 +20,7 @@ use Rattle.hg_session.specs.declared.engine.Passes.{Passes}
 use Rattle.hg_session.specs.Ended.{visits_in, HasAllPasses}
 use Rattle.hg_session.specs.Finished.{HasNoSession}
 use Rattle.hg_session.specs.Passing.{AreAlone, visits_of}
-use Rattle.hg_session.proofs.Meetings.{among_first}
+use Rattle.hg_rule.proofs.Lists.{among_left}
 
 -- ---- what is known to be done
 
@@ -88,15 +88,15 @@ module _ (e : Engine) (passes : Passes) (u w : View) (h : AreAlone e passes) (fi
     where
       go : IsAmong s (pass_view passes.group).sights ⊎ (IsAmong s (pass_view passes.table).sights ⊎ IsAmong s (pass_view passes.interval).sights) →
           IsAmong s ((own_sights ++ group_sights) ++ interval_sights)
-      go (inl i) = among_first s (own_sights ++ group_sights) interval_sights (among_later s own_sights group_sights (among_first s _ _ i))
-      go (inr (inl i)) = among_first s (own_sights ++ group_sights) interval_sights (among_first s own_sights group_sights i)
-      go (inr (inr i)) = among_later s (own_sights ++ group_sights) interval_sights (among_first s _ _ i)
+      go (inl i) = among_left s (own_sights ++ group_sights) interval_sights (among_later s own_sights group_sights (among_left s _ _ i))
+      go (inr (inl i)) = among_left s (own_sights ++ group_sights) interval_sights (among_left s own_sights group_sights i)
+      go (inr (inr i)) = among_later s (own_sights ++ group_sights) interval_sights (among_left s _ _ i)
 
   pub all_done : (x : Event) → IsAmong x (pass_view passes.group).events ⊎ IsAmong x (pass_view passes.interval).events → IsAmong (Did x) w.sights
   all_done x h = subst (IsAmong (Did x)) (sym sights) (go h)
     where
       go : IsAmong x (pass_view passes.group).events ⊎ IsAmong x (pass_view passes.interval).events → IsAmong (Did x) ((own_sights ++ group_sights) ++ interval_sights)
-      go (inl i) = among_first (Did x) (own_sights ++ group_sights) interval_sights
+      go (inl i) = among_left (Did x) (own_sights ++ group_sights) interval_sights
           (among_later (Did x) own_sights group_sights (among_later (Did x) (pass_view passes.group).sights _ (done_among x _ i)))
       go (inr i) = among_later (Did x) (own_sights ++ group_sights) interval_sights (among_later (Did x) (pass_view passes.interval).sights _ (done_among x _ i))
 

@@ -18,7 +18,7 @@ use Rattle.hg_group.specs.Order.{StandsIn, flat}
 use Rattle.hg_group.specs.Submitting.{HasCommitted}
 use Rattle.hg_session.specs.Finished.{AreAmong}
 use Rattle.hg_session.specs.Gains.{HasPlace}
-use Rattle.hg_session.proofs.Meetings.{among_first}
+use Rattle.hg_rule.proofs.Lists.{among_left}
 use Rattle.hg_session.proofs.Trips.{alone_only, ended}
 
 -- ---- a commit, and the end behind it
@@ -29,7 +29,7 @@ has_place v u w receipt h k =
     let kept = (ended u w only k).0.kept in
     record {
       history = h.history;
-      saw = subst (IsAmong (Saw (groups h.history))) (sym kept.1) (among_first (Saw (groups h.history)) u.sights kept.0 h.saw);
+      saw = subst (IsAmong (Saw (groups h.history))) (sym kept.1) (among_left (Saw (groups h.history)) u.sights kept.0 h.saw);
       stands = h.stands;
     }
 

@@ -13,7 +13,7 @@ use Rattle.hg_base.specs.Transcript.{only, table_of, stored_by}
 use Rattle.hg_core.specs.declared.log.LogEntry.{LogEntry}
 use Rattle.hg_core.specs.declared.log.LogEntry.TheVariants.{Began, Outside}
 use Rattle.hg_core.specs.Logs.{current, is_plain, own_writes}
-use Rattle.hg_core.specs.Reading.{Unprinted, own_entries, close, is_access, log_with, log_after, FitsAnswer, FitsScope, FitsIn, saw}
+use Rattle.hg_core.specs.Reading.{Unprinted, own_entries, close, is_access, log_with, FitsAnswer, FitsScope, FitsIn, saw}
 use Rattle.hg_core.specs.Reading as reading
 use Rattle.hg_core.proofs.Right.{if_none}
 use Rattle.hg_rule.specs.declared.view.Sizes.{Sizes}

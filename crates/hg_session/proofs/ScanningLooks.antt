@@ -21,7 +21,8 @@ use Rattle.hg_rule.specs.Writes.{with_log, with_entry, log_asked, Looks}
 use Rattle.hg_rule.specs.Places.{without_bucket}
 use Rattle.hg_session.specs.Gains.{Gains}
 use Rattle.hg_session.specs.Scans.{Rows, IsOwnKey, AreOwn, HasVersion, read_of, Appends, Sees}
-use Rattle.hg_session.proofs.Trips.{Beside, first_session, looked}
+use Rattle.hg_session.proofs.Trips.{Beside, looked}
+use Rattle.hg_cursor.proofs.Trips.{first_session}
 use Rattle.hg_session.proofs.Settling.{Trip, trip}
 use Rattle.hg_session.proofs.ScanningKeys.{own_key, unread}
 use Rattle.hg_session.proofs.ScanningRows.{same_rows}

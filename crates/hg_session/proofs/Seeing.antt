@@ -23,7 +23,8 @@ use Rattle.hg_rule.specs.Steps.{loaded_in}
 use Rattle.hg_rule.specs.Holding.{bucket_number, held, writer, snapshot}
 use Rattle.hg_rule.specs.Writes.{log_asked, Looks}
 use Rattle.hg_session.specs.Gains.{rows_at}
-use Rattle.hg_session.proofs.Trips.{Beside, first_number, first_session}
+use Rattle.hg_session.proofs.Trips.{Beside}
+use Rattle.hg_cursor.proofs.Trips.{first_number, first_session}
 
 -- the rows of a range of one key
 pub only_rows : (f : ℕ → Image) (key : ℕ) (row : Option (List Value)) (rows : List (ℕ × List Value)) → AreRows f key key rows → (f key).row ≡ row → rows ≡ rows_at key row

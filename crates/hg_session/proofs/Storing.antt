@@ -34,9 +34,10 @@ use Rattle.hg_store.specs.Ends.{HasNoEnd}
 use Rattle.hg_store.specs.Kept.{refusal_of}
 use Rattle.hg_store.specs.Writing.{Writes, IsCause, IsAnothers, OwnerGoesOn}
 use Rattle.hg_store.proofs.Refusing.{same_opened}
-use Rattle.hg_store.proofs.Storing.{free_at}
+use Rattle.hg_store.proofs.Storing.{free_at, told_newer}
 use Rattle.hg_session.specs.Gains.{entries_of, IsRefusedBy}
-use Rattle.hg_session.proofs.Trips.{Beside, first_number, first_session, looked, installed}
+use Rattle.hg_session.proofs.Trips.{Beside, looked, installed}
+use Rattle.hg_cursor.proofs.Trips.{first_number, first_session}
 use Rattle.hg_session.proofs.Settling.{Trip, trip}
 
 told_open : (o : Option Answer) (w : Writer) → option_and_then refusal_of o ≡ Some (open_by w) → o ≡ Some (answers.OpenBy w)
@@ -44,12 +45,6 @@ told_open None w e = absurd (none-some (open_by w) e)
 told_open (Some (answers.OpenBy x)) w e = let same : x ≡ w = same_opened x w e in ap (λ y. Some (answers.OpenBy y)) same
 told_open (Some (answers.Newer n)) w e = absurd cc
 told_open (Some _) w e = absurd (none-some (open_by w) e)
-
-told_newer : (o : Option Answer) (m : ℕ) → option_and_then refusal_of o ≡ Some (Newer m) → o ≡ Some (answers.Newer m)
-told_newer None m e = absurd (none-some (Newer m) e)
-told_newer (Some (answers.Newer n)) m e = let same : n ≡ m = cc in ap (λ y. Some (answers.Newer y)) same
-told_newer (Some (answers.OpenBy x)) m e = absurd cc
-told_newer (Some _) m e = absurd (none-some (Newer m) e)
 
 -- a number that refuses is over the snapshot
 over_snapshot : (n at m : ℕ) (w : Writer) (p : Option (Writer × Image)) (q : Option (ℕ × Image)) → refused_by w p (refused_over at q) ≡ Some (answers.Newer m) → at < m

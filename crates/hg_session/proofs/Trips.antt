@@ -13,7 +13,7 @@ use Rattle.hg_rule.specs.declared.view.Sight.{Sight}
 use Rattle.hg_rule.specs.declared.view.Sight.TheVariants.{Heard}
 use Rattle.hg_rule.specs.declared.view.View.{View}
 use Rattle.hg_rule.specs.Facts.{StartsWith, IsAmong}
-use Rattle.hg_rule.specs.Views.{number, part_number, session, session_there, others, first_in, after_first, seeing, HasSession, HasOnlySession}
+use Rattle.hg_rule.specs.Views.{number, part_number, session, others, after_first, seeing, HasSession, HasOnlySession}
 use Rattle.hg_rule.specs.Steps.{logging, Ends}
 use Rattle.hg_rule.specs.Holding.{bucket_number, bucket, beyond, writer}
 use Rattle.hg_rule.specs.Writes.{with_log, with_entry, log_asked, Looks, Installs, Undoes, installing, undoing}
@@ -21,6 +21,7 @@ use Rattle.hg_rule.specs.Places.{without_bucket}
 use Rattle.hg_rule.proofs.Growing.{among_later}
 use Rattle.hg_rule.proofs.Holders.{session_arrives, session_departs}
 use Rattle.hg_store.specs.Stores.{Takes}
+use Rattle.hg_cursor.proofs.Trips.{first_number, first_session}
 use Rattle.hg_session.specs.Gains.{Alone}
 
 -- a view that has a session's part and a bucket's, and has seen what was seen before
@@ -34,13 +35,6 @@ only_others v only = ap after_first only
 
 pub only_session : (v : View) → HasOnlySession v → HasSession v
 only_session v only = only ∙ (λ i. OfSession (number v) (session v) ∷ sym (only_others v only) i)
-
--- what the first part is
-pub first_number : (v : View) (j : ℕ) (part : SessionPart) (os : List Part) → v.parts ≡ OfSession j part ∷ os → number v ≡ j
-first_number v j part os e = ap part_number e
-
-pub first_session : (v : View) (j : ℕ) (part : SessionPart) (os : List Part) → v.parts ≡ OfSession j part ∷ os → session v ≡ part
-first_session v j part os e = ap (λ (ps : List Part). session_there (first_in ps)) e
 
 pub alone_only : (v : View) (j : ℕ) (part : SessionPart) (old : List Sight) → Alone j part old v → HasOnlySession v
 alone_only v j part old a = a.parts ∙ (λ i. OfSession (sym (first_number v j part [] a.parts) i) (sym (first_session v j part [] a.parts) i) ∷ [])

@@ -17,7 +17,7 @@ use Rattle.hg_core.specs.Ordered.{Falls, IsOrdered}
 use Rattle.hg_core.proofs.Shows.{writer_itself}
 use Rattle.hg_core.proofs.Cuts.{cut_exactly}
 use Rattle.hg_bucket.specs.BucketModel as bucket
-use Rattle.hg_bucket.specs.BucketModel.{Kept, is_at_most, begins_open, IsBelow, survivor, cut_at}
+use Rattle.hg_bucket.specs.BucketModel.{is_at_most, begins_open, IsBelow, survivor, cut_at}
 use Rattle.hg_store.specs.Kept.{kept_as, kept}
 use Rattle.hg_store.proofs.Seeing.{at_most_kept, find_kept}
 

@@ -16,10 +16,10 @@ use Rattle.hg_core.specs.Replies.{refused_over, refused_by, refusal}
 use Rattle.hg_core.proofs.Versions.{installed_ordered}
 use Rattle.hg_bucket.specs.declared.refusal.WriteRefusal.{WriteRefusal}
 use Rattle.hg_bucket.specs.declared.refusal.WriteRefusal.TheVariants.{Newer}
-use Rattle.hg_bucket.specs.Conflicts.{holder, newer, conflict, open_by}
+use Rattle.hg_bucket.specs.Conflicts.{holder, newer, open_by}
 use Rattle.hg_bucket.specs.Conflicts as bucket_words
 use Rattle.hg_bucket.specs.BucketModel as held_words
-use Rattle.hg_bucket.specs.BucketModel.{Kept, versions_of, OthersStay, begins_open, is_open_by, is_at_most, read_at}
+use Rattle.hg_bucket.specs.BucketModel.{versions_of, OthersStay, begins_open}
 use Rattle.hg_bucket.proofs.Refusing.{told_on}
 use Rattle.hg_rule.specs.declared.view.View.{View}
 use Rattle.hg_rule.specs.declared.view.Sizes.{Sizes}

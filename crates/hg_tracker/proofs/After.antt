@@ -8,19 +8,17 @@ use Rattle.hg_base.specs.declared.scope.Scope.{Scope}
 use Rattle.hg_base.specs.History.{History}
 use Rattle.hg_base.specs.Lists.{Each}
 use Rattle.hg_core.specs.declared.loaded.Loaded.{Loaded}
-use Rattle.hg_core.specs.declared.register.Register.{Register}
-use Rattle.hg_core.specs.Words.{shows_declared}
 use Rattle.hg_core.specs.Passes.{found, lower, least_entering, HasMask, IsWhole}
 use Rattle.hg_core.specs.Logs.{UpTo}
 use Rattle.hg_rule.specs.declared.view.Part.{Part}
 use Rattle.hg_rule.specs.declared.view.Part.TheVariants.{OfPass}
 use Rattle.hg_rule.specs.declared.view.Sight.{Sight}
 use Rattle.hg_rule.specs.declared.view.Sight.TheVariants.{Saw, Heard, Took, Did}
-use Rattle.hg_rule.specs.declared.view.Event.TheVariants.{Mark, Sample, SampleMask}
+use Rattle.hg_rule.specs.declared.view.Event.TheVariants.{Mark}
 use Rattle.hg_rule.specs.declared.view.View.{View}
-use Rattle.hg_rule.specs.Facts.{record_of, IsAmong, groups}
+use Rattle.hg_rule.specs.Facts.{record_of, groups}
 use Rattle.hg_rule.specs.Views.{number, pass, others, seeing}
-use Rattle.hg_rule.specs.Steps.{Within, IsHistoryAt, loading, Declares, Probes, Enters, Fixes, GoesLive, Marks, Samples, SamplesMask}
+use Rattle.hg_rule.specs.Steps.{Within, IsHistoryAt, Declares, Probes, Enters, Fixes, GoesLive, Marks}
 use Rattle.hg_core.specs.declared.log.LogEntry.TheVariants.{Began}
 use Rattle.hg_rule.specs.Views.{session}
 use Rattle.hg_rule.proofs.Lists.{each_left, each_map}

@@ -6,7 +6,7 @@ use Rattle.std.proofs.lemmas.Bool.Decides.{nat_tests}
 use Rattle.hg_core.specs.declared.register.Register.{Register}
 use Rattle.hg_core.specs.Events.{masked_in}
 use Rattle.hg_rule.specs.declared.view.Event.{Event}
-use Rattle.hg_rule.specs.declared.view.Event.TheVariants.{Mark, Sample, SampleMask}
+use Rattle.hg_rule.specs.declared.view.Event.TheVariants.{Mark}
 use Rattle.hg_rule.specs.declared.view.View.{View}
 use Rattle.hg_rule.specs.Views.{number, pass}
 use Rattle.hg_rule.specs.Rounds.{IsNoMark, IsRoundOf, loaded_after, gone_in}

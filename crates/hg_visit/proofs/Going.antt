@@ -1,5 +1,5 @@
 -- One stretch of visits and steps after another.
-use Rattle.std.proofs.Common.{◌≡◌, inl, inr, ℕ, ◌+◌, Bool, true, false, List, [], ◌∷◌, ◌++◌, refl, sym, ap, ◌∙◌, arith, append_assoc, append-nil}
+use Rattle.std.proofs.Common.{◌≡◌, ℕ, ◌+◌, Bool, true, false, List, [], ◌∷◌, ◌++◌, refl, sym, ap, ◌∙◌, arith, append_assoc, append-nil}
 use Rattle.std.specs.Prelude.{if◌then◌else◌}
 use Rattle.hg_base.specs.declared.report.Kind.{Kind}
 use Rattle.hg_base.specs.declared.report.Kind.TheVariants.{Group, Table, Interval}
@@ -14,16 +14,11 @@ use Rattle.hg_rule.specs.declared.view.Part.{Part}
 use Rattle.hg_rule.specs.declared.view.Part.TheVariants.{OfPass}
 use Rattle.hg_rule.specs.declared.view.PassPart.{PassPart}
 use Rattle.hg_rule.specs.declared.view.View.{View}
-use Rattle.hg_rule.specs.Facts.{IsAmong, record_of}
+use Rattle.hg_rule.specs.Facts.{record_of}
 use Rattle.hg_rule.specs.Views.{number, part_number, pass, pass_there, first_in, after_first, others, seeing, HasPass}
 use Rattle.hg_rule.specs.Rounds.{IsWork}
 use Rattle.hg_rule.proofs.Rounds.{gone_on}
 use Rattle.hg_visit.specs.Visits.{closed_visit, IsOnlyFor, GoesOn}
-
-pub among_first : {A : Type 0} (a : A) (xs more : List A) → IsAmong a xs → IsAmong a (xs ++ more)
-among_first a [] more h = absurd h
-among_first a (x ∷ xs) more (inl e) = inl e
-among_first a (x ∷ xs) more (inr h) = inr (among_first a xs more h)
 
 pub works : (xs ys : List Event) → Each IsWork xs → Each IsWork ys → Each IsWork (xs ++ ys)
 works [] ys a b = b

@@ -1,4 +1,4 @@
-use Rattle.std.proofs.Common.{◌≡◌, ◌<◌, ◌≤◌, ◌+◌, length, refl, arith, rules}
+use Rattle.std.proofs.Common.{◌≡◌, ◌≤◌, ◌+◌, length, refl, arith, rules}
 use Rattle.hg_drivers.specs.Listed.{none_left}
 use Rattle.hg_drivers.proofs.Caught.{catching_first, catching_more, caught_up}
 use Rattle.hg_drivers.proofs.turn.catch_up.Goals as goal
