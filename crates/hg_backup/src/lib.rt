@@ -7,8 +7,8 @@
 //!     the reader          begin, look, .., commit       none: the snapshot and the dump come after the lines
 //!     collectors          rounds                        reports, which may name the reader's snapshot as held
 //!
-//! So the lines alone do not say who holds that snapshot. With the reader's two lines put in (`lines_with`), they are what a run of
-//! all these sessions may print (`IsSoundWith`). This asks no new definition of a right line: a held snapshot of the reader is one
+//! So the lines alone do not say which session holds that snapshot. With the reader's two lines put in (`lines_with`), they are what a
+//! run of all these sessions may print (`IsSoundWith`). This asks no new definition of a right line: a held snapshot of the reader is one
 //! at which it read, and is never moved, since it declares no tables.
 //!
 //! The dump is of the history that the lines print (`printed_history_shows_the_same`), although the machine's own history keeps another

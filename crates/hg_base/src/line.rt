@@ -34,7 +34,7 @@ pub enum Answer {
     /// Refused: the transaction did not declare the table.
     Undeclared(TableId),
     Swept(Sweep),
-    /// A `gc` record of a run, whose collectors work beside the sessions.
+    /// A `gc` record of a run, whose collectors work concurrently with the sessions.
     Beside,
 }
 

@@ -1,7 +1,7 @@
 //! Where bytes come from and go to, and what a worker asks before it acts.
 //!
-//! A source may tell the bytes that are still to come, and a sink those that it took: a contract speaks of them where
-//! they are told. Each counts its faults, and the count never falls, so an answer `Failed` shows its cause.
+//! A source may show the bytes that are still to come, and a sink those that it took: a contract speaks of them only if
+//! they are shown. Each counts its faults, and the count never falls, so an answer `Failed` shows its cause.
 
 ghost use Rattle.std.specs.Prelude.{List, ℕ};
 ghost use Rattle.std.specs.Io.{ReadsAtMost};

@@ -1,4 +1,4 @@
-//! Who wrote a version.
+//! The transaction that wrote a version.
 
 /// A transaction of a session. Both are counted from 1.
 #[derive(Clone, Copy, Debug, PartialEq, Eq)]

@@ -9,7 +9,7 @@
 //! not known here: between two rounds a collector's pass may meet them (`HasMetSessions`), which keeps its part and its steps.
 //!
 //! One rule (`AreRounds`): the reports that are kept are those of the rounds that were made, in their order. Each round is one by its
-//! collector's own contract (`IsRoundBy`), all that it removed is told, and each pass keeps its part alone (`IsLone`). If memory for a
+//! collector's own contract (`IsRoundBy`), all that it removed is reported, and each pass keeps its part alone (`IsLone`). If memory for a
 //! report runs out, the round was made all the same, and the list says that it is not whole.
 //!
 //! A run's rounds are spread over its script (`Pace`).

@@ -1,16 +1,16 @@
 //! When a collector makes its rounds.
 //!
 //! Rounds that are made as fast as they can be are over before the sessions have written much. So they are spread evenly over the
-//! script: each session tells how many of its records it has begun, and a collector's worker waits with a round until the sessions
-//! have together begun as many as lie before it. With two rounds each,
+//! script: each session counts the records that it has begun, and a collector's worker waits with a round until the sessions have
+//! together begun as many as lie before it. With two rounds each,
 //!
 //!     records    ------+------+--------+-----+------+--------+------
 //!     rounds         group  table  interval group  table  interval
 //!
 //! The reader of a dump waits until half of the records are begun.
 //!
-//! Nothing is claimed of when a round is made: a sleep may end early, and where for a while no session begins a record, since a gate
-//! holds all of them, say, or a system with no threads left runs the collectors first, nobody waits until one does.
+//! Nothing is claimed of when a round is made. A sleep may end early. And if no session begins a record for a while, the collectors go
+//! on without waiting: a gate may hold all sessions, or a system with no threads left may run the collectors first.
 
 use hg_base::{Gate, NoMemory};
 use std::alloc::Global;

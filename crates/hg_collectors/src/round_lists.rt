@@ -45,7 +45,7 @@ impl RoundLists {
     }
 }
 
-/// The rounds of a plan by each collector, each beside the others.
+/// The rounds of a plan by each collector, all collectors concurrently.
 pub fn run_collectors<G: Gate + Sync, R: Threads + Wait + Sync>(
     rt: &R,
     lent: &Lent,

@@ -44,7 +44,7 @@
 //! (`counters_balance`). A record that was cut at a bound, or clean, when its bucket was given back, still is (`what_was_left_stays`).
 //!
 //! Each law named `.._is_refuted` takes a wrong version of a step and shows that it does not do what the right one does: it breaks the
-//! invariant, misses a snapshot, or leaves a version that nobody reads. Its proof gives a state in which that happens.
+//! invariant, misses a snapshot, or leaves a version that no session reads. Its proof gives a state in which that happens.
 //!
 //! `specs/` has the state, the events and the invariant, one part a file. `Register`, `Loaded` and `Ask` are types of the layer above.
 //! No value is ever made of `Phase`, `LogEntry`, `Version` and `Visit`: only contracts use them.

@@ -1,4 +1,4 @@
-//! Where a session stands between two transactions, and in one.
+//! The phase of a session: between two transactions, or in one.
 
 use hg_base::Scope;
 

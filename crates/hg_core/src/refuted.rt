@@ -66,7 +66,7 @@ pub fn horizon_without_entering_is_refuted()
         MissesNone (mark_alone (s.pass p)) (s.pass p) s.phase) → ⊥ }
 {}
 
-/// A version is read at its own number, so a sweep must not count its lifetime from behind it.
+/// A version is read at its own number, so a sweep must not count its lifetime from the number after it.
 pub fn lifetime_without_own_number_is_refuted()
     ensures { ((s : CoreState) (p : ℕ) (r : Rid) → IsSteady s → MayReclaim s p r →
         IsSteady (lifetime_past s p r)) → ⊥ }

@@ -39,7 +39,7 @@ use crate::register::Register;
 use hg_base::Kind;
 
 /// No gather misses a snapshot. After every list of steps, whatever number a session is live at, it is at or over the
-/// horizon of every whole record, or it stands in that record for each table of its scope. So no bound is over it that a
+/// horizon of every whole record, or that record has it for each table of its scope. So no bound is over it that a
 /// collector takes from the record. A number that a session is about to go live at is at or over every horizon.
 pub fn no_gather_misses_a_snapshot()
     ensures live { Always (λ s.
@@ -129,7 +129,7 @@ pub fn counters_balance()
         CountersBalance s.sessions s.buckets s.passes s.log s.bucket s.counters s.visits) }
 {}
 
-/// Each record stands in its own bucket, once, and its table is there.
+/// Each record is in its own bucket, once, and its table is there.
 pub fn records_are_placed()
     ensures { Always (λ s. (b : ℕ) → IsPlaced s.tables s.buckets b (s.bucket b)) }
 {}

@@ -1,4 +1,4 @@
-//! Records of made scripts, by the same rules told to another language.
+//! Records of made scripts, as the same rules written in another language make them.
 
 use crate::calls::word_number;
 use hg_base::NoMemory;

@@ -1,4 +1,4 @@
-//! All workers beside each other, each in a thread of its own.
+//! All workers concurrently, each in a thread of its own.
 
 ghost use Rattle.std.specs.Prelude.{◌<◌, ℕ, length, slice_index_or, All};
 ghost use Rattle.hg_session.specs.Engines.{engine_sizes};
@@ -54,7 +54,7 @@ fn collect_beside<G: Gate + Sync, R: Threads + Wait + Sync>(
     run_collectors(rt, &lent_by(engine), plan, collectors, told);
 }
 
-/// The sessions' workers beside the collectors'.
+/// The sessions' workers, concurrently with the collectors'.
 pub(crate) fn run_beside<G: Gate + Sync, R: Threads + Wait + Sync>(
     rt: &R,
     engine: &Engine,

@@ -2,8 +2,8 @@
 //!
 //!     open_for        an engine for the tables and the sessions of a script, its sessions and its collectors
 //!     replay_on       record by record on one thread: each session in its turn, and a round for each `gc`
-//!     run_on          each session in a thread of its own, and each collector beside them
-//!     dump_on         as run_on, and beside them one more session, the reader, exports all tables
+//!     run_on          each session and each collector in a thread of its own
+//!     dump_on         as run_on, and concurrently one more session, the reader, exports all tables
 //!     close           all passes and all sessions go to one pass, which settles and counts
 //!
 //! A driver leaves lines, and says of them what the logs of the sessions say (`HasDrivenOne`, `HasDrivenAll`): the lines are the replies

@@ -54,7 +54,7 @@ fn hire<'a>(
     Ok(workers)
 }
 
-// The sessions of the workers, behind those that are there. There are places for all.
+// The sessions of the workers, after those that are there. There are places for all.
 fn retire(workers: Vec<Worker>, sessions: Vec<Session>) -> Vec<Session>
     requires { length sessions.items + length workers.items ≤ vec_capacity sessions }
     ensures { result.items ≡ sessions.items ++ sessions_in workers.entry.items }

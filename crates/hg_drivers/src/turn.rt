@@ -1,9 +1,9 @@
 //! Sessions of one thread, each in its turn.
 //!
 //! A session knows of another what it heard at a meeting. Before its statement it meets the session that ran last, and so has
-//! heard every log as it stands: its snapshot and its commit number are then over all that was printed before. Where its write
-//! is refused for another's, it meets that other session, whose log shows that the write stands open. A meeting leaves cursors as
-//! they are.
+//! heard every log as it is: its snapshot and its commit number are then over all that was printed before. If its write is
+//! refused for another's, it meets that other session, whose log shows that the write is open. A meeting leaves cursors as they
+//! are.
 
 ghost use Rattle.std.specs.Prelude.{◌≡◌, ℕ, suc, ◌-◌, ◌<◌, ◌≢◌, length, get_or, None, IfOk, OnOk};
 ghost use Rattle.hg_base.specs.declared.writer.Writer.{Writer};

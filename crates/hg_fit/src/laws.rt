@@ -19,7 +19,7 @@ pub fn rows_have_their_columns()
 {}
 
 /// What is sound for a script also fits it: each number has its width, each line answers the record of its place as the
-/// format has it, or is the report of a round beside the sessions, and each row has its table's columns. Rounds are counted
+/// format has it, or is the report of a round that ran concurrently, and each row has its table's columns. Rounds are counted
 /// in 32 bits.
 pub fn what_is_sound_fits()
     ensures { (mode : Mode) (script : Script) (printed : Printed) → rounds_beside mode < 2 ^ 32 →

@@ -17,7 +17,7 @@
 //! the first transaction's own list becomes the context's, with room for the records of the others. If memory runs out, each
 //! transaction of the batch is handed back open, with its list: a batch goes through whole, or not at all (`TakesTurn`). `finish` is turn
 //! after turn, until something is laid for the session. While a leader stamps, others can still read: a version with the next number is
-//! above the mark, and nobody's snapshot reaches it until the mark is stored.
+//! above the mark, and no snapshot reaches it until the mark is stored.
 //!
 //! One rule (`IsKept`): whenever the commit lock is free, no write has the next number, each group that was not taken has its context,
 //! with exactly the records that it writes, and the commits follow the queue.

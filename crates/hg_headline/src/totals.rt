@@ -1,4 +1,4 @@
-//! Laws of what the counters of the buckets tell, each the contract of a function with no body.
+//! Laws of what the counters of the buckets show, each the contract of a function with no body.
 
 ghost use Rattle.std.specs.Prelude.{◌≡◌, ℕ, suc, ◌<◌, List, length, None};
 ghost use Rattle.hg_base.specs.declared.line.Totals.{Totals};

@@ -14,8 +14,8 @@ use std::alloc::Global;
 use std::collections::BTreeMap;
 use std::marker::Model;
 
-/// Lines and the records that they answer, of which there are as many. Clauses see each line with the transaction in which it
-/// stands.
+/// Lines and the records that they answer, of which there are as many. Clauses see each line with the transaction that it
+/// belongs to.
 #[derive(Drop)]
 pub struct Lines<'a> {
     sequence: &'a Sequence<'a>,

@@ -128,7 +128,7 @@ impl Own {
         }
     }
 
-    /// Forgets what the transaction of a line stored, where the line ends it: no later line stands in it.
+    /// Forgets what the transaction of a line stored, if the line ends it: no later line belongs to it.
     pub fn close(&mut self, said: &Said)
         ensures kept { (earlier : List script.Said) →
             ((j x : ℕ) → IsFalse (is_over j x earlier) → (r : Rid) →

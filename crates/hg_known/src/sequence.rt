@@ -39,7 +39,7 @@ impl<'a> Model for Sequence<'a> {
         × (length s.indices.items + 3 * s.rounds < 2 ^ 64) };
 }
 
-// Where a record of the script stands among all.
+// The place of a record of the script among all.
 fn index_of(script: &Script, asked: &Record) -> u32
     requires asked { IsRecordOf script.now asked.now }
     requires places { AreNumbered script.now }

@@ -1,4 +1,4 @@
-//! The rule of a list of locks, and what its steps tell.
+//! The rule of a list of locks, and what a seat learns by its steps.
 
 use crate::fits::Fits;
 use atomic_table::{Play, TableRule};

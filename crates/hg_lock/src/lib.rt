@@ -14,7 +14,7 @@
 //! lock gets a value that fits, and frees the lock by putting back one that fits. A `Loan` cannot be dropped: it ends in `give`. Each
 //! lock is one word and one slot, so two locks of a list can be held at once.
 //!
-//! The word and the slot of a lock are the first of eight (`line_of`), and nobody uses the other seven. A cache line has eight words,
+//! The word and the slot of a lock are the first of eight (`line_of`), and the other seven are not used. A cache line has eight words,
 //! so a thread that takes one lock does not take the cache line of another lock away from the processor that is using it.
 //!
 //! # Sleeping

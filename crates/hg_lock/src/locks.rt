@@ -13,7 +13,7 @@ use std::hint::spin_loop;
 use std::sync::Wait;
 use std::thread::yield_now;
 
-// How often a thread looks at a lock that is held before it sleeps. Behind the first of these looks it lets others run.
+// How often a thread looks at a lock that is held before it sleeps. After the first of these looks it lets others run.
 const LOOKS: u32 = 300;
 
 const FIRST_LOOKS: u32 = 100;
@@ -52,7 +52,7 @@ fn settle<X: Drop, T>(freed: Freed<X, T>)
     } = freed;
 }
 
-// Lays a value down behind the others, in a line of its own.
+// Appends a value, in a cache line of its own.
 fn lay<X: Drop>(slots: &mut Vec<Option<X>>, value: X) -> Result<(), AllocError>
     ensures { OnOk result (slots.new.items ≡ slots.old.items ++ spread (value ∷ [])) }
 {
@@ -228,7 +228,7 @@ impl<X: Fits + Drop> Locks<X> {
         }
     }
 
-    // Wakes one who sleeps on the lock.
+    // Wakes one thread that sleeps on the lock.
     #[cold]
     #[inline(never)]
     fn wake(&self, freed: Freed<X, X::Tag>)

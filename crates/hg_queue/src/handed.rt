@@ -1,4 +1,4 @@
-//! A transaction on its way to who commits it.
+//! A transaction on its way to the session that commits it.
 
 use crate::open_tx::OpenTx;
 use hg_rule::TxSeat;

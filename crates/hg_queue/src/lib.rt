@@ -5,7 +5,7 @@
 //!     session 3   push
 //!
 //! A transaction is named by a pair: its session, and its number among that session's transactions (3/4). It enters the queue together
-//! with its session's part of the state, so nobody else has that part while it waits. Each session has a pass that pushes (`twin`). One
+//! with its session's part of the state, so no other seat has that part while it waits. Each session has a pass that pushes (`twin`). One
 //! pass pops, and it is kept with the committer's seat. What a pass knows is a list of pairs, oldest first.
 //!
 //!     pushed so far         6/2   2/6   3/4   5/1   2/7

@@ -1,4 +1,4 @@
-//! What a move is told besides. Each call picks it.
+//! What a move of the queue depends on besides its words. The call that makes the move sets it.
 
 ghost use Rattle.atomic_table.specs.Seated.{TableId as BoardId};
 ghost use Rattle.std.specs.Prelude.{[]};

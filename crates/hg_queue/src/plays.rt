@@ -1,4 +1,4 @@
-//! What each step of the queue tells.
+//! What each step of the queue makes of a view.
 
 ghost use Rattle.hg_queue.specs.Lines.{leader, pusher, pushed, popped};
 ghost use Rattle.std.specs.Prelude.{⊤};

@@ -1,4 +1,4 @@
-//! The fields of a record as they stand, with their quotes, and what they say, each read whether it is written well or not.
+//! The fields of a record as they are written, with their quotes, and what they say. Each is read whether it is well formed or not.
 
 ghost use Rattle.std.specs.Prelude.{◌≡◌, ◌≤◌, ◌-◌, ◌==◌, ◌∷◌, ◌++◌, [], OnOk, drop, false, if◌then◌else◌, length, not, take};
 ghost use Rattle.hg_report.specs.Fields.{fields_of, narrow, nth, natural_at, parted, says, session_in};

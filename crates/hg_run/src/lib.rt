@@ -25,7 +25,7 @@
 //! sound next to a reader of all tables at a snapshot, and two dumps of the history that it prints follow: at that snapshot, and at the
 //! end.
 //!
-//! A source is read to its end (`read_all`), and a text is written to a sink (`write_all`). Both count their faults, and may tell their
+//! A source is read to its end (`read_all`), and a text is written to a sink (`write_all`). Both count their faults, and may show their
 //! bytes. What was read is a prefix of what the source had (`HasGiven`), and what a sink took is a prefix of the text: the whole text,
 //! unless the sink failed. `Status` says how a call ended.
 #![tactic(auto)]

@@ -4,7 +4,7 @@ ghost use Rattle.std.specs.Prelude.{ℕ, ◌+◌, ◌≤◌, length, Decides, If
 ghost use Rattle.std.specs.Option.{MatchOption};
 ghost use Rattle.hg_run.specs.Parting.{AreParts, IsFirstAt, IsLineAt};
 
-// Whether the line that parts a source stands behind `k` bytes.
+// Whether the line that parts a source follows the first `k` bytes.
 fn is_line_at(bytes: &[u8], k: usize) -> bool
     requires { k ≤ length bytes.now }
     ensures line { Decides result (IsLineAt bytes.now k) }
@@ -28,7 +28,7 @@ fn find_line(bytes: &[u8]) -> Option<usize>
     None
 }
 
-/// The script before the first such line and the text behind it. Without one all bytes are the script.
+/// The script before the first such line and the text after it. Without one all bytes are the script.
 pub fn part(bytes: &[u8]) -> (&[u8], &[u8])
     ensures { AreParts bytes.now result.0.now result.1.now }
 {

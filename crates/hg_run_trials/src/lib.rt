@@ -1,5 +1,5 @@
-//! Tests of the whole that need a source, a sink or a gate of their own. What words and a script print is told by the rows of tests/,
-//! which the program is run on.
+//! Tests of the whole that need a source, a sink or a gate of their own. What words and a script print is tested by the rows of
+//! tests/, on which the program is run.
 //!
 //!     serve_tests     sources and sinks that fail, that watch how they are called, and that never fail
 //!     order_tests     workers that are held, so that one schedule alone is possible

@@ -1,4 +1,4 @@
-//! Buckets under locks, each with its seat beside it.
+//! Buckets under locks, each with its seat next to it.
 //!
 //!     lock 2   free:   [ bucket 2 | seat of bucket 2 ]        the bucket keeps the content that the seat shows
 //!              held:   bucket 2 in a `Held`, and the seat's part in the view of the pass that took it

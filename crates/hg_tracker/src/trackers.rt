@@ -134,7 +134,7 @@ fn is_long_in_use(entry: &Entry, mark: u64, long: u64) -> bool
 impl Trackers {
     ghost use Rattle.hg_tracker.specs.Boards.{trackers_board_id, board_sizes};
 
-    // Tries to move the entry that stands at a position.
+    // Tries to move the entry at a position.
     fn try_move(
         &self,
         pass: &mut CollectorPass,

@@ -29,7 +29,7 @@ fn status_of(error: &io::Error) -> Status
     }
 }
 
-// The words behind the program's name.
+// The words after the program's name.
 fn words_of(rt: &HostRuntime) -> Result<Vec<String>, Status> {
     let mut words = Vec::new(rt.alloc());
     for word in env::args(rt).map_err(|error| status_of(&error))?.skip(1) {
