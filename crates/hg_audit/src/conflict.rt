@@ -1,9 +1,9 @@
 //! Whether a write that is refused for a conflict shows its cause.
 
-ghost use Rattle.std.specs.Prelude.{◌≡◌, ◌↔◌, ℕ, ◌<◌, List, [], length, is_some, IsSome, IsTrue, IsFalse};
+ghost use Rattle.std.specs.Prelude.{◌≡◌, ◌↔◌, ◌<◌, List, [], length, is_some, IsTrue};
 ghost use Rattle.hg_base.specs.declared.writer.Writer.{Writer};
 ghost use Rattle.hg_base.specs.declared.rid.Rid.{Rid};
-ghost use Rattle.hg_base.specs.Lists.{Each, onto};
+ghost use Rattle.hg_base.specs.Lists.{onto};
 ghost use Rattle.hg_base.specs.Script.{Mode};
 ghost use Rattle.hg_base.specs.History.{History, image_in};
 ghost use Rattle.hg_base.specs.Transcript as script;

@@ -1,6 +1,6 @@
 //! What fails first of lines and totals, and the order in which that is asked.
 
-ghost use Rattle.std.specs.Prelude.{◌≡◌, ℕ, ◌||◌, List, [], Some, length, is_some, if◌then◌else◌, IsTrue, IfOk};
+ghost use Rattle.std.specs.Prelude.{◌≡◌, ◌||◌, List, [], Some, is_some, if◌then◌else◌, IsTrue, IfOk};
 ghost use Rattle.std.specs.Bool.{MatchBool};
 ghost use Rattle.hg_base.specs.declared.line.Line.{Line};
 ghost use Rattle.hg_base.specs.declared.line.Printed.{Printed};

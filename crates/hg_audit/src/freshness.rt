@@ -1,6 +1,6 @@
 //! Whether the numbers of a line are in order with those before it.
 
-ghost use Rattle.std.specs.Prelude.{◌≡◌, ◌↔◌, ℕ, ◌<◌, ◌≤◌, ◌==◌, [], List, map, length, IfSome, IsTrue, filter_map};
+ghost use Rattle.std.specs.Prelude.{◌≡◌, ◌↔◌, ◌<◌, ◌≤◌, ◌==◌, [], List, map, length, IfSome, IsTrue, filter_map};
 ghost use Rattle.std.specs.List.{list_any};
 ghost use Rattle.hg_base.specs.Lists.{Ascends, Each, onto};
 ghost use Rattle.hg_base.specs.History.{History};

@@ -1,14 +1,13 @@
 //! Whether a reply is right: that of a table that never reclaims, and for a refused write one that shows its cause.
 
-ghost use Rattle.std.specs.Prelude.{◌≡◌, ◌↔◌, ◌&&◌, ℕ, List, Some, None, length, option_map, option_copied, is_some, IsTrue};
-ghost use Rattle.std.specs.Bool.{MatchBool};
+ghost use Rattle.std.specs.Prelude.{◌≡◌, ◌↔◌, ◌&&◌, List, Some, None, length, option_map, option_copied, is_some, IsTrue};
 ghost use Rattle.hg_base.specs.declared.image.Image.{Image};
 ghost use Rattle.hg_base.specs.declared.rid.Rid.{Rid};
 ghost use Rattle.hg_base.specs.Script.{Mode};
 ghost use Rattle.hg_base.specs.History.{History, seen};
 ghost use Rattle.hg_base.specs.Transcript as script;
 ghost use Rattle.hg_base.specs.Transcript.{history_of, own_writes};
-ghost use Rattle.hg_base.specs.Replies.{IsAnswer, IsReply, IsBegun, IsGot, IsPut, IsDeleted, IsEnded, IsCommitted, IsUndone, IsSwept, IsBeside, IsCollected, IsScanned, IsUndeclared, is_written};
+ghost use Rattle.hg_base.specs.Replies.{IsAnswer, IsReply, IsBegun, IsGot, IsPut, IsDeleted, IsEnded, IsCommitted, IsUndone, IsCollected, IsScanned, IsUndeclared, is_written};
 ghost use Rattle.hg_decide.specs.Audit.{IsRightReply};
 ghost use Rattle.hg_known.specs.Lines.{HasRest, rest_of, said_of};
 ghost use Rattle.hg_known.specs.Owned.{HasOwn};

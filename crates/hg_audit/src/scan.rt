@@ -1,6 +1,6 @@
 //! Whether the rows of a scan, or of a fetch, are those that the line's transaction sees.
 
-ghost use Rattle.std.specs.Prelude.{◌≡◌, ◌↔◌, ℕ, ◌≤◌, List, None, map, unwrap_or, is_some, option_map, option_copied, if◌then◌else◌, IsTrue};
+ghost use Rattle.std.specs.Prelude.{◌≡◌, ◌↔◌, List, None, unwrap_or, is_some, option_map, option_copied, if◌then◌else◌, IsTrue};
 ghost use Rattle.hg_base.specs.History.{History, nothing, seen};
 ghost use Rattle.hg_base.specs.Transcript as script;
 ghost use Rattle.hg_base.specs.Transcript.{own_writes};

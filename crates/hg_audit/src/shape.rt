@@ -1,6 +1,6 @@
 //! By which command a text is judged: whether its lines are those of the records, one for each in order.
 
-ghost use Rattle.std.specs.Prelude.{◌≡◌, ◌↔◌, List, IfOk, IsTrue};
+ghost use Rattle.std.specs.Prelude.{◌≡◌, ◌↔◌, IfOk, IsTrue};
 ghost use Rattle.std.specs.List.{list_any};
 ghost use Rattle.std.specs.Option.{MatchOption};
 ghost use Rattle.hg_base.specs.declared.line.Answer.TheVariants.{Swept};

@@ -6,7 +6,6 @@ ghost use Rattle.hg_base.specs.declared.line.Printed.{Printed};
 ghost use Rattle.hg_base.specs.declared.line.Totals.{Totals};
 ghost use Rattle.hg_base.specs.declared.report.Report.{Report};
 ghost use Rattle.hg_base.specs.declared.rid.Rid.{Rid};
-ghost use Rattle.hg_base.specs.declared.statement.Record.{Record};
 ghost use Rattle.hg_base.specs.Lists.{Each};
 ghost use Rattle.hg_base.specs.History.{History, visible};
 ghost use Rattle.hg_base.specs.Script.{Script, run};

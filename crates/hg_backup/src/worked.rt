@@ -1,6 +1,6 @@
 //! Laws of an example, each the contract of a function with no body.
 
-ghost use Rattle.std.specs.Prelude.{◌≡◌, ℕ, List, [], ◌∷◌, false, true};
+ghost use Rattle.std.specs.Prelude.{◌≡◌, [], ◌∷◌, false, true};
 ghost use Rattle.hg_base.specs.Script.{replay, run};
 ghost use Rattle.hg_base.specs.Sound.{LinesAreSound};
 ghost use Rattle.hg_headline.specs.Worked as headline;

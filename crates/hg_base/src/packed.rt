@@ -1,12 +1,11 @@
-//! The values of a row as bytes, one behind the other.
+//! The values of a row as bytes, one after the other.
 //!
 //!     [ 2 | 3 a , b | 255 7 0 0 0 0 0 0 0 ]       two values: the text `a,b` and the number 7
 //!
 //! A first byte says how many values there are. A text is its length and its bytes, and a number is 255 and its eight bytes.
 
-ghost use Rattle.std.specs.Prelude.{◌≡◌, ◌≤◌, ◌<◌, ◌++◌, ◌∷◌, [], List, drop, get_or, length, take, IfOk, OnOk};
+ghost use Rattle.std.specs.Prelude.{◌≡◌, ◌≤◌, ◌<◌, ◌++◌, drop, get_or, length, take, IfOk, OnOk};
 ghost use Rattle.std.specs.Int.{w64, cast_signed, cast_unsigned, from_le_bytes, to_le_bytes};
-ghost use Rattle.std.specs.List.{flat_map};
 ghost use Rattle.hg_base.specs.Packed.{IsPacked, IsWhole, front_size, front_value, packed, packed_value, unpacked};
 ghost use Rattle.hg_base.specs.Lists.{Each};
 ghost use Rattle.hg_base.specs.Values.{FitsValue};
@@ -17,10 +16,10 @@ use crate::text::Text;
 use crate::value::Value;
 use std::alloc::Global;
 
-// What stands before the eight bytes of a number. It is the length of no text.
+// The byte before the eight bytes of a number. It is the length of no text.
 const NUMBER: u8 = 255;
 
-// How many bytes the value has that stands first.
+// How many bytes the first value has.
 fn front_size(bytes: &[u8]) -> usize
     ensures { result ≡ front_size bytes.now }
 {
@@ -31,7 +30,7 @@ fn front_size(bytes: &[u8]) -> usize
     }
 }
 
-// What stands behind that value.
+// The bytes after that value.
 fn behind_front(bytes: &[u8]) -> &[u8]
     requires { front_size bytes.now ≤ length bytes.now }
     ensures { result.now ≡ drop (front_size bytes.now) bytes.now }
@@ -59,7 +58,7 @@ fn text_of(bytes: &[u8], count: usize) -> Text
     }
 }
 
-// The value that stands first.
+// The first value.
 fn front_value(bytes: &[u8]) -> Value
     requires { IsWhole bytes.now }
     ensures { result ≡ front_value bytes.now }

@@ -25,7 +25,6 @@ pub struct IntervalCollector {
 }
 
 impl IntervalCollector {
-    ghost use Rattle.std.specs.Prelude.{ℕ};
     ghost use Rattle.hg_rule.specs.declared.view.Sizes.{Sizes};
     ghost use Rattle.std.specs.Borrow.{sem};
     ghost use Rattle.hg_visit.specs.Lending.{LendsPass, EndsAs};

@@ -1,6 +1,6 @@
 //! What was printed before a line: numbers by session, commit numbers, marks of collectors, and open transactions.
 
-ghost use Rattle.std.specs.Prelude.{◌≡◌, ◌↔◌, ℕ, ◌≤◌, ◌==◌, ◌∷◌, [], List, Some, None, IfSome, IsTrue, map, filter_map, max, unwrap_or, option_map, OnOk};
+ghost use Rattle.std.specs.Prelude.{◌≡◌, ◌↔◌, ◌≤◌, ◌==◌, ◌∷◌, [], List, Some, None, IsTrue, map, filter_map, max, unwrap_or, option_map, OnOk};
 ghost use Rattle.std.specs.List.{list_any};
 ghost use Rattle.std.specs.BTreeMap.{get};
 ghost use Rattle.std.specs.Ordering.{nat_cmp};

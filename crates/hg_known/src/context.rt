@@ -1,8 +1,8 @@
 //! What all lines say that one of them may ask for: commit numbers, stored images and printed snapshots.
 
-ghost use Rattle.std.specs.Prelude.{◌≡◌, ◌↔◌, ℕ, ◌<◌, ◌≤◌, ◌&&◌, ◌∷◌, [], List, min, unwrap_or, IsTrue, IfSome, IfOk, OnOk};
+ghost use Rattle.std.specs.Prelude.{◌≡◌, ◌↔◌, ◌<◌, ◌&&◌, ◌∷◌, [], List, min, unwrap_or, IsTrue, OnOk};
 ghost use Rattle.std.specs.List.{list_any};
-ghost use Rattle.hg_base.specs.Lists.{Each, onto};
+ghost use Rattle.hg_base.specs.Lists.{Each};
 ghost use Rattle.hg_base.specs.Transcript as script;
 ghost use Rattle.hg_base.specs.Transcript.{numbers_in};
 ghost use Rattle.hg_base.specs.Freshness as fresh;

@@ -1,13 +1,13 @@
 //! The history that the printed commit numbers give, where they give one, and whether it loses an update.
 
-ghost use Rattle.std.specs.Prelude.{◌≡◌, ◌↔◌, ℕ, ◌<◌, List, [], ◌∷◌, ◌++◌, Some, None, length, IsTrue, IsSome, IfSome, IfOk};
+ghost use Rattle.std.specs.Prelude.{◌≡◌, ◌↔◌, ℕ, ◌<◌, List, [], ◌∷◌, Some, None, length, IsTrue, IsSome, IfSome, IfOk};
 ghost use Rattle.std.specs.Bool.{MatchBool};
 ghost use Rattle.std.specs.Option.{MatchOption};
 ghost use Rattle.hg_base.specs.declared.rid.Rid.{Rid};
 ghost use Rattle.hg_base.specs.Lists.{EachAfter, onto};
 ghost use Rattle.hg_base.specs.History.{Commit};
 ghost use Rattle.hg_base.specs.Transcript as script;
-ghost use Rattle.hg_base.specs.Transcript.{commit_by, history_of};
+ghost use Rattle.hg_base.specs.Transcript.{history_of};
 ghost use Rattle.hg_base.specs.Sound.{IsWhole};
 ghost use Rattle.hg_known.specs.Lines.{said_of};
 ghost use Rattle.hg_known.specs.Owned.{HasOwn, own_at};

@@ -2,8 +2,7 @@
 
 ghost use Rattle.std.specs.Prelude.{◌≡◌, ℕ, ◌+◌, ◌<◌, ◌≤◌, ◌^◌, ◌∷◌, List, Option, Some, None, option_map, false, IfSome, IfOk, OnErr, OnOk};
 ghost use Rattle.hg_base.specs.declared.scope.Scope.TheVariants.{All};
-ghost use Rattle.std.specs.BTreeMap.{IsUnchanged, get};
-ghost use Rattle.std.specs.Ordering.{nat_cmp};
+ghost use Rattle.std.specs.BTreeMap.{IsUnchanged};
 ghost use Rattle.hg_base.specs.Transcript as script;
 ghost use Rattle.hg_base.specs.Transcript.{last_of, rest_in, said_after};
 ghost use Rattle.hg_known.specs.Lines.{said_of, rest_of, number_of, without_rest, left_by, left_rest, AreLasts, AreRests, HasRest, IsRest, OpensKnown, ReachTo};

@@ -2,7 +2,7 @@
 
 ghost use Rattle.std.specs.Prelude.{◌≡◌, ℕ, ◌<◌, ◌∷◌, ◌++◌, [], IfOk, OnOk};
 ghost use Rattle.hg_report.specs.Fields.{fields_of};
-ghost use Rattle.hg_report.specs.Progress.{after, at_start, guess_after, lines_of, no_totals, totals_of, with_held, with_row, with_total};
+ghost use Rattle.hg_report.specs.Progress.{after, at_start, guess_after, lines_of, totals_of, with_held, with_row, with_total};
 ghost use Rattle.hg_report.specs.declared.progress.Open.TheVariants as opens;
 ghost use Rattle.hg_transcript.specs.declared.piece.Piece.TheVariants as pieces;
 

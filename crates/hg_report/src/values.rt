@@ -3,7 +3,7 @@
 ghost use Rattle.std.specs.Prelude.{◌≡◌, ◌≤◌, IfOk, false, length, take};
 ghost use Rattle.std.specs.List.{list_any};
 ghost use Rattle.hg_base.specs.declared.limits.TheConstants.{MOST_COLUMNS, MOST_TEXT_BYTES};
-ghost use Rattle.hg_report.specs.Fields.{fields_of, is_left_out, holds_text, integer_value, nth, row_in, text_in, unquoted, value_in, values_in};
+ghost use Rattle.hg_report.specs.Fields.{fields_of, is_left_out, holds_text, integer_value, row_in, text_in, unquoted, value_in, values_in};
 
 use crate::fields::field;
 use hg_base::{

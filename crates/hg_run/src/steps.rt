@@ -7,7 +7,7 @@ ghost use Rattle.hg_script.specs.Lawful.{IsLawful};
 ghost use Rattle.hg_script.specs.Meaning.{refusal_of, script_of};
 ghost use Rattle.hg_words.specs.Options.{AreWithin, options_of};
 ghost use Rattle.hg_run.specs.Printing.{IsPrintedFor};
-ghost use Rattle.hg_run.specs.Words.{Settings, AsksFor, IsMaking, IsReading, audits, dumps, reads, settings_in, settings_of, task_of};
+ghost use Rattle.hg_run.specs.Words.{Settings, AsksFor, IsMaking, audits, dumps, reads, settings_in, settings_of, task_of};
 ghost use Rattle.hg_run.specs.Serving.{Answers, Comes, IsDecided, IsDumpFor, IsTextFor, IsUnlessNoMemory, RefusesBytes, RefusesTask, WritesAll, WritesExactly, may_write};
 ghost use Rattle.hg_run.specs.Streams.{HasGiven, change_of};
 

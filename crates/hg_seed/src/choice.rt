@@ -1,6 +1,6 @@
 //! What a session of a made script does next.
 
-ghost use Rattle.std.specs.Prelude.{◌≡◌, ◌<◌};
+ghost use Rattle.std.specs.Prelude.{◌≡◌};
 ghost use Rattle.hg_seed.specs.Generator.{chosen, chosen_in, inside, outside};
 
 /// A statement without its table, key and values.

@@ -1,6 +1,6 @@
 //! A helper: it visits the buckets whose numbers it draws.
 
-ghost use Rattle.std.specs.Prelude.{◌≡◌, ◌<◌, ◌≤◌};
+ghost use Rattle.std.specs.Prelude.{◌≡◌, ◌<◌};
 ghost use Rattle.hg_rule.specs.Views.{pass as own_pass};
 ghost use Rattle.hg_rule.specs.Seats.{pass_view};
 ghost use Rattle.hg_tracker.specs.Boards.{trackers_board_id, board_sizes};

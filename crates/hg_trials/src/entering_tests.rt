@@ -1,6 +1,6 @@
 //! A session enters while others commit, or begins anew between two loads of a pass, step by step.
 
-ghost use Rattle.std.specs.Prelude.{◌≡◌, ◌+◌, ◌<◌, ◌≤◌, ◌^◌, suc, true, false, [], ◌∷◌, length, None, Some, IsSome, IsTrue};
+ghost use Rattle.std.specs.Prelude.{◌≡◌, ◌+◌, ◌<◌, suc, true, false, [], ◌∷◌, length, None, Some, IsSome, IsTrue};
 ghost use Rattle.hg_base.specs.declared.rid.Rid.{Rid};
 ghost use Rattle.hg_base.specs.declared.rid.TableId.{TableId};
 ghost use Rattle.hg_base.specs.declared.scope.Scope.TheVariants.{All};
