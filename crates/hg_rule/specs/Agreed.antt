@@ -29,10 +29,13 @@ SightAgrees j session (Heard i log) = ⊤
 SightAgrees j session (Took n) = ⊤
 SightAgrees j session (Did e) = EventAgrees j session e
 
--- Where a record has what was loaded of session j, it reaches into the session's log, and bounds what the session reads.
+-- what the record of a collector's pass says of session j is so
 pub record RecordAgrees (j : ℕ) (session : SessionPart) (record_ : PassPart) : Type 0 where
+  -- the pass did not hear more of the log than there is
   pub known : heard j record_.seen ≤ length session.log
+  -- what was loaded of the session is in its log, after what the pass had heard
   pub reaches : IfSome (found j record_.loaded) (λ loaded. StandsIn (heard j record_.seen) loaded.register session.log session.phase)
+  -- what was loaded of the session bounds what it reads
   pub bounds : IfSome (found j record_.loaded) (λ loaded. Bounds record_.mark loaded session.phase)
 
 -- the record of a collector's pass agrees with session j; the other parts have no record
@@ -44,10 +47,13 @@ PartAgrees j session (OfPass p r) = RecordAgrees j session r
 PartAgrees j session (Away i s n) = ⊤
 PartAgrees j session (Lent i s) = ⊤
 
--- the steps that a view did or knows of, and the records that it has, agree with the log and the phase of session j
+-- the view agrees with the log and the phase of session j
 pub record AgreesWith (v : View) (j : ℕ) (session : SessionPart) : Type 0 where
+  -- the steps that the view made
   pub events : Each (EventAgrees j session) v.events
+  -- the steps that it knows of
   pub sights : Each (SightAgrees j session) v.sights
+  -- the records that it has
   pub parts : Each (PartAgrees j session) v.parts
 
 -- the view agrees with this part of its own, where that is a session's part

@@ -81,14 +81,19 @@ hears n (m ∷ ms) = Heard m.0 (Published n ∷ m.1.log) ∷ hears n ms
 abbrev pub group_of : Members → Group
 group_of ms = map (λ m. commit_in m.0 m.1.log) ms
 
--- Each is live, and nothing of its transaction was undone or published. Each of its open writes has the next number, and it has
--- such a write. Nobody else has one.
+-- what has to hold of a group before it is published
 pub record MayPublish (ms : Members) (list : List (ℕ × Rid)) : Type 0 where
+  -- the group has a session
   pub some : 0 < length ms
+  -- each of its sessions is live
   pub live : Each (λ m. IsSome (snapshot_in m.1.phase)) ms
+  -- nothing of its sessions' transactions was undone or published
   pub plain : Each (λ m. IsTrue (is_plain m.1.log)) ms
+  -- each session has a write with the next number
   pub flagged : Each (λ m. m.1.stamped ≡ true) ms
+  -- no other session has one
   pub alone : Each (λ e. IsTrue (is_in (who ms) e.0)) list
+  -- each open write of its sessions has the next number
   pub every : Each (λ m. (rid : Rid) → IsSome (open_in rid m.1.log) → IsTrue (is_stamped m.0 rid list)) ms
 
 -- ---- handing over, and back

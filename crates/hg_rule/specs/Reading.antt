@@ -77,6 +77,7 @@ pub record HasAll (z : Sizes) (v : View) : Type 0 where
   pub sessions : (j : ℕ) → IsSession z.sessions j → 0 < count (session_key j) v.parts
   pub buckets : (b : ℕ) → b < z.buckets → 0 < count (bucket_key b) v.parts
   pub commit : 0 < count commit_key v.parts
+  -- a view that has all shares has all passes
   pub passes : shares v.parts ≡ whole_share
 
 -- each of its sessions is at rest

@@ -107,12 +107,14 @@ abbrev pub entries_of : List (ℕ × Loaded) → List Entry
 entries_of [] = []
 entries_of (e ∷ loaded) = entries_of loaded ++ live_entry e.0 e.1.register e.1.mask
 
--- the report of a round of that kind of collector, whatever room its list has
+-- the report of a round of this kind of collector, whatever room its list has
 pub record IsReportOf (kind : Kind) (events : List Event) (report : Report) : Type 0 where
   pub kind_is : report.kind ≡ kind
   pub mark_is : report.mark ≡ mark_in events
   pub horizon_is : report.horizon ≡ horizon (round_record events)
+  -- the versions that the steps of the round removed
   pub removed_is : report.removed ≡ gone_in events
+  -- an entry for each live register that was loaded, in the order of sessions
   pub entries_are : report.entries.list ≡ entries_of (round_record events).loaded
 
 -- the report of a round, in the form in which it is printed

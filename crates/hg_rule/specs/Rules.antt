@@ -35,27 +35,39 @@ pub record ShowsWords (z : Sizes) (s : CoreState) (words : List ℕ) : Type 0 wh
 
 -- all that a view says is true of the state
 pub record IsTrueOf (s : CoreState) (v : View) : Type 0 where
+  -- each part is as it is in the state
   pub parts : Each (Shown s) v.parts
+  -- what was seen is still so
   pub sights : Each (Known s) v.sights
+  -- the steps that were made agree with the sessions' logs
   pub events : Each (Stands s) v.events
 
--- The passes in use are below this number, and the one before it is in use.
+-- which passes are in use, where there are so many
 pub record AreUsed (passes : ℕ) (used : ℕ → Bool) : Type 0 where
+  -- those in use are below this number
   pub below : (p : ℕ) → used p ≡ true → p < passes
+  -- the one before this number is in use
   pub last : (p : ℕ) → suc p ≡ passes → used p ≡ true
 
--- There is a state that words and views show, which meets the invariant. Each part is in exactly one view, once. Where no
--- view has a part, the state is as that of a new board. A pass that was split off is in use until it is united with another.
+-- The rule: there is a state that words and views show, and it meets the invariant.
 pub record Rule (z : Sizes) (t : State ℕ View) : Type 0 where
   pub state : CoreState
+  -- the state meets the invariant
   pub steady : IsSteady state
+  -- it is the state of a board of these sizes
   pub sized : IsSized z state
+  -- the words show its mark, its registers and its masks
   pub words : ShowsWords z state t.words
+  -- the passes in use: one that was split off is in use until it is united with another
   pub used : ℕ → Bool
   pub passes : AreUsed state.passes used
+  -- each part of the board is in exactly one view, once, and no view has any other part
   pub exact : (k : Key) → tally k t.views ≡ expected z used k
+  -- no share is lost: the shares of all passes add up to that of a new board
   pub shared : all_shares t.views ≡ whole_share
+  -- where no view has a part, the state is as that of a new board
   pub outside : (k : Key) → expected z used k ≡ 0 → Shown state (new_part k)
+  -- each view is true of the state
   pub shown : (i : ℕ) (v : View) → get_elem? t.views i ≡ some v → IsTrueOf state v
 
 -- What a load of the mark says of a view: some state that meets the invariant has this mark, and is as the view says. A view that
@@ -64,10 +76,15 @@ pub record IsBacked (z : Sizes) (mark : ℕ) (v : View) : Type 0 where
   pub state : CoreState
   pub steady : IsSteady state
   pub sized : IsSized z state
+  -- the mark that was loaded is that of the state
   pub mark_is : state.mark ≡ mark
   pub used : ℕ → Bool
   pub passes : AreUsed state.passes used
+  -- the view has no part more often than there are such parts
   pub most : (k : Key) → count k v.parts ≤ expected z used k
+  -- a view that has all shares has all passes that are in use
   pub alone : shares v.parts ≡ whole_share → (p : ℕ) → count (pass_key p) v.parts ≡ expected z used (pass_key p)
+  -- where no view has a part, the state is as that of a new board
   pub outside : (k : Key) → expected z used k ≡ 0 → Shown state (new_part k)
+  -- the view is true of the state
   pub true_of : IsTrueOf state v

@@ -42,8 +42,11 @@ Within h (Did e) = ⊤
 
 -- h is the whole history at a load of the mark n, so all that was seen of it before is a beginning
 pub record IsHistoryAt (v : View) (n : ℕ) (h : History) : Type 0 where
+  -- n is the length of the history
   pub is_length : length h ≡ n
+  -- a register can show n
   pub number : IsNumber n
+  -- what was seen before is a beginning of this history
   pub within : Each (Within h) v.sights
 
 -- ---- a session's

@@ -63,15 +63,19 @@ log_asked v (Read table low high) n rows = entries.Saw table low high (bucket_nu
 log_asked v (Write rid) n rows = with_refusal rid (refusal n (writer v) (snapshot v) (held v rid)) (session v).log
 log_asked v (Outside table) n rows = entries.Outside table ∷ (session v).log
 
--- A look hears every session's log as it then is, its own with what was logged.
+-- w is v after a look, which hears every session's log as it then is, its own with what was logged
 pub record Looks (v : View) (ask : Ask) (n : ℕ) (w : View) : Type 0 where
   pub history : History
+  -- the history is the whole one at the mark n
   pub whole : IsHistoryAt v n history
   pub rows : List (ℕ × List Value)
+  -- the rows are those of the range that the transaction sees in the bucket held
   pub shown : AreShown v ask rows
   pub logs : ℕ → List LogEntry
   pub heard : List Sight
+  -- the logs of all sessions were heard
   pub all : (k : ℕ) → IsHeard k (logs k) heard
+  -- the look is logged, and the history and the logs are seen
   pub after : w ≡ then_has v (OfSession (number v) (with_log (log_asked v ask n rows) (session v)) ∷ others v)
       (Saw (groups history) ∷ Heard (number v) (log_asked v ask n rows) ∷ heard) (Look (number v) ask n)
 
