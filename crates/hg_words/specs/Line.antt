@@ -13,7 +13,8 @@ seed_rule = record (new_rule (codes "seed")) { parser = Some (parser.Unsigned 0 
 
 -- an option of this name that takes a number from low to high, and has this value where it is not given
 abbrev pub number_rule : Text → ℕ → ℕ → Text → Rule
-number_rule name low high value = record (new_rule name) { long = Some name; parser = Some (parser.Unsigned low high); defaults = value ∷ [] }
+number_rule name low high value =
+    record (new_rule name) { long = Some name; parser = Some (parser.Unsigned low high); defaults = value ∷ [] }
 
 -- `--buckets`: 1 to 1,024, and 64 where it is not given
 abbrev pub buckets_rule : Rule
