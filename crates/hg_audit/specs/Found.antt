@@ -28,7 +28,7 @@ abbrev pub IsDecided : Mode → List Said → printed.Totals → Found → Type 
 IsDecided mode all totals Commits = ¬ NoLostUpdate (history_of all)
 IsDecided mode all totals found = NoLostUpdate (history_of all) × IsJudged mode all totals found
 
--- of any lines beside these records, and any totals: all is right, or what fails first
+-- of any lines with these records, and any totals: all is right, or what fails first
 abbrev pub IsFound : Mode → List Record → List Line → printed.Totals → Found → Type 0
 IsFound mode records lines totals (Shape k) = FirstOutOfShape records lines k
 IsFound mode records lines totals Commits = HasShape records lines × ¬ GiveHistory (said_from [] records lines)

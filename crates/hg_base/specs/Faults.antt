@@ -9,7 +9,7 @@ counted n more = min (n + more) (2 ^ 64 - 1)
 abbrev pub next_count : ℕ → ℕ
 next_count n = counted n 1
 
--- a count of faults rose, or stands at its last value
+-- a count of faults rose, or is at its last value
 abbrev pub Rose : ℕ → ℕ → Type 0
 Rose before now = next_count before ≤ now
 

@@ -11,7 +11,7 @@ abbrev pub EachAfter : {X : Type 0} → (List X → X → Type 0) → List X →
 EachAfter P earlier [] = ⊤
 EachAfter P earlier (now ∷ later) = P earlier now × EachAfter P (now ∷ earlier) later
 
--- the elements put one after the other before those that are there, so that the last stands first
+-- the elements put one after the other before those that are there, so that the last is first
 abbrev pub onto : {X : Type 0} → List X → List X → List X
 onto [] earlier = earlier
 onto (x ∷ xs) earlier = onto xs (x ∷ earlier)

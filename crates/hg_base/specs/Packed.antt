@@ -39,7 +39,7 @@ abbrev pub unpacked : List ℕ → List Value
 unpacked [] = []
 unpacked (n ∷ bytes) = values_from n bytes
 
--- a value stands first, and is there whole
+-- the bytes begin with a whole value
 abbrev pub IsWhole : List ℕ → Type 0
 IsWhole [] = ⊥
 IsWhole (k ∷ bytes) = MatchBool (k == 255) (8 ≤ length bytes) ((k ≤ length bytes) × (k ≤ MOST_TEXT_BYTES))

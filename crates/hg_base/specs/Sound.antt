@@ -23,13 +23,13 @@ pub record IsRight (mode : Mode) (h : History) (all : List Said) (earlier : List
   pub conflict : ShowsConflict mode h all earlier now
   pub fresh : IsFresh mode h all earlier now
 
--- all lines, read beside their records
+-- all lines, read together with their records
 pub record AreRight (mode : Mode) (all : List Said) : Type 0 where
   pub whole : IsWhole all
   pub kept : NoLostUpdate (history_of all)
   pub lines : EachAfter (IsRight mode (history_of all) all) [] all
 
--- the printed lines beside their records
+-- the printed lines with their records
 abbrev pub all_said : Mode → Script → List Line → List Said
 all_said mode script lines = said_from [] (in_order mode script.records) lines
 

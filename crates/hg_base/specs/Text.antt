@@ -233,13 +233,13 @@ is_write Stored = true
 is_write Gone = true
 is_write _ = false
 
--- `at` stands only in replies to get, put, del and scan, and `committed` only behind `stored` and `gone`
+-- `at` is printed only in replies to get, put, del and scan, and `committed` only after `stored` and `gone`
 pub record FitsReply (tables : List Declaration) (cursor : Option TableId) (statement : Statement) (reply : Reply) : Type 0 where
   pub at : IfSome reply.at (λ s. Fits64 s × IsTrue (is_some (table_of statement)))
   pub answer : FitsAnswer tables cursor statement reply.answer
   pub number : IfSome reply.number (λ c. Fits64 c × IsTrue (is_write reply.answer))
 
--- a report of a run stands alone
+-- the reply of a round of a run: a report, and neither a snapshot nor a commit number
 pub record IsReport (reply : Reply) : Type 0 where
   pub at : IsTrue (is_none reply.at)
   pub answer : FitsReport reply.answer

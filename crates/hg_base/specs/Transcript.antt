@@ -1,4 +1,4 @@
--- What a printed text says: the replies beside the records, the transactions in which they stand, and the commits that they print.
+-- What a printed text says: the replies to the records, the transactions that they belong to, and the commits that they print.
 -- Own: that a statement outside a transaction is a transaction of its own, which declares its one table.
 use Rattle.std.specs.Prelude.{ℕ, suc, ◌/◌, ◌%◌, ◌^◌, List, [], ◌∷◌, ◌++◌, length, map, filter, filter_map, find, Bool, true, false, not, ◌&&◌, ◌||◌, ◌==◌, nat_lt, if◌then◌else◌, Option}
 use Rattle.std.specs.Prelude.{Some, None, option_map, unwrap_or}
@@ -40,10 +40,10 @@ abbrev pub in_order : Mode → List Record → List Record
 in_order replay records = records
 in_order (run rounds) records = flat_map (λ j. of_session j records) (sessions_of records) ++ rounds_of kinds.Group rounds ++ rounds_of kinds.Table rounds ++ rounds_of kinds.Interval rounds
 
--- ---- in which transaction a record stands
+-- ---- the transaction that a record belongs to
 
--- A record with its reply, and the transaction in which it stands: the number among the session's, counted from 1, its
--- snapshot and its scope, and whether the record is a transaction of its own. A `gc` stands in none, with number 0.
+-- A record with its reply, and the transaction that it belongs to: the number among the session's, counted from 1, its
+-- snapshot and its scope, and whether the record is a transaction of its own. A `gc` belongs to none, with number 0.
 pub record Said : Type 0 where
   pub session : ℕ
   pub place : ℕ
@@ -65,7 +65,7 @@ is_end _ = false
 abbrev pub ends : Said → Bool
 ends said = said.alone || is_end said.statement
 
--- the session's last record that stands in a transaction, of those before, newest first
+-- the session's last record that belongs to a transaction, of those before, newest first
 abbrev pub last_of : ℕ → List Said → Option Said
 last_of j earlier = find (λ said. (said.session == j) && nat_lt 0 said.transaction) earlier
 
@@ -105,7 +105,7 @@ abbrev pub has : Scope → TableId → Bool
 has All table = true
 has (Declared mask) table = (mask / 2 ^ table.0) % 2 == 1
 
--- Every other statement but a `gc` stands in the open transaction, and is one of its own, the next, where none is open.
+-- Every other statement but a `gc` belongs to the open transaction, and is one of its own, the next, where none is open.
 abbrev pub standing : Option Said → ℕ → Record → Reply → Said
 standing None next r reply = record {
   session = r.session;
@@ -128,7 +128,7 @@ standing (Some opened) next r reply = record {
   reply = reply;
 }
 
--- the record and its reply, after the session's last record that stands in a transaction
+-- the record and its reply, after the session's last record that belongs to a transaction
 abbrev pub said_after : Option Said → Record → Reply → Statement → Said
 said_after last r reply (Begin scope) = record {
   session = r.session;
@@ -163,7 +163,7 @@ said_from earlier [] lines = []
 said_from earlier (r ∷ rs) [] = []
 said_from earlier (r ∷ rs) (line ∷ lines) = let now = said earlier r line.reply in now ∷ said_from (now ∷ earlier) rs lines
 
--- whether the record stands in transaction x of session j
+-- whether the record belongs to transaction x of session j
 abbrev pub is_of : ℕ → ℕ → Said → Bool
 is_of j x said = (said.session == j) && (said.transaction == x)
 

@@ -43,7 +43,7 @@ pub record HavePlaces (rounds : ℕ) (told : RoundLists) : Type 0 where
   pub table : HasPlaces rounds told.table
   pub interval : HasPlaces rounds told.interval
 
--- Rounds were made. Unless memory for what a report tells was refused there were so many, and these are told.
+-- Rounds were made. Unless memory for what a report says was refused there were so many, and these are kept.
 pub record HasMadeAll (kind : Kind) (z : Sizes) (long rounds : ℕ) (v : View) (told : RoundList) (w : View) : Type 0 where
   pub sweeps : List Sweep
   pub made : AreRounds (IsRoundBy kind z long) v sweeps w

@@ -17,7 +17,7 @@ use Rattle.hg_tracker.specs.Entries.{down_from}
 use Rattle.hg_tracker.specs.Gathers.{IsFull}
 use Rattle.hg_core.specs.Counters.{removed_all}
 
--- how many versions of a kind a report tells
+-- how many versions of a kind a report says were removed
 abbrev pub swept_by : Kind → Sweep → ℕ
 swept_by kind sweep = if same_kind sweep.kind kind then sweep.removed else 0
 

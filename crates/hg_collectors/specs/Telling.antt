@@ -8,7 +8,7 @@ use Rattle.hg_base.specs.declared.report.Kind.{Kind}
 use Rattle.hg_base.specs.declared.report.Sweep.{Sweep}
 use Rattle.hg_base.specs.Shape.{same_kind, report_of}
 
--- the reply that tells of a round
+-- the reply that reports a round
 abbrev pub reply_of : Sweep → Reply
 reply_of sweep = record { at = None; answer = Swept sweep; number = None }
 
@@ -17,7 +17,7 @@ abbrev pub sweep_lines : ℕ → List Sweep → List Line
 sweep_lines n [] = []
 sweep_lines n (sweep ∷ sweeps) = record { session = 0; place = n; reply = reply_of sweep } ∷ sweep_lines (suc n) sweeps
 
--- what a reply tells of a round of one kind of collector
+-- what a reply reports of a round of one kind of collector
 abbrev pub sweeps_in : Kind → Reply → List Sweep
 sweeps_in kind reply = filter (λ sweep. same_kind sweep.kind kind) (cons_option (report_of reply) [])
 

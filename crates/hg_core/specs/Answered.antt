@@ -34,7 +34,7 @@ abbrev pub is_gc : Statement → Bool
 is_gc (Gc kind) = true
 is_gc _ = false
 
--- A record with its reply, as the log of session j before it has its transaction. A `gc` stands in none.
+-- A record with its reply, as the log of session j before it has its transaction. A `gc` belongs to none.
 pub record StandsAt (j : ℕ) (before : List LogEntry) (now : Said) : Type 0 where
   pub session : now.session ≡ j
   pub logged : IsFalse (is_gc now.statement)

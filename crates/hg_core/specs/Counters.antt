@@ -75,7 +75,7 @@ abbrev pub removed_in : Kind → ℕ → List Visit → ℕ
 removed_in kind b [] = 0
 removed_in kind b (v ∷ visits) = (if v.bucket == b then removed_by kind v.removed else 0) + removed_in kind b visits
 
--- Of each bucket: made is undone, removed and held. What was made and undone stands in the logs, and what was removed in the
+-- Of each bucket: made is undone, removed and held. What was made and undone is in the logs, and what was removed in the
 -- visits.
 pub record CountersBalance (sessions buckets passes : ℕ) (log : ℕ → List LogEntry) (bucket : ℕ → Content) (counters : ℕ → Counters) (visits : ℕ → List Visit) : Type 0 where
   pub made : (b : ℕ) → (counters b).made ≡ sum_to sessions (λ j. first_writes (is_of buckets b) (log j))

@@ -26,13 +26,13 @@ pub record IsSteady (s : CoreState) : Type 0 where
   pub registers_agree : RegistersAgree s.sessions s.tables s.phase s.register s.mask
   -- the versions of a record show at each protected number what a table shows that never reclaims
   pub covered : (r : Rid) → Covers s.mark s.phase s.history r (versions s.buckets s.bucket r)
-  -- what isn't published of a record is the open write of one session's open transaction, and each open write stands there
+  -- what isn't published of a record is the open write of one session's open transaction, and each open write is there
   pub open_writes_stand : OpenWritesStand s.mark (begun_in s.log) (open_writes s.log) (versions s.buckets s.bucket)
   -- what isn't published has a number exactly where it is in the stamped list
   pub stamped_is_next : StampedIsNext s.mark (open_writes s.log) (versions s.buckets s.bucket) s.stamped_list
   -- at most the first version isn't published, numbers fall, and each published version is what its group writes
   pub contents_are_ordered : ContentsAreOrdered s.mark s.history (versions s.buckets s.bucket)
-  -- each record of a bucket is of that bucket, of a table that is there, and stands once
+  -- each record of a bucket is of that bucket, of a table that is there, and is there once
   pub contents_are_placed : (b : ℕ) → IsPlaced s.tables s.buckets b (s.bucket b)
   -- what a session reads is at or over what each record that loaded its register lets a collector take, for each of its tables
   pub records_bound_sessions : RecordsBoundSessions s.phase s.pass
@@ -40,7 +40,7 @@ pub record IsSteady (s : CoreState) : Type 0 where
   pub open_writes_may_commit : OpenWritesMayCommit s.history s.phase (open_writes s.log)
   pub history : IsHistory s.history
   pub no_update_is_lost : NoLostUpdate s.history
-  -- the logs give the history; each begin is at or over all numbers before it in its log; an entry stands in an open transaction
+  -- the logs give the history; each begin is at or over all numbers before it in its log; an entry is in an open transaction
   pub logs_answer : LogsAnswer s.sessions s.quota s.history s.phase s.log
   -- each entry says what a table replies that never reclaims
   pub replies_answer : RepliesAnswer s.buckets s.history s.log

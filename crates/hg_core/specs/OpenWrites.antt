@@ -12,7 +12,7 @@ abbrev pub writer_of : (ℕ → ℕ) → ℕ → Writer
 writer_of begun j = record { session = j; transaction = begun j }
 
 -- What isn't published of a record is the open write of one session's open transaction, with its image; and each open
--- write stands there. So no record has two.
+-- write is there. So no record has two.
 pub record OpenWritesStand (mark : ℕ) (begun : ℕ → ℕ) (opened : ℕ → Rid → Option Image) (versions : Rid → List Version) : Type 0 where
   pub owned : (r : Rid) (w : Writer) (image : Image) → unpublished mark (versions r) ≡ Some (w, image) → (w ≡ writer_of begun w.session) × (opened w.session r ≡ Some image)
   pub owns : (r : Rid) (j : ℕ) (image : Image) → opened j r ≡ Some image → unpublished mark (versions r) ≡ Some (writer_of begun j, image)

@@ -1,4 +1,4 @@
--- What a pass loaded stands in the logs.
+-- What a pass loaded is in the logs.
 use Rattle.std.specs.Prelude.{◌≡◌, ◌⊎◌, ℕ, ◌≤◌, List, ◌++◌, length, Bool, Some, None, IfSome, IsTrue}
 use Rattle.hg_base.specs.declared.scope.Scope.{Scope}
 use Rattle.hg_base.specs.Freshness.{is_declared}

@@ -219,7 +219,7 @@ abbrev pub FitsScope : Scope → Statement → Answer → Type 0
 FitsScope scope (Scan table low high) (Rows rows) = IsTrue (has scope table)
 FitsScope scope statement answer = ⊤
 
--- a fetch stands in a transaction
+-- a fetch belongs to a transaction
 abbrev pub FitsIn : Option Snapshot → Statement → Type 0
 FitsIn snapshot (Fetch n) = IsSome snapshot
 FitsIn snapshot statement = ⊤

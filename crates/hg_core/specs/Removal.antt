@@ -12,7 +12,7 @@ use Rattle.hg_core.specs.declared.version.Stamp.TheVariants.{Oldest}
 use Rattle.hg_core.specs.declared.version.Version.{Version}
 use Rattle.hg_core.specs.Versions.{stamp_number, is_up_to}
 
--- what a sweep leaves of the versions behind a successor with that number
+-- what a sweep leaves of the versions that follow a successor with that number
 abbrev pub swept : ℕ → List ℕ → Option ℕ → List Version → List Version
 swept horizon snapshots successor [] = []
 swept horizon snapshots successor (v ∷ vs) =

@@ -1,4 +1,4 @@
--- The state of a board and of all who use it. Each part has one owner.
+-- The state of a board and of all that use it. Each part has one owner.
 use Rattle.std.specs.Prelude.{ℕ, List, []}
 use Rattle.hg_base.specs.declared.rid.Rid.{Rid}
 use Rattle.hg_base.specs.History.{History}

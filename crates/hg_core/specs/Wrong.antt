@@ -66,7 +66,7 @@ pub record MayReclaimUnmasked (s : CoreState) (p : ℕ) (r : Rid) : Type 0 where
   pub registers : (j : ℕ) → IsSession s.sessions j → IsSome (found j (s.pass p).loaded)
   pub here : IsVisiting (bucket_of s.buckets r) (s.visits p)
 
--- whether a version goes whose lifetime begins behind its own number
+-- whether a version goes whose lifetime begins after its own number
 abbrev pub goes_early : ℕ → List ℕ → Option ℕ → Option ℕ → Bool
 goes_early horizon snapshots None number = false
 goes_early horizon snapshots (Some u) None = false

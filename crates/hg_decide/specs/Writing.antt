@@ -1,4 +1,4 @@
--- How an example is written down: each record of the script beside the line that answers it.
+-- How an example is written down: each record of the script with the line that answers it.
 use Rattle.std.specs.Prelude.{ℕ, ℤ, List, [], ◌∷◌, ◌++◌, map, true, false, Some, None, codes}
 use Rattle.hg_base.specs.declared.rid.TableId.{TableId}
 use Rattle.hg_base.specs.declared.value.Value.TheVariants.{Number}

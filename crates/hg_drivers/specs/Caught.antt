@@ -1,5 +1,5 @@
 -- What one thread has to learn of its sessions' logs before it knows that each write's line shows its first cause. A look at a write
--- hears every log as it is then. Where none was heard further than it stands later, it has not changed in between.
+-- hears every log as it is then. Where none was heard further than it goes later, it has not changed in between.
 use Rattle.std.specs.Prelude.{◌≡◌, ◌⊎◌, ℕ, suc, ◌<◌, ◌≢◌, List, [], length, get_or, IsTrue}
 use Rattle.hg_core.specs.declared.log.LogEntry.{LogEntry}
 use Rattle.hg_core.specs.Logs.{is_plain}
@@ -18,7 +18,7 @@ IsHeardUpTo k log sights = (l : List LogEntry) → IsAmong (Heard k l) sights �
 abbrev pub IsStill : List LogEntry → List LogEntry → Type 0
 IsStill more log = (log ≡ []) ⊎ ((more ≡ log) × IsTrue (is_plain log))
 
--- the session at i of a list heard its own log no further than it stands
+-- the session at i of a list heard its own log no further than it goes
 abbrev pub HasOwn : ℕ → List Session → Type 0
 HasOwn i list = (d : Session) → IsHeardUpTo (suc i) (logs_of list (suc i)) (view_of (get_or list i d)).sights
 

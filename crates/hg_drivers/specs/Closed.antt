@@ -27,7 +27,7 @@ use Rattle.hg_collectors.specs.Collecting.{view_in, removed_of}
 use Rattle.hg_drivers.specs.Listed.{SawAt}
 use Rattle.hg_collectors.specs.Rounding.{BeganIn}
 
--- What one pass had seen another has seen, and what it did stands in each state that the other is true of.
+-- What one pass had seen another has seen, and what it did is in each state that the other is true of.
 pub record HasCome (v w : View) : Type 0 where
   pub seen : AreAmong v.sights w.sights
   pub did : (s : CoreState) → IsTrueOf s w → Each (Stands s) v.events

@@ -68,7 +68,7 @@ pub record HasDrivenOne (z : Sizes) (long : ℕ) (records : List Record) (old : 
   pub closes : (j : ℕ) → Closes (logs j) (logs_of new j)
   pub rounds : (kind : Kind) → AreRounds (IsRoundBy kind z long) (view_in kind before) (sweeps_of kind lines) (view_in kind after)
 
--- Beside each other: the lines are those of each session by number, and then those of the group, the table and the interval
+-- Concurrently: the lines are those of each session by number, and then those of the group, the table and the interval
 -- collector, each of which made so many rounds, and no other.
 pub record HasDrivenAll (z : Sizes) (long rounds : ℕ) (records : List Record) (old : List Session) (before : Collectors) (all : List Line) (new : List Session) (after : Collectors) : Type 0 where
   pub lines : ℕ → List Line

@@ -12,7 +12,7 @@ pub record HasLog (logs : ℕ → List LogEntry) (v : View) : Type 0 where
   pub only : HasOnlySession v
   pub own : (session v).log ≡ logs (number v)
 
--- each log was heard as it stands, unless it is empty
+-- each log was heard as it is, unless it is empty
 abbrev pub HasHeard : (ℕ → List LogEntry) → View → Type 0
 HasHeard logs v = (k : ℕ) → IsHeard k (logs k) v.sights
 

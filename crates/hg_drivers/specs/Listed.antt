@@ -1,4 +1,4 @@
--- The sessions of a replay in the order of their numbers: session j stands at j - 1.
+-- The sessions of a replay in the order of their numbers: session j is at index j - 1.
 use Rattle.std.specs.Prelude.{◌≡◌, ℕ, suc, ◌+◌, ◌≤◌, ◌<◌, ◌≢◌, List, length, get_or, Bool, cond, ◌==◌, Option, is_some}
 use Rattle.hg_base.specs.Transcript.{Rest}
 use Rattle.hg_session.specs.declared.engine.Engine.{Engine}

@@ -1,5 +1,5 @@
--- What the lines of one thread have besides being sound: who is refused and by whom is decided by the first conflict, and commit
--- numbers ascend. A sound text that has this is the one text that is replayed.
+-- What the lines of one thread have besides being sound: which write is refused, and by which transaction, is decided by the
+-- first conflict, and commit numbers ascend. A sound text that has this is the one text that is replayed.
 use Rattle.std.specs.Prelude.{◌≡◌, ◌⊎◌, ℕ, ◌<◌, ◌≤◌, List, None, IfSome, IsSome, IsTrue, ⊤}
 use Rattle.hg_base.specs.declared.rid.Rid.{Rid}
 use Rattle.hg_base.specs.declared.line.Answer.{Answer}

@@ -13,7 +13,7 @@ use Rattle.hg_base.specs.Text.{cursor_before, kinds_of}
 use Rattle.hg_base.specs.Values.{kind_of}
 use Rattle.hg_base.specs.Transcript.{Said}
 
--- P holds of the row that is put, beside its record
+-- P holds of the row that is put, and of its record
 abbrev pub AsksRow : (Rid → List Value → Type 0) → Statement → Type 0
 AsksRow P (Put r row) = P r row
 AsksRow P _ = ⊤

@@ -49,7 +49,7 @@ AreTaken [] (m ∷ ms) = ⊥
 AreTaken (tx ∷ txs) [] = ⊥
 AreTaken (tx ∷ txs) (m ∷ ms) = IsTaken tx m × AreTaken txs ms
 
--- the transactions came behind the pass's own place, in the queue's order
+-- the transactions came after the pass's own place, in the queue's order
 pub record Gathers (v : View) (old : Pairs) (txs : List OpenTx) (new : Pairs) (w : View) : Type 0 where
   pub ms : Members
   pub taken : AreTaken txs ms
@@ -116,7 +116,7 @@ pub record Stamped (v : View) (done : List (ℕ × Rid)) (w : View) : Type 0 whe
 
 -- ---- what is laid for a session
 
--- A commit stands in a history that was seen, and the log has its number. Or the transaction is open still.
+-- A commit is in a history that was seen, and the log has its number. Or the transaction is open still.
 abbrev pub IsOutcome : ℕ → SessionPart → List Sight → Outcome → Type 0
 IsOutcome j part sights (Committed receipt) = (log : List LogEntry) ×
     ((h : History) × ((part.log ≡ Published receipt.number ∷ log) × ((IsAmong (Saw (groups h)) sights × IsAmong (Heard j part.log) sights) × StandsIn h receipt (commit_in j log))))
@@ -172,7 +172,7 @@ pub record LaysAll (v : View) (txs : List OpenTx) (w : View) : Type 0 where
 -- v is as it handed over, at the mark `since v`: its transaction was published under the receipt's number, which is over that mark.
 pub record HasFinished (v : View) (receipt : Receipt) (w : View) : Type 0 where
   pub over : since v < receipt.number
-  -- a history that was seen, in which its commit stands
+  -- a history that was seen, which has its commit
   pub history : History
   pub saw : IsAmong (Saw (groups history)) w.sights
   pub stands : StandsIn history receipt (commit_in (number v) (session v).log)

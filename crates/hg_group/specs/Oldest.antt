@@ -59,7 +59,7 @@ pub record TakesOldest (v : View) (bound : ℕ) (context : Option GroupContext) 
   pub takes : TakesNext v bound (option_to_list context) w
   pub enough : context ≡ None → bound ≤ seen_taken w.sights
 
--- The records of the groups that were taken stand in the list now, behind those that were there, but for the last group, where its
+-- The records of the groups that were taken are in the list now, after those that were there, but for the last group, where its
 -- context is given out. Where none is, as many as the bound or more were taken.
 pub record TakesSome (v : View) (bound : ℕ) (old : List Rid) (last : Option GroupContext) (new : List Rid) (w : View) : Type 0 where
   pub contexts : List GroupContext

@@ -33,7 +33,7 @@ pub record IsBackAgain (v w : View) : Type 0 where
 abbrev pub ends_with : ℕ → ℕ → Known → Known → Type 0
 ends_with j x old new = (others : List (ℕ × ℕ)) × (new.pairs ≡ old.pairs ++ (others ++ (j, x) ∷ []))
 
--- Its transaction was published, in a group that comes after all that was seen and over its snapshot. Its commit stands in a history that was seen then.
+-- Its transaction was published, in a group that comes after all that was seen and over its snapshot. Its commit is in a history that was seen then.
 pub record HasCommitted (v : View) (receipt : Receipt) (w : View) : Type 0 where
   pub seen : History
   pub most : Each (Within seen) v.sights

@@ -46,7 +46,7 @@ pub record IsFollowing (buckets : ℕ) (sessions : ℕ) (logs : ℕ → List Log
   pub rises : Rises 0 records lines top
   pub known : (n : ℕ) → IsOver logs seen n → top ≤ n
 
--- What a reply prints, beside the logs as they stand before it. A snapshot and a mark are at or over all that is there, and a
+-- What a reply prints, against the logs as they are before it. A snapshot and a mark are at or over all that is there, and a
 -- mark is seen from then on. A commit number is the next after one that is at or over all that is there and in its own line.
 pub record IsFreshIn (logs : ℕ → List LogEntry) (seen : ℕ) (later : ℕ) (statement : Statement) (reply : Reply) : Type 0 where
   pub grows : seen ≤ later

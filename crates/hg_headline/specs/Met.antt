@@ -41,7 +41,7 @@ pub record IsOpenWrite (logs : ℕ → List LogEntry) (r : Rid) (writer : Writer
   pub number : begans (logs writer.session) ≡ writer.transaction
   pub does : IsSome (image_in r (own_writes (logs writer.session)))
 
--- a write is refused for another's while that stands open
+-- a write is refused for another's while that is open
 abbrev pub IsMetWrite : (ℕ → List LogEntry) → Rid → Answer → Type 0
 IsMetWrite logs r (OpenBy writer) = IsOpenWrite logs r writer
 IsMetWrite logs r _ = ⊤

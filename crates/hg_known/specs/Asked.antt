@@ -7,6 +7,6 @@ use Rattle.hg_base.specs.Transcript.{Said}
 abbrev pub names_writer : Said → Bool
 names_writer said = elim said.reply.answer [ OpenBy writer ↦ true | _ ↦ false ]
 
--- a report tells held snapshots
+-- a report names held snapshots
 abbrev pub tells_held : Said → Bool
 tells_held said = elim said.reply.answer [ Swept sweep ↦ not (length sweep.held == 0) | _ ↦ false ]

@@ -10,7 +10,7 @@ use Rattle.hg_known.specs.Ended.{AreNumbers}
 use Rattle.hg_known.specs.Marked.{ArePoints}
 
 -- which parts some line asks for: what is stored, in a run alone, and commit numbers where a write is refused for an open one, and
--- printed snapshots where a report tells held ones
+-- printed snapshots where a report names held ones
 abbrev pub wants_of : Bool → List Said → Wants
 wants_of is_run all = record { stored = is_run && list_any names_writer all; numbers = list_any names_writer all; points = list_any tells_held all }
 

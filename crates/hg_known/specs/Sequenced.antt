@@ -32,7 +32,7 @@ IsRecordOf script r = (i : ℕ) × IsIndexOf script r i
 abbrev pub shown_of : List Record → List Record
 shown_of records = flat_map (λ j. of_session j records) (sessions_of records)
 
--- records, and behind them one for each round of each collector
+-- records, and after them one for each round of each collector
 abbrev pub with_rounds : List Record → ℕ → List Record
 with_rounds shown n = shown ++ rounds_of kinds.Group n ++ rounds_of kinds.Table n ++ rounds_of kinds.Interval n
 

@@ -41,6 +41,6 @@ Fits ps p = IsFit p × lists.Each (λ q. AreApart q p) ps
 abbrev pub printed : ℕ → List Said → Said → ℕ × Commit
 printed n earlier now = (n, commit_by earlier now)
 
--- the commit is kept behind those, exactly where it fits them
+-- the commit is kept after those, exactly where it fits them
 abbrev pub Adds : kept.Commits → kept.Commits → List (ℕ × Commit) → ℕ × Commit → Bool → Type 0
 Adds old new ps p fits = Shows old ps → MatchBool fits (Shows new (ps ++ p ∷ []) × Fits ps p) (¬ Fits ps p)

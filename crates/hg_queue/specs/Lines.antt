@@ -64,7 +64,7 @@ pub record Queued (items : List Handed) (views : List Known) : Type 0 where
 abbrev pub Ordered : List Handed → List Known → Type 0
 Ordered items views = ((items ≡ []) × (views ≡ opening ∷ [])) ⊎ Queued items views
 
--- ---- what a step tells
+-- ---- what a step makes of a view
 
 -- the list goes on, perhaps by what others pushed, and ends with the pair that was pushed
 abbrev pub pushed : Known → Handed → Known → Type 0

@@ -16,7 +16,7 @@ use Rattle.hg_base.specs.Number.{natural_of, value_of, integer_of}
 unfoldable pub fields_of : List (Bor (List ℕ)) → List Field
 fields_of row = map (λ f. f.now) row
 
--- The fields of the record at the start of some bytes: what stands between its commas, up to the line feed. Between quotes both
+-- The fields of the record at the start of some bytes: what is between its commas, up to the line feed. Between quotes both
 -- are bytes as any other. The first of them begins with the bytes `field`, and is within quotes where `quoted` says so.
 unfoldable pub parted : Bool → List ℕ → List ℕ → List Field
 parted quoted field [] = field ∷ []
@@ -54,7 +54,7 @@ integer_value _ = pos 0
 abbrev pub is_left_out : Bool → ℕ → Bool
 is_left_out before b = b == 34 && not before
 
--- The bytes behind a field's first quote, without those that are left out. `before` says whether the byte before was.
+-- The bytes after a field's first quote, without those that are left out. `before` says whether the byte before was.
 unfoldable pub unquoted : Bool → List ℕ → List ℕ
 unquoted before [] = []
 unquoted before (b ∷ bytes) = if is_left_out before b then unquoted true bytes else b ∷ unquoted false bytes

@@ -86,7 +86,7 @@ at_guess asked fields = if is_some (table_asked asked) && says fields 2 (codes "
 abbrev pub answer_place : Option ℕ → ℕ
 answer_place at = if is_some at then 4 else 2
 
--- the commit number behind a stored write
+-- the commit number after a stored write
 abbrev pub number_guess : Answer → List Field → ℕ → Option ℕ
 number_guess answer fields i = if is_write answer && says fields (i + 1) (codes "committed") then Some (natural_at fields (i + 2)) else None
 

@@ -28,7 +28,7 @@ pub record IsRefusedAt (script : Script) (bytes : List ℕ) (line : ℕ) : Type 
   pub before : (n : ℕ) × (suc n ≡ line) × BeginsText script bytes n
   pub first : BeginsText script bytes line → ⊥
 
--- a refusal tells that record; want of memory tells nothing
+-- a refusal names that record; running out of memory says nothing
 abbrev pub TellsRefusal : Script → List ℕ → TextRefusal → Type 0
 TellsRefusal script bytes (At line) = IsRefusedAt script bytes line
 TellsRefusal script bytes NoMemory = ⊤

@@ -1,7 +1,7 @@
--- A source in two parts: a script, and behind a line of its own a text that is held against it.
+-- A source in two parts: a script, and after a line of its own a text that is held against it.
 use Rattle.std.specs.Prelude.{◌≡◌, ℕ, ◌+◌, ◌-◌, ◌<◌, ◌⊎◌, List, [], take, drop, get_or, codes}
 
--- behind k bytes stands the line: at the start or directly behind a line feed, and with a line feed of its own
+-- the line is after k bytes: at the start or directly after a line feed, and with a line feed of its own
 pub record IsLineAt (bytes : List ℕ) (k : ℕ) : Type 0 where
   pub line : take 5 (drop k bytes) ≡ codes "====\n"
   pub behind : (k ≡ 0) ⊎ (get_or bytes (k - 1) 0 ≡ 10)
@@ -11,7 +11,7 @@ pub record IsFirstAt (bytes : List ℕ) (k : ℕ) : Type 0 where
   pub here : IsLineAt bytes k
   pub none_before : (j : ℕ) → j < k → ¬ IsLineAt bytes j
 
--- the script is before the first such line, and the text behind it
+-- the script is before the first such line, and the text after it
 pub record IsParted (bytes script text : List ℕ) : Type 0 where
   pub count : ℕ
   pub first : IsFirstAt bytes count

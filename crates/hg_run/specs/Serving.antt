@@ -127,7 +127,7 @@ may_write _ = false
 abbrev pub IsUnlessNoMemory : Status → Status → Type 0
 IsUnlessNoMemory status wanted = (status ≡ wanted) ⊎ (status ≡ NoMemory)
 
--- What a source holds that tells its bytes and does not fail decides the answer, where memory is found. Whether there is one hangs on
+-- What a source holds that shows its bytes and does not fail decides the answer, where memory is found. Whether there is one hangs on
 -- the script's bytes alone, which are all of them, or those before the line that parts them. A script that is made is replayed whatever
 -- the source holds.
 pub record IsDecided (words : List (List ℕ)) (source sink : Change) (status : Status) : Type 0 where

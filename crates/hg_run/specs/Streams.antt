@@ -21,7 +21,7 @@ change_of bytes faults old new = record { before = bytes old; after = bytes new;
 abbrev pub HasFailed : Change → Type 0
 HasFailed change = Rose change.faults change.faults_after
 
--- the source tells its bytes, these, and no call of it failed
+-- the source shows its bytes, these, and no call of it failed
 pub record Gives (source : Change) (bytes : List ℕ) : Type 0 where
   pub told : source.before ≡ Some bytes
   pub steady : ¬ HasFailed source
@@ -36,7 +36,7 @@ pub record HasGiven (most : ℕ) (source : Change) : Type 0 where
 abbrev pub steady_source : SteadyFeed → SteadyFeed → Change
 steady_source old new = record { before = Some old.left; after = Some new.left; faults = 0; faults_after = 0 }
 
--- of a sink in memory that never fails and tells no contract what it took
+-- of a sink in memory that never fails and shows no contract what it took
 abbrev pub steady_sink : Change
 steady_sink = record { before = None; after = None; faults = 0; faults_after = 0 }
 

@@ -41,7 +41,7 @@ pub record Holds (v : View) (h : Held) : Type 0 where
   pub keeps : Keeps (held_records h) (bucket v)
   pub ordered : AreOrdered (bucket v).content
 
--- w is v with bucket b, which comes with what was seen by those who held it before
+-- w is v with bucket b, which comes with what its earlier holders had seen
 pub record Takes (v : View) (b : ℕ) (w : View) : Type 0 where
   pub part : BucketPart
   pub seen : List Sight

@@ -39,7 +39,7 @@ OwnerGoesOn sights (Open session transaction) = Each (HasNoEnd (record { session
 OwnerGoesOn sights (Newer n) = ⊤
 OwnerGoesOn sights NoMemory = ⊤
 
--- who has the record open is another session of the board
+-- the session that has the record open is another one of the board
 abbrev pub IsAnothers : Sizes → ℕ → WriteRefusal → Type 0
 IsAnothers z j (Open session transaction) = IsSession z.sessions session × IsFalse (session == j)
 IsAnothers z j (Newer n) = ⊤

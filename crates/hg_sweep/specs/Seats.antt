@@ -1,4 +1,4 @@
--- What a clause says of the word, and of who draws from it.
+-- What a clause says of the word, and of a drawer, which draws from it.
 use Rattle.std.specs.Prelude.{◌≡◌, []}
 use Rattle.atomic_table.specs.Seated.{TableId}
 use Rattle.hg_sweep.specs.declared.draws.Draws.{Draws}

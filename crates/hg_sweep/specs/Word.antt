@@ -4,7 +4,7 @@ use Rattle.atomic_table.specs.Table.{State, Me, Step}
 use Rattle.hg_rule.specs.Keys.{one}
 use Rattle.hg_sweep.specs.declared.draws.Drawn.{Drawn}
 
--- how often a number stands in a list
+-- how often a number is in a list
 abbrev pub times : ℕ → List ℕ → ℕ
 times n [] = 0
 times n (m ∷ ms) = one (eqb m n) + times n ms
@@ -74,7 +74,7 @@ pub record Drew (v : Drawn) (n : ℕ) (w : Drawn) : Type 0 where
   pub left : suc w.left ≡ v.left
   pub over : top v.numbers ≤ n
 
--- ---- the same as a step of the table tells it
+-- ---- the same steps, as the table plays them
 
 -- the step of `Drew`, by the number that was found
 abbrev pub draws : Step ℕ → Me ℕ Drawn → ℕ → Me ℕ Drawn → Type 0

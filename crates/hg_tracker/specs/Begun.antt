@@ -49,7 +49,7 @@ mask_sample p j (Some mask) = SampleMask p j mask ∷ []
 abbrev pub sample_of : ℕ → ℕ → Loaded → List Event
 sample_of p j loaded = Sample p j loaded.register ∷ mask_sample p j loaded.mask
 
--- the samples of sessions, in the order in which they were loaded; the last one stands first in a record
+-- the samples of sessions, in the order in which they were loaded; the last one is first in a record
 abbrev pub samples_of : ℕ → List (ℕ × Loaded) → List Event
 samples_of p [] = []
 samples_of p (e ∷ loaded) = samples_of p loaded ++ sample_of p e.0 e.1

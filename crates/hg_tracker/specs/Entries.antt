@@ -18,7 +18,7 @@ abbrev pub down_from : ℕ → List ℕ
 down_from zero = []
 down_from (suc n) = suc n ∷ down_from n
 
--- how often a number stands in a list
+-- how often a number is in a list
 abbrev pub times : ℕ → List ℕ → ℕ
 times n [] = 0
 times n (m ∷ numbers) = if m == n then suc (times n numbers) else times n numbers

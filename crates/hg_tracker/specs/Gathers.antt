@@ -39,7 +39,7 @@ IsFull loaded = IsRegister loaded.register × (is_some loaded.mask ≡ shows_dec
 abbrev pub IsLoaded : ℕ → List (ℕ × Loaded) → Type 0
 IsLoaded sessions loaded = (map (λ e. e.0) loaded ≡ down_from sessions) × Each (λ e. IsFull e.1) loaded
 
--- the entry stands at that place of a list
+-- the entry is at that place of a list
 abbrev pub StandsAt : ℕ → Entry → List Entry → Type 0
 StandsAt position e entries = (position < length entries) × ((other : Entry) → slice_index_or entries position other ≡ e)
 

@@ -6,7 +6,7 @@ use Rattle.hg_rule.specs.declared.passes.CollectorPass.{CollectorPass}
 use Rattle.hg_rule.specs.contracts.passes.CollectorPass.{the_row as pass_row}
 
 module _ (R : RattleType) where
-  -- c ends with the last pass behind r, as `with` sets it, and all else as it was
+  -- c ends with the last pass that r points to, as `with` sets it, and all else as it was
   abbrev pub LendsPass : (R.Denot → CollectorPass → R.Denot) → MutBor R.Denot → MutBor CollectorPass → Fml
   LendsPass with c r = Lends R pass_row c r (with c.now)
 

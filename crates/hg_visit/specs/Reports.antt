@@ -1,4 +1,4 @@
--- What a round of a collector's pass made of its view, and what its report tells.
+-- What a round of a collector's pass made of its view, and what its report says.
 use Rattle.std.specs.Prelude.{◌≡◌, ℕ, ◌≤◌, List, [], ◌++◌}
 use Rattle.hg_base.specs.declared.report.Kind.{Kind}
 use Rattle.hg_base.specs.declared.report.Report.{Report}
@@ -12,7 +12,7 @@ use Rattle.hg_rule.specs.Facts.{record_of}
 use Rattle.hg_rule.specs.Views.{number, pass}
 use Rattle.hg_tracker.specs.Begun.{AtMost}
 
--- a report of no round yet tells of nothing, and has room for the entries of so many sessions
+-- a report of no round yet says nothing, and has room for the entries of so many sessions
 pub record IsUnwritten (kind : Kind) (sessions : ℕ) (report : Report) : Type 0 where
   pub kind_is : report.kind ≡ kind
   pub mark_is : report.mark ≡ 0
@@ -21,7 +21,7 @@ pub record IsUnwritten (kind : Kind) (sessions : ℕ) (report : Report) : Type 0
   pub entries_are : report.entries.list ≡ []
   pub room : sessions ≤ report.entries.room
 
--- the report tells what a pass's part has of its record, and how many versions went
+-- the report says what a pass's part has of its record, and how many versions went
 pub record IsReportBy (kind : Kind) (part : PassPart) (removed : ℕ) (report : Report) : Type 0 where
   pub kind_is : report.kind ≡ kind
   pub mark_is : report.mark ≡ part.mark
