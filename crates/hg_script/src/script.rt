@@ -174,7 +174,11 @@ impl Script {
         requires room { length self.old.records < MOST_RECORDS }
         ensures { OnOk result (self.new ≡
             let place = records_before self.old + length self.old.records + 1 in
-            let added : Record = record { place = place; session = session; statement = statement } in
+            let added : Record = record {
+              place = place;
+              session = session;
+              statement = statement;
+            } in
             record self.old { records = self.old.records ++ added ∷ [] }) }
     {
         self.statements.push(session, statement)?;
