@@ -56,7 +56,7 @@ left_by said = if ends said then Over said.transaction else Open said.transactio
 abbrev pub AreLasts : BTreeMap ℕ Last → List Said → Type 0
 AreLasts lasts earlier = (j : ℕ) → option_map without_rest (get nat_cmp lasts j) ≡ option_map left_by (last_of j earlier)
 
--- What session j's last line left has what the cursor of its open transaction has left. No line stands in a later transaction of the
+-- What session j's last line left has what the cursor of its open transaction has left. No line belongs to a later transaction of the
 -- session, so none has a cursor, and none has one outside of all transactions.
 pub record IsRest (j : ℕ) (earlier : List Said) (last : Option Last) : Type 0 where
   pub within : (opened : Said) → open_of j earlier ≡ Some opened → left_rest last ≡ rest_in j opened.transaction earlier

@@ -106,8 +106,8 @@ abbrev pub Begins : List ℕ → List ℕ → Option (List ℕ) → Type 0
 Begins bytes text None = (rest : List ℕ) → bytes ≡ text ++ rest → ⊥
 Begins bytes text (Some rest) = bytes ≡ text ++ rest
 
--- The record at the start of the bytes, whose fields stand there as `stood`, is taken, and the bytes after it are left. Or none
--- stands there that may come next.
+-- The record at the start of the bytes, whose fields are written there as `stood`, is taken, and the bytes after it are left. Or
+-- there is none that may come next.
 abbrev pub Takes : Script → Progress → List Field → List ℕ → Progress → Option (List ℕ) → Type 0
 Takes script old stood bytes new None =
     (fields : List Field) (next : Piece) → IsNext script old fields next → standing fields ≡ stood → (rest : List ℕ) → bytes ≡ record_bytes fields ++ rest → ⊥

@@ -17,7 +17,7 @@ use Rattle.hg_session.specs.declared.engine.Engine.{Engine}
 use Rattle.hg_session.specs.declared.session.Session.{Session}
 use Rattle.hg_session.specs.Sessions.{IsOf, view_of, number_of, log_of, open_of, seen_by}
 
--- the log of session j, which stands at j - 1
+-- the log of session j, which is at index j - 1
 abbrev pub logs_of : List Session → ℕ → List LogEntry
 logs_of sessions zero = []
 logs_of sessions (suc k) = get_or (map log_of sessions) k []
@@ -49,7 +49,7 @@ abbrev pub parts_of : List Session → List Part
 parts_of [] = []
 parts_of (s ∷ sessions) = parts_of sessions ++ (view_of s).parts
 
--- These sessions went to a pass: it has their parts behind its own, and has seen what they had seen. Its own part and steps are
+-- These sessions went to a pass: it has their parts after its own, and has seen what they had seen. Its own part and steps are
 -- as they were.
 pub record HaveGone (sessions : List Session) (v w : View) : Type 0 where
   pub parts : w.parts ≡ OfPass (number v) (pass v) ∷ (parts_of sessions ++ others v)

@@ -50,7 +50,7 @@ entries_of rid image (Err (Open j x)) = Refused rid (answers.OpenBy (record { se
 entries_of rid image (Err (Newer number)) = Refused rid (answers.Newer number) ∷ []
 entries_of rid image (Err NoMemory) = []
 
--- Who refuses a write: another session of the board, whose transaction goes on, by all that was seen; or a group over the
+-- What refuses a write: another session of the board, whose transaction goes on, by all that was seen; or a group over the
 -- snapshot.
 abbrev pub IsRefusedBy : Sizes → View → ℕ → WriteRefusal → Type 0
 IsRefusedBy z v at (Open j x) = IsSession z.sessions j × (IsFalse (j == number v) × Each (HasNoEnd (record { session = j; transaction = x })) v.sights)
@@ -79,7 +79,7 @@ pub record HasUndone (old : View) (rids : List Rid) (new : View) : Type 0 where
   pub alone : Alone (number old) (with_log (map Undid rids ++ (session old).log) (session old)) old.sights new
   pub heard : (rids ≡ []) ⊎ IsAmong (Heard (number old) (map Undid rids ++ (session old).log)) new.sights
 
--- The receipt of a commit says its place: it stands there in a history that the session has seen.
+-- The receipt of a commit says its place: the commit is there in a history that the session has seen.
 pub record HasPlace (old new : View) (receipt : Receipt) : Type 0 where
   pub history : History
   pub saw : IsAmong (Saw (groups history)) new.sights

@@ -13,7 +13,7 @@ pub mod Cursors
 pub mod Alone
 -- That a write has its first cause.
 pub mod Firsts
--- What a view tells of a reply that it has heard.
+-- What a view says of a reply that it has heard.
 pub mod Right
 -- What a scan reads, bucket by bucket.
 pub mod Scans

@@ -1,4 +1,4 @@
--- What a view tells of a reply that it has heard.
+-- What a view says of a reply that it has heard.
 use Rattle.std.specs.Prelude.{ℕ, List, ⊤}
 use Rattle.hg_base.specs.History.{History}
 use Rattle.hg_base.specs.Lists.{Each}
@@ -24,7 +24,7 @@ pub record IsKnownBy (buckets : ℕ) (v : View) (h : History) (logs : ℕ → Li
   pub logged : Logged buckets h logs
   pub seen : Each (GoesOnFrom h logs) v.sights
 
--- Over such a history the reply, as it stands in a transaction, is the one of a table that never reclaims, a refusal shows its
+-- Over such a history the reply, as one in its transaction, is the one of a table that never reclaims, a refusal shows its
 -- cause, and a commit number is that of the group that has the transaction.
 pub record IsRight (buckets : ℕ) (v : View) (j : ℕ) (u : Unprinted) (before : List LogEntry) (now : Said) : Type 0 where
   pub history : History

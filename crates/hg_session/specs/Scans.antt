@@ -38,7 +38,7 @@ abbrev pub IsWithin : ℕ → ℕ → Option ℕ → Type 0
 IsWithin from high None = ⊤
 IsWithin from high (Some next) = (from ≤ next) × (next ≤ high)
 
--- A search from a number to `high` passes over no key that it is for: each one that there is stands at or over what was found,
+-- A search from a number to `high` passes over no key that it is for: each such key is at or over what was found,
 -- and where nothing was found there is none.
 abbrev pub LeadsOn : (ℕ → Type 0) → ℕ → ℕ → Option ℕ → Type 0
 LeadsOn Sought from high None = (k : ℕ) → from ≤ k → k ≤ high → Sought k → ⊥
@@ -50,13 +50,13 @@ LeadsOn Sought from high (Some next) = (k : ℕ) → from ≤ k → k ≤ high �
 abbrev pub read_of : Writer → ℕ → TableId → Content → ℕ → Image
 read_of by at table content key = read_by by at (look (record_at table key) content)
 
--- behind the rows that were there now stand those of the range
+-- the rows of the range were appended to those that were there
 pub record Appends (shown : ℕ → Image) (low high : ℕ) (old new : Rows) : Type 0 where
   pub more : Rows
   pub is : new ≡ old ++ more
   pub rows : AreRows shown low high more
 
--- One look at bucket b, which is logged; and where the answer is Ok the rows that it showed stand behind those that were
+-- One look at bucket b, which is logged; and if the answer is Ok, the rows that it showed were appended to those that were
 -- there. Their keys ascend, and are the bucket's own.
 pub record Sees {T : Type 0} (count : ℕ) (old : View) (table : TableId) (low high b : ℕ) (before : Rows) (answer : Result T NoMemory) (new : View) (after : Rows) : Type 0 where
   pub part : Rows
