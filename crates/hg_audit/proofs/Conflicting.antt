@@ -8,7 +8,6 @@ use Rattle.hg_base.specs.declared.writer.Writer.{Writer}
 use Rattle.hg_base.specs.Lists.{Each, onto}
 use Rattle.hg_base.specs.History.{History, Write, image_in, same_rid}
 use Rattle.hg_base.specs.Transcript.{Said, is_of, stored, stored_in, own_writes, committed, numbers_in}
-use Rattle.hg_base.specs.declared.line.Answer.{Answer}
 use Rattle.hg_base.specs.declared.line.Answer.TheVariants.{Newer, OpenBy}
 use Rattle.hg_base.specs.Script.{Mode, replay, run}
 use Rattle.hg_base.specs.Conflicts.{OnReplay, ShowsCause, ShowsOpen, IsStillOpen}

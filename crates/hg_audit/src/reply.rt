@@ -20,7 +20,7 @@ use crate::conflict::shows_conflict;
 use crate::fault::Facts;
 use crate::scan::{is_fetched, is_scanned};
 use crate::shape::Command;
-use hg_base::{Answer, Rid, Row, Scope, Statement, TableId};
+use hg_base::{Answer, Rid, Row, Statement, TableId};
 use hg_known::{LEAST, Own, Rest, Said, Tx, Writes};
 
 /// The row that a line's transaction sees of a record: its own last write, and else what its snapshot shows.

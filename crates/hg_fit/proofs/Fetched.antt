@@ -1,11 +1,11 @@
 -- What the cursor of a fetch has left is of the table that its session's last `open` names, and ends at a number of 64 bits.
 use Rattle.std.proofs.Common.{◌≡◌, ℕ, List, [], ◌∷◌, ◌++◌, Bool, true, false, Option, Some, None, refl, sym, ap, ◌∙◌, subst}
-use Rattle.std.specs.Prelude.{cond, is_some, option_map, IfSome, ⊤, ◌==◌}
+use Rattle.std.specs.Prelude.{cond, is_some, IfSome, ⊤, ◌==◌}
 use Rattle.std.specs.Option.{option_or}
 use Rattle.std.proofs.lemmas.Bool.Decides.{Decides-eqb}
 use Rattle.hg_base.specs.declared.rid.TableId.{TableId}
 use Rattle.hg_base.specs.declared.statement.Statement.{Statement}
-use Rattle.hg_base.specs.declared.statement.Statement.TheVariants.{Begin, Get, Put, Del, Scan, CursorOpen, Fetch, CursorClose, Commit as CommitIt, Rollback, Gc}
+use Rattle.hg_base.specs.declared.statement.Statement.TheVariants.{Begin, CursorOpen, Fetch}
 use Rattle.hg_base.specs.declared.statement.Record.{Record}
 use Rattle.hg_base.specs.declared.line.Answer.{Answer}
 use Rattle.hg_base.specs.declared.line.Answer.TheVariants.{Rows}
@@ -15,7 +15,7 @@ use Rattle.hg_base.specs.Lists.{Each, EachAfter}
 use Rattle.hg_base.specs.Script.{Mode, Script}
 use Rattle.hg_base.specs.Sound.{all_said}
 use Rattle.hg_base.specs.Text.{Fits64, cursor_before, opens}
-use Rattle.hg_base.specs.Transcript.{Rest, Said, in_order, said, said_after, said_from, standing, last_of, next_after, open_of, open_after, rest_after, rest_behind, rest_in}
+use Rattle.hg_base.specs.Transcript.{Rest, Said, in_order, said, said_after, said_from, standing, last_of, next_after, open_after, rest_after, rest_in}
 use Rattle.hg_base.proofs.ListFacts.{cases, each_keeps, false_true}
 use Rattle.hg_base.proofs.Resting.{ShowsRest, left_nothing, left_other, left_own}
 use Rattle.hg_core.specs.Events.{put}

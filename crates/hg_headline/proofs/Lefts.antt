@@ -1,5 +1,5 @@
 -- What each session's cursor has left, after a line.
-use Rattle.std.proofs.Common.{◌≡◌, ℕ, List, ◌∷◌, Option}
+use Rattle.std.proofs.Common.{ℕ, List, ◌∷◌, Option}
 use Rattle.std.specs.Prelude.{if◌then◌else◌}
 use Rattle.hg_base.specs.declared.statement.Record.{Record}
 use Rattle.hg_base.specs.declared.line.Reply.{Reply}

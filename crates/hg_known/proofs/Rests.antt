@@ -1,6 +1,6 @@
 -- What the cursors of sessions have left, line by line.
 use Rattle.std.proofs.Common.{◌≡◌, ℕ, zero, suc, ◌+◌, ◌<◌, ◌≤◌, List, [], ◌∷◌, length, get_or, Bool, true, false, Option, Some, None, refl, cond, sym, ap, ◌∙◌, subst, arith}
-use Rattle.std.specs.Prelude.{◌==◌, ◌&&◌, nat_lt, option_map, if◌then◌else◌, IfSome}
+use Rattle.std.specs.Prelude.{◌==◌, ◌&&◌, nat_lt, option_map, if◌then◌else◌}
 use Rattle.std.specs.BTreeMap.{BTreeMap, get}
 use Rattle.std.specs.Ordering.{nat_cmp}
 use Rattle.std.proofs.lemmas.Bool.{ltb-true}
@@ -11,7 +11,7 @@ use Rattle.hg_base.specs.declared.statement.Statement.{Statement}
 use Rattle.hg_base.specs.declared.statement.Statement.TheVariants.{Begin, Get, Put, Del, Scan, CursorOpen, Fetch, CursorClose, Commit, Rollback, Gc}
 use Rattle.hg_base.specs.declared.statement.Record.{Record}
 use Rattle.hg_base.specs.declared.line.Reply.{Reply}
-use Rattle.hg_base.specs.Transcript.{Said, Rest, last_key, passed, last_of, open_of, open_after, next_after, ends, is_of, standing, said, said_after, rest_after, rest_in}
+use Rattle.hg_base.specs.Transcript.{Said, Rest, last_key, passed, last_of, open_after, next_after, ends, is_of, standing, said, said_after, rest_after, rest_in}
 use Rattle.hg_base.proofs.ListFacts.{cases, false_true}
 use Rattle.hg_base.proofs.Resting.{left_other}
 use Rattle.hg_known.specs.declared.said.Rest as rests

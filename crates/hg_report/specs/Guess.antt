@@ -21,7 +21,7 @@ use Rattle.hg_report.specs.Fields.{says, natural_at, session_in, row_in}
 
 -- ---- the guess of an answer, whose first field is field i
 
--- the kind of collector that field i + 1 names: the interval collector where it names no other
+-- the kind of collector that field i names: the interval collector where it names no other
 abbrev pub kind_guess : List Field → ℕ → Kind
 kind_guess fields i = if says fields i (codes "group") then kinds.Group else if says fields i (codes "table") then kinds.Table else kinds.Interval
 

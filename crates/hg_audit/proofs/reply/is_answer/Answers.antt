@@ -2,7 +2,7 @@ use Rattle.std.proofs.Common.{◌∙◌, sym, ap, subst}
 use Rattle.std.specs.Prelude.{Decides, option_map}
 use Rattle.hg_base.specs.History.{seen}
 use Rattle.hg_base.specs.Transcript.{own_writes, table_of, has}
-use Rattle.hg_base.specs.Replies.{IsAnswer, IsGot, IsDeleted, IsScanned, IsFetched, IsCommitted, IsUndeclared, is_written}
+use Rattle.hg_base.specs.Replies.{IsAnswer, IsGot, IsDeleted, IsScanned, IsCommitted, IsUndeclared, is_written}
 use Rattle.hg_known.specs.Lines.{rest_of, said_of}
 use Rattle.hg_audit.specs.Seen.{look}
 use Rattle.hg_audit.proofs.Looking.{decided_within}

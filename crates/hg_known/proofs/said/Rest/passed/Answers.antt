@@ -1,4 +1,4 @@
-use Rattle.std.proofs.Common.{◌≡◌, ℕ, ◌+◌, ◌-◌, ◌≤◌, List, length, ◌∙◌, sym, ap, arith}
+use Rattle.std.proofs.Common.{ℕ, ◌-◌, List, length, ◌∙◌, sym, ap, arith}
 use Rattle.hg_base.specs.declared.value.Value.{Value}
 use Rattle.hg_known.proofs.Rests.{passed_last, passed_none}
 use Rattle.hg_known.proofs.said.Rest.passed.Goals as goal
