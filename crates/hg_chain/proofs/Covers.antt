@@ -8,8 +8,8 @@ use Rattle.hg_chain.specs.declared.node.Node.{Node}
 use Rattle.hg_chain.specs.declared.node.Strand.{Strand}
 use Rattle.hg_chain.specs.declared.node.Head.{Head}
 use Rattle.hg_chain.specs.declared.cursor.Cursor.{Cursor}
-use Rattle.hg_chain.specs.Strands.{blank, node_at, node_behind, head_at, version_in, versions, versions_of, IsStrand, strand_of, AreStrands}
-use Rattle.hg_chain.proofs.Strands.{Stays, frame, frame_versions, put, put_here, put_apart, has_head, head_here, head_apart, recount, tops}
+use Rattle.hg_chain.specs.Strands.{blank, node_at, node_behind, head_at, version_in, versions, versions_of, nodes_along, nodes_of, chain_of, IsStrand, strand_of, AreStrands}
+use Rattle.hg_chain.proofs.Strands.{Stays, frame, frame_versions, frame_nodes, frame_chain, put, put_here, put_apart, has_head, head_here, head_apart, recount, tops}
 use Rattle.hg_chain.proofs.Removals.{First}
 use Rattle.hg_chain.proofs.Unlinks.{relinked}
 use Rattle.hg_chain.proofs.Writes.{Took, Loose, loose, with_front}
@@ -78,7 +78,8 @@ laid heads nodes free a p f c x i nodes2 free' h t l =
 pub record Covered (heads : List Head) (nodes : List Node) (p f : ℕ) (x : Node) (nodes' : List Node) (free' : Strand) : Type 0 where
   pub arena : AreStrands (set heads p (with_front heads p f)) nodes' free'
   pub here : versions_of nodes' (head_at (set heads p (with_front heads p f)) p) ≡ version_in true x ∷ versions nodes false (head_at heads p).strand.count f
-  pub others : (q : ℕ) → q ≢ p → versions_of nodes' (head_at (set heads p (with_front heads p f)) q) ≡ versions_of nodes (head_at heads q)
+  pub behind : drop 2 (nodes_of nodes' (head_at (set heads p (with_front heads p f)) p)) ≡ drop 1 (nodes_along nodes (head_at heads p).strand.count f)
+  pub others : (q : ℕ) → q ≢ p → chain_of nodes' (head_at (set heads p (with_front heads p f)) q) ≡ chain_of nodes (head_at heads q)
 
 pub covered : (heads : List Head) (nodes : List Node) (free : Strand) (a : AreStrands heads nodes free) (p f c : ℕ) (x : Node) (i : ℕ) (nodes' : List Node) (free' : Strand) →
     (head_at heads p).strand.count ≡ suc c → First heads nodes free a p f c → Laid nodes f x i nodes' → Loose heads nodes free a i nodes' free' → Covered heads nodes p f x nodes' free'
@@ -97,8 +98,12 @@ covered heads nodes free a p f c x i nodes' free' many h t l =
           ∙ ap (λ vs. version_in true x ∷ version_in false (node_at nodes f) ∷ vs) (frame_versions nodes a.owner a.rank nodes' false (suc p) (a.rank f) c (node_at nodes f).next
           (λ j u v w. t.others j u (below j w) (apart_from (suc p) (suc_zero p) j u v)) h.rest)
           ∙ sym (ap (λ n. version_in true x ∷ versions nodes false n f) many);
-      others = λ q other. ap (versions_of nodes') (head_apart heads p q (with_front heads p f) other) ∙
-          frame_versions nodes a.owner a.rank nodes' (head_at heads q).is_open (suc q) (a.top (suc q)) (head_at heads q).strand.count (head_at heads q).strand.first
+      behind = ap (λ (h : Head). drop 2 (nodes_of nodes' h)) (head_here heads p (with_front heads p f) within) ∙ ap (λ n. drop 2 (nodes_along nodes' n f)) two ∙
+          (λ k. nodes_along nodes' c (node_at nodes' (t.front k).next).next) ∙ (λ k. nodes_along nodes' c (t.behind k).next) ∙
+          frame_nodes nodes a.owner a.rank nodes' (suc p) (a.rank f) c (node_at nodes f).next (λ j u v w. t.others j u (below j w) (apart_from (suc p) (suc_zero p) j u v)) h.rest ∙
+          sym (ap (λ n. drop 1 (nodes_along nodes n f)) many);
+      others = λ q other. ap (chain_of nodes') (head_apart heads p q (with_front heads p f) other) ∙
+          frame_chain nodes a.owner a.rank nodes' (head_at heads q) (suc q) (a.top (suc q))
           (λ j u v w. t.others j u (not_first q other j v) (apart_from (suc q) (suc_zero q) j u v)) (a.strands (suc q));
     }
   where
@@ -206,3 +211,8 @@ pub second_is : (nodes : List Node) (begins : Bool) (n f : ℕ) → 1 < n →
 second_is nodes begins zero f h = absurd (omega (arith, h))
 second_is nodes begins (suc zero) f h = absurd (omega (arith, h))
 second_is nodes begins (suc (suc c)) f h = refl
+
+pub third_on : (nodes : List Node) (n f : ℕ) → 1 < n → drop 1 (take 1 (nodes_along nodes n f) ++ drop 2 (nodes_along nodes n f)) ≡ drop 2 (nodes_along nodes n f)
+third_on nodes zero f h = absurd (omega (arith, h))
+third_on nodes (suc zero) f h = absurd (omega (arith, h))
+third_on nodes (suc (suc c)) f h = refl

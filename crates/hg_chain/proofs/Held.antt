@@ -1,5 +1,5 @@
 -- What callers see of an arena.
-use Rattle.std.proofs.Common.{◌≡◌, ℕ, zero, suc, ◌-◌, ◌<◌, ◌≤◌, List, [], ◌∷◌, length, take, drop, Bool, true, false, ◌&&◌, cond, Some, None, refl, sym, ap, ◌∙◌, subst, arith, inl, inr}
+use Rattle.std.proofs.Common.{◌≡◌, ◌≢◌, ℕ, zero, suc, ◌-◌, ◌<◌, ◌≤◌, List, [], ◌∷◌, length, take, drop, Bool, true, false, ◌&&◌, cond, Some, None, refl, sym, ap, ◌∙◌, subst, arith, inl, inr}
 use Rattle.std.specs.Prelude.{IsSome, ◌⊎◌, ◌==◌, option_map, option_and_then, find, if◌then◌else◌}
 use Rattle.std.specs.List.{slice_get}
 use Rattle.std.proofs.lemmas.Bool.{cases_eq}
@@ -20,10 +20,13 @@ use Rattle.hg_chain.specs.Versions.{left_by, numbered_image, oldest_at, others_a
 use Rattle.hg_chain.specs.Places.{Places, list_at, nodes_of, OthersStay}
 use Rattle.hg_chain.specs.declared.node.Strand.{Strand}
 use Rattle.hg_chain.specs.Strands.{blank, node_at, head_at, stamp_in, version_in, versions, versions_of, IsStrand, strand_of, AreStrands}
-use Rattle.hg_chain.specs.Arenas.{IsArena, IsAt, Holds, OthersStayIn, head_in, list_in, places_in}
+use Rattle.hg_chain.specs.Arenas.{IsArena, IsAt, OthersStayIn, head_in, list_in, places_in}
+use Rattle.hg_chain.specs.Landmarks.{Holds, HasLandmarks, landmarks_at, landmarks_of}
+use Rattle.hg_chain.specs.declared.landmarks.Landmarks.{Landmarks}
 use Rattle.hg_chain.proofs.Cuts.{all_numbered, kept_first, kept_left, kept_sum}
 use Rattle.hg_chain.proofs.Strands.{list_read, lists_many}
 use Rattle.hg_chain.proofs.Walks.{version_here, list_many}
+use Rattle.hg_chain.proofs.LandmarkFacts.{landmarks_after, no_landmarks}
 
 pub list_seen : (a : Arena) (p : ℕ) → list_at (places_in a) p ≡ list_in a p
 list_seen a p = list_read a.heads.items a.nodes.items p
@@ -38,18 +41,20 @@ pub nodes_were : (a : Arena) (w : Places) → places_in a ≡ w → IsArena a �
 nodes_were a w e s = sym (ap nodes_of e) ∙ nodes_seen a s
 
 pub others_seen : (a b : Arena) (w : Places) (place : ℕ) → places_in a ≡ w → OthersStayIn place a b → OthersStay place w (places_in b)
-others_seen a b w place e others q apart = list_seen b q ∙ others q apart ∙ sym (list_was a w q e)
+others_seen a b w place e others q apart = list_seen b q ∙ ap (λ x. x.0) (others q apart) ∙ sym (list_was a w q e)
 
-pub holds_after : (a b : Arena) (place : ℕ) → Holds a → IsArena b → IsChain (list_in b place) → OthersStayIn place a b → Holds b
-holds_after a b place h s chain others =
+pub holds_after : (a b : Arena) (old new : Landmarks) (place : ℕ) → Holds a old → IsArena b → IsChain (list_in b place) → OthersStayIn place a b →
+    ((q : ℕ) → q ≢ place → landmarks_of new q ≡ landmarks_of old q) → HasLandmarks b place (landmarks_of new place) → Holds b new
+holds_after a b old new place h s chain others same landmarks =
     record {
       strands = s;
       chains = λ p. go p (cases_eq p place);
+      landmarks = landmarks_after a b old new place h.landmarks others same landmarks;
     }
   where
     go : (p : ℕ) → (p ≡ place) ⊎ (p ≡ place → ⊥) → IsChain (list_in b p)
     go p (inl e) = subst (λ q. IsChain (list_in b q)) (sym e) chain
-    go p (inr apart) = subst IsChain (sym (others p apart)) (h.chains p)
+    go p (inr apart) = subst IsChain (sym (ap (λ x. x.0) (others p apart))) (h.chains p)
 
 -- ---- chains stay chains
 
@@ -149,12 +154,13 @@ none_yet =
     strands zero = tt
     strands (suc p) = tt
 
-pub holds_none : (a : Arena) (none : Strand) → none ≡ record { first = 0; count = 0 } → a.heads.items ≡ [] → a.nodes.items ≡ [] → a.free ≡ none → Holds a
-holds_none a none z h n f =
+pub holds_none : (a : Arena) (ms : Landmarks) (none : Strand) → none ≡ record { first = 0; count = 0 } → a.heads.items ≡ [] → a.nodes.items ≡ [] → a.free ≡ none → ms.lists.items ≡ [] → Holds a ms
+holds_none a ms none z h n f e =
     record {
       strands = subst (λ s. AreStrands a.heads.items a.nodes.items s) (sym (f ∙ z)) (subst (λ ns. AreStrands a.heads.items ns (record { first = 0; count = 0 })) (sym n)
           (subst (λ hs. AreStrands hs [] (record { first = 0; count = 0 })) (sym h) none_yet));
       chains = λ p. subst (λ hs. IsChain (versions_of a.nodes.items (head_at hs p))) (sym h) tt;
+      landmarks = λ p. no_landmarks a p (landmarks_of ms p) (ap (λ ls. landmarks_at ls p) e);
     }
 
 -- ---- what a walk over the bound has passed

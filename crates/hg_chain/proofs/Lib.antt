@@ -16,5 +16,8 @@ pub mod Unlinks
 -- A walk along a chain, and a sweep along it.
 pub mod Walks
 pub mod Settling
+-- Where a read may start.
+pub mod LandmarkFacts
+pub mod LandmarkLists
 -- What callers see.
 pub mod Held

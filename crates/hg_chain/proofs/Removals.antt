@@ -4,8 +4,8 @@ use Rattle.std.proofs.lemmas.List.{length-set}
 use Rattle.hg_chain.specs.declared.node.Node.{Node}
 use Rattle.hg_chain.specs.declared.node.Strand.{Strand}
 use Rattle.hg_chain.specs.declared.node.Head.{Head}
-use Rattle.hg_chain.specs.Strands.{blank, node_at, freed, head_at, versions, versions_of, IsStrand, AreStrands}
-use Rattle.hg_chain.proofs.Strands.{frame, frame_versions, Given, put, put_apart, gave, gave_others, has_head, head_here}
+use Rattle.hg_chain.specs.Strands.{blank, node_at, freed, head_at, versions, versions_of, nodes_along, nodes_of, chain_of, IsStrand, AreStrands}
+use Rattle.hg_chain.proofs.Strands.{frame, frame_versions, frame_nodes, Given, put, put_apart, gave, gave_others, has_head, head_here}
 
 -- ---- the first version
 
@@ -69,7 +69,7 @@ pub popped_arena : (heads : List Head) (nodes : List Node) (free : Strand) → A
 popped_arena heads nodes free a p some = gave heads nodes free a p _ _ _ _ (popped heads nodes free a p ((head_at heads p).strand.count - 1) (omega (arith, some)))
 
 pub popped_others : (heads : List Head) (nodes : List Node) (free : Strand) → AreStrands heads nodes free → (p : ℕ) → 0 < (head_at heads p).strand.count → (q : ℕ) → q ≢ p →
-    versions_of (without nodes (head_at heads p).strand.first free.first) (head_at (set heads p (behind_first heads nodes p ((head_at heads p).strand.count - 1))) q) ≡ versions_of
+    chain_of (without nodes (head_at heads p).strand.first free.first) (head_at (set heads p (behind_first heads nodes p ((head_at heads p).strand.count - 1))) q) ≡ chain_of
     nodes (head_at heads q)
 popped_others heads nodes free a p some =
     let g = popped heads nodes free a p ((head_at heads p).strand.count - 1) (omega (arith, some)) in
@@ -87,6 +87,19 @@ popped_here heads nodes free a p some =
     ∙ frame_versions nodes a.owner a.rank (without nodes i free.first) false (suc p) (a.rank i) c (node_at nodes i).next
     (λ j x y z. without_apart nodes i free.first j (λ k. absurd (let l : a.rank j ≡ a.rank i = ap a.rank k in let m : a.rank j < a.rank i = z in omega (arith, l, m)))) f.rest
     ∙ sym (ap (λ n. drop 1 (versions nodes (head_at heads p).is_open n i)) e)
+
+pub popped_nodes : (heads : List Head) (nodes : List Node) (free : Strand) → AreStrands heads nodes free → (p : ℕ) → 0 < (head_at heads p).strand.count →
+    drop 1 (nodes_of (without nodes (head_at heads p).strand.first free.first) (head_at (set heads p (behind_first heads nodes p ((head_at heads p).strand.count - 1))) p)) ≡ drop 2
+    (nodes_of nodes (head_at heads p))
+popped_nodes heads nodes free a p some =
+    let i = (head_at heads p).strand.first in
+    let c = (head_at heads p).strand.count - 1 in
+    let e : (head_at heads p).strand.count ≡ suc c = omega (arith, some) in
+    let f = first heads nodes free a p c e in
+    ap (λ (h : Head). drop 1 (nodes_of (without nodes i free.first) h)) (head_here heads p _ (has_head heads p some))
+    ∙ ap (drop 1) (frame_nodes nodes a.owner a.rank (without nodes i free.first) (suc p) (a.rank i) c (node_at nodes i).next
+    (λ j x y z. without_apart nodes i free.first j (λ k. absurd (let l : a.rank j ≡ a.rank i = ap a.rank k in let m : a.rank j < a.rank i = z in omega (arith, l, m)))) f.rest)
+    ∙ sym (ap (λ n. drop 2 (nodes_along nodes n i)) e)
 
 -- the node of a place's first version is there
 pub first_within : (heads : List Head) (nodes : List Node) (free : Strand) → AreStrands heads nodes free → (p : ℕ) → 0 < (head_at heads p).strand.count → (head_at heads p).strand.first < length nodes

@@ -13,8 +13,8 @@ use Rattle.hg_chain.specs.declared.node.Strand.{Strand}
 use Rattle.hg_chain.specs.declared.node.Head.{Head}
 use Rattle.hg_chain.specs.Versions.{is_open_by, open_write, installed, stamped, has_writer}
 use Rattle.hg_chain.specs.declared.version.Stamp.TheVariants.{Written, Numbered}
-use Rattle.hg_chain.specs.Strands.{blank, node_at, head_at, writer_in, version_in, versions, versions_of, IsStrand, strand_of, AreStrands}
-use Rattle.hg_chain.proofs.Strands.{frame, frame_versions, has_head, head_here, head_apart, recount}
+use Rattle.hg_chain.specs.Strands.{blank, node_at, head_at, writer_in, version_in, versions, versions_of, nodes_along, nodes_of, chain_of, IsStrand, strand_of, AreStrands}
+use Rattle.hg_chain.proofs.Strands.{frame, frame_versions, frame_chain, has_head, head_here, head_apart, recount}
 use Rattle.hg_chain.proofs.Removals.{First, first}
 
 -- ---- the first version is written over: the links stay
@@ -25,7 +25,8 @@ begun heads p begins = record { strand = (head_at heads p).strand; is_open = beg
 pub record Rewritten (heads : List Head) (nodes : List Node) (free : Strand) (p : ℕ) (x : Node) (begins : Bool) : Type 0 where
   pub arena : AreStrands (set heads p (begun heads p begins)) (set nodes (head_at heads p).strand.first x) free
   pub here : versions_of (set nodes (head_at heads p).strand.first x) (head_at (set heads p (begun heads p begins)) p) ≡ version_in begins x ∷ drop 1 (versions_of nodes (head_at heads p))
-  pub others : (q : ℕ) → q ≢ p → versions_of (set nodes (head_at heads p).strand.first x) (head_at (set heads p (begun heads p begins)) q) ≡ versions_of nodes (head_at heads q)
+  pub stay : nodes_of (set nodes (head_at heads p).strand.first x) (head_at (set heads p (begun heads p begins)) p) ≡ nodes_of nodes (head_at heads p)
+  pub others : (q : ℕ) → q ≢ p → chain_of (set nodes (head_at heads p).strand.first x) (head_at (set heads p (begun heads p begins)) q) ≡ chain_of nodes (head_at heads q)
 
 pub rewritten : (heads : List Head) (nodes : List Node) (free : Strand) → AreStrands heads nodes free → (p : ℕ) (x : Node) (begins : Bool) → 0 < (head_at heads p).strand.count →
     x.next ≡ (node_at nodes (head_at heads p).strand.first).next → Rewritten heads nodes free p x begins
@@ -47,9 +48,11 @@ rewritten heads nodes free a p x begins some link =
           (a.rank (head_at heads p).strand.first) ((head_at heads p).strand.count - 1) (node_at nodes (head_at heads p).strand.first).next
           (λ j u v w. apart j (λ e. absurd (let l : a.rank j ≡ a.rank (head_at heads p).strand.first = ap a.rank e in omega (arith, l, w)))) f.rest)
           ∙ sym (ap (λ n. version_in begins x ∷ drop 1 (versions nodes (head_at heads p).is_open n (head_at heads p).strand.first)) many);
-      others = λ q other. ap (versions_of (set nodes (head_at heads p).strand.first x)) (head_apart heads p q (begun heads p begins) other) ∙
-          frame_versions nodes a.owner a.rank (set nodes (head_at heads p).strand.first x) (head_at heads q).is_open (suc q) (a.top (suc q)) (head_at heads q).strand.count
-          (head_at heads q).strand.first (λ j u v w. apart j (λ e. other (let k : suc q ≡ suc p = sym v ∙ ap a.owner e ∙ f.owned in let l : q ≡ p = omega (arith, k) in l))) (a.strands (suc q));
+      stay = ap (nodes_of (set nodes (head_at heads p).strand.first x)) (head_here heads p (begun heads p begins) within) ∙
+          same_nodes (head_at heads p).strand.count (head_at heads p).strand.first;
+      others = λ q other. ap (chain_of (set nodes (head_at heads p).strand.first x)) (head_apart heads p q (begun heads p begins) other) ∙
+          frame_chain nodes a.owner a.rank (set nodes (head_at heads p).strand.first x) (head_at heads q) (suc q) (a.top (suc q))
+          (λ j u v w. apart j (λ e. other (let k : suc q ≡ suc p = sym v ∙ ap a.owner e ∙ f.owned in let l : q ≡ p = omega (arith, k) in l))) (a.strands (suc q));
     }
   where
     within : p < length heads
@@ -76,6 +79,10 @@ rewritten heads nodes free a p x begins some link =
         go : (j ≡ (head_at heads p).strand.first) ⊎ (j ≡ (head_at heads p).strand.first → ⊥) → (node_at (set nodes (head_at heads p).strand.first x) j).next ≡ (node_at nodes j).next
         go (inl e) = ap (λ i. (node_at (set nodes (head_at heads p).strand.first x) i).next) e ∙ ap (λ (n : Node). n.next) now ∙ link ∙ sym (ap (λ i. (node_at nodes i).next) e)
         go (inr other) = ap (λ (n : Node). n.next) (apart j other)
+
+    same_nodes : (n i : ℕ) → nodes_along (set nodes (head_at heads p).strand.first x) n i ≡ nodes_along nodes n i
+    same_nodes zero i = refl
+    same_nodes (suc n) i = ap (λ js. i ∷ js) (same_nodes n (node_at (set nodes (head_at heads p).strand.first x) i).next ∙ ap (nodes_along nodes n) (next_same i))
 
     kept : (who bound n i : ℕ) → IsStrand nodes a.owner a.rank who bound n i → IsStrand (set nodes (head_at heads p).strand.first x) a.owner a.rank who bound n i
     kept who bound n i s =

@@ -9,13 +9,17 @@ use Rattle.hg_base.proofs.ListFacts.{cases}
 use Rattle.hg_chain.specs.declared.node.Node.{Node}
 use Rattle.hg_chain.specs.declared.node.Strand.{Strand}
 use Rattle.hg_chain.specs.declared.node.Head.{Head}
-use Rattle.hg_chain.specs.Strands.{node_at, no_head, head_at, version_in, versions, versions_of, lists_in, IsStrand, strand_of, AreStrands}
+use Rattle.hg_chain.specs.Strands.{node_at, no_head, head_at, version_in, versions, versions_of, nodes_along, chain_of, lists_in, IsStrand, strand_of, AreStrands}
 
 -- ---- reads
 
 pub versions_many : (nodes : List Node) (begins : Bool) (n i : ℕ) → length (versions nodes begins n i) ≡ n
 versions_many nodes begins zero i = refl
 versions_many nodes begins (suc n) i = ap suc (versions_many nodes false n (node_at nodes i).next)
+
+pub nodes_many : (nodes : List Node) (n i : ℕ) → length (nodes_along nodes n i) ≡ n
+nodes_many nodes zero i = refl
+nodes_many nodes (suc n) i = ap suc (nodes_many nodes n (node_at nodes i).next)
 
 pub list_read : (heads : List Head) (nodes : List Node) (p : ℕ) → get_or (lists_in heads nodes) p [] ≡ versions_of nodes (head_at heads p)
 list_read [] nodes p = refl
@@ -83,6 +87,21 @@ frame_versions nodes owner rank nodes' begins who bound (suc n) i f h =
     let low : rank i < bound = h.2 in
     let rest = frame_versions nodes owner rank nodes' false who (rank i) n (node_at nodes i).next (λ j a b c. f j a b (let k : rank j < rank i = c in omega (arith, k, low))) h.3 in
     (λ k. version_in begins (s k) ∷ versions nodes' false n (s k).next) ∙ ap (λ vs. version_in begins (node_at nodes i) ∷ vs) rest
+
+pub frame_nodes : (nodes : List Node) (owner rank : ℕ → ℕ) (nodes' : List Node) (who bound n i : ℕ) →
+    ((j : ℕ) → j < length nodes → owner j ≡ who → rank j < bound → node_at nodes' j ≡ node_at nodes j) → IsStrand nodes owner rank who bound n i → nodes_along nodes' n i ≡ nodes_along nodes n i
+frame_nodes nodes owner rank nodes' who bound zero i f h = refl
+frame_nodes nodes owner rank nodes' who bound (suc n) i f h =
+    let s = f i h.0 h.1 h.2 in
+    let low : rank i < bound = h.2 in
+    let rest = frame_nodes nodes owner rank nodes' who (rank i) n (node_at nodes i).next (λ j a b c. f j a b (let k : rank j < rank i = c in omega (arith, k, low))) h.3 in
+    (λ k. i ∷ nodes_along nodes' n (s k).next) ∙ ap (λ js. i ∷ js) rest
+
+pub frame_chain : (nodes : List Node) (owner rank : ℕ → ℕ) (nodes' : List Node) (h : Head) (who bound : ℕ) →
+    ((j : ℕ) → j < length nodes → owner j ≡ who → rank j < bound → node_at nodes' j ≡ node_at nodes j) → IsStrand nodes owner rank who bound h.strand.count h.strand.first →
+    chain_of nodes' h ≡ chain_of nodes h
+frame_chain nodes owner rank nodes' h who bound f s =
+    (λ k. (frame_versions nodes owner rank nodes' h.is_open who bound h.strand.count h.strand.first f s k, frame_nodes nodes owner rank nodes' who bound h.strand.count h.strand.first f s k))
 
 pub weaken : (nodes : List Node) (owner rank : ℕ → ℕ) (who bound bound' n i : ℕ) → bound ≤ bound' → IsStrand nodes owner rank who bound n i → IsStrand nodes owner rank who bound' n i
 weaken nodes owner rank who bound bound' zero i le h = tt
@@ -174,8 +193,8 @@ gave heads nodes free a p i nodes' h bound g =
 
 -- the others have the versions that they had
 pub gave_others : (heads : List Head) (nodes : List Node) (free : Strand) (a : AreStrands heads nodes free) (p : ℕ) (nodes' : List Node) (h : Head) →
-    ((j : ℕ) → a.owner j ≢ suc p → node_at nodes' j ≡ node_at nodes j) → (q : ℕ) → q ≢ p → versions_of nodes' (head_at (set heads p h) q) ≡ versions_of nodes (head_at heads q)
+    ((j : ℕ) → a.owner j ≢ suc p → node_at nodes' j ≡ node_at nodes j) → (q : ℕ) → q ≢ p → chain_of nodes' (head_at (set heads p h) q) ≡ chain_of nodes (head_at heads q)
 gave_others heads nodes free a p nodes' h others q apart =
-    ap (versions_of nodes') (head_apart heads p q h apart)
-    ∙ frame_versions nodes a.owner a.rank nodes' (head_at heads q).is_open (suc q) (a.top (suc q)) (head_at heads q).strand.count (head_at heads q).strand.first
+    ap (chain_of nodes') (head_apart heads p q h apart)
+    ∙ frame_chain nodes a.owner a.rank nodes' (head_at heads q) (suc q) (a.top (suc q))
     (λ j x y z. others j (λ e. apart (let k : suc q ≡ suc p = sym y ∙ e in let l : q ≡ p = omega (arith, k) in l))) (a.strands (suc q))

@@ -42,13 +42,14 @@ newer_many bound (v ∷ vs) (suc k) d h less e f =
 
 -- ---- in an arena
 
-pub next_at : (a : Arena) (place : ℕ) (cursor : Cursor) → IsAt a place cursor → IsAt a place (record { kept = cursor.kept + 1; last = cursor.at; at = (node_at a.nodes.items cursor.at).next })
+pub next_at : (a : Arena) (place : ℕ) (cursor : Cursor) → node_behind a.nodes.items cursor.kept (head_in a place).strand.first ≡ cursor.at →
+    IsAt a place (record { kept = cursor.kept + 1; last = cursor.at; at = (node_at a.nodes.items cursor.at).next })
 next_at a place cursor h =
     let more : suc cursor.kept ≡ cursor.kept + 1 = omega arith in
     record {
       at = ap (λ k. node_behind a.nodes.items k (head_in a place).strand.first) (sym more) ∙ sym (behind_next a.nodes.items cursor.kept (head_in a place).strand.first) ∙
-          ap (λ i. (node_at a.nodes.items i).next) h.at;
-      last = subst (λ k. IsLast a.nodes.items (head_in a place).strand.first k cursor.at) more h.at;
+          ap (λ i. (node_at a.nodes.items i).next) h;
+      last = subst (λ k. IsLast a.nodes.items (head_in a place).strand.first k cursor.at) more h;
     }
 
 pub at_there : (a : Arena) (place : ℕ) (cursor : Cursor) → IsArena a → IsAt a place cursor → cursor.kept < (head_in a place).strand.count → cursor.at < length a.nodes.items

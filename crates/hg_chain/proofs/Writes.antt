@@ -1,5 +1,5 @@
 -- A version is put in front of a place's chain.
-use Rattle.std.proofs.Common.{◌≡◌, ◌≢◌, ℕ, zero, suc, ◌+◌, ◌<◌, ◌≤◌, ◌^◌, List, ◌∷◌, length, set, Bool, true, false, refl, sym, ap, ◌∙◌, subst, arith}
+use Rattle.std.proofs.Common.{◌≡◌, ◌≢◌, ℕ, zero, suc, ◌+◌, ◌<◌, ◌≤◌, ◌^◌, List, ◌∷◌, length, drop, set, Bool, true, false, refl, sym, ap, ◌∙◌, subst, arith}
 use Rattle.std.proofs.Common.{inl, inr}
 use Rattle.std.specs.Prelude.{◌⊎◌}
 use Rattle.std.proofs.lemmas.Bool.{cases_eq}
@@ -9,9 +9,8 @@ use Rattle.hg_chain.specs.declared.node.Strand.{Strand}
 use Rattle.hg_chain.specs.declared.node.Head.{Head}
 use Rattle.hg_chain.specs.Versions.{NoOther, is_open_by, has_writer}
 use Rattle.hg_chain.specs.declared.version.Stamp.TheVariants.{Written}
-use Rattle.hg_chain.specs.Strands.{node_at, head_at, writer_in, version_in, versions, versions_of, IsStrand, strand_of, AreStrands}
-use Rattle.hg_chain.proofs.Strands.{Stays, frame, frame_versions, put, put_here, put_apart, head_here, head_apart, recount, tops}
-use Rattle.hg_chain.proofs.Removals.{first}
+use Rattle.hg_chain.specs.Strands.{node_at, head_at, writer_in, version_in, versions, versions_of, nodes_along, nodes_of, chain_of, IsStrand, strand_of, AreStrands}
+use Rattle.hg_chain.proofs.Strands.{Stays, frame, frame_versions, frame_nodes, frame_chain, put, put_here, put_apart, head_here, head_apart, recount, tops}
 
 pub record Took (nodes : List Node) (free : Strand) (x : Node) (i : ℕ) (nodes' : List Node) (free' : Strand) : Type 0 where
   pub here : node_at nodes' i ≡ x
@@ -76,7 +75,8 @@ with_front heads p i = record { strand = record { first = i; count = (head_at he
 pub record Pushed (heads : List Head) (nodes : List Node) (p : ℕ) (x : Node) (i : ℕ) (nodes' : List Node) (free' : Strand) : Type 0 where
   pub arena : AreStrands (set heads p (with_front heads p i)) nodes' free'
   pub here : versions_of nodes' (head_at (set heads p (with_front heads p i)) p) ≡ version_in true x ∷ versions nodes false (head_at heads p).strand.count (head_at heads p).strand.first
-  pub others : (q : ℕ) → q ≢ p → versions_of nodes' (head_at (set heads p (with_front heads p i)) q) ≡ versions_of nodes (head_at heads q)
+  pub behind : drop 2 (nodes_of nodes' (head_at (set heads p (with_front heads p i)) p)) ≡ drop 1 (nodes_of nodes (head_at heads p))
+  pub others : (q : ℕ) → q ≢ p → chain_of nodes' (head_at (set heads p (with_front heads p i)) q) ≡ chain_of nodes (head_at heads q)
 
 pub pushed : (heads : List Head) (nodes : List Node) (free : Strand) (a : AreStrands heads nodes free) (p : ℕ) (x : Node) (i : ℕ) (nodes' : List Node) (free' : Strand) →
     p < length heads → x.next ≡ (head_at heads p).strand.first → Took nodes free x i nodes' free' → Loose heads nodes free a i nodes' free' → Pushed heads nodes p x i nodes' free'
@@ -94,8 +94,12 @@ pushed heads nodes free a p x i nodes' free' within link t l =
           (λ k. version_in true (t.here k) ∷ versions nodes' false (head_at heads p).strand.count (t.here k).next) ∙
           ap (λ j. version_in true x ∷ versions nodes' false (head_at heads p).strand.count j) link ∙
           ap (λ vs. version_in true x ∷ vs) (same_versions (suc p) (suc_zero p) (a.top (suc p)) false (head_at heads p).strand.count (head_at heads p).strand.first (a.strands (suc p)));
-      others = λ q apart. ap (versions_of nodes') (head_apart heads p q (with_front heads p i) apart) ∙
-          same_versions (suc q) (suc_zero q) (a.top (suc q)) (head_at heads q).is_open (head_at heads q).strand.count (head_at heads q).strand.first (a.strands (suc q));
+      behind = ap (λ (h : Head). drop 2 (nodes_of nodes' h)) (head_here heads p (with_front heads p i) within) ∙ ap (λ n. drop 2 (nodes_along nodes' n i)) next_count ∙
+          (λ k. drop 1 (nodes_along nodes' (head_at heads p).strand.count (t.here k).next)) ∙ ap (λ j. drop 1 (nodes_along nodes' (head_at heads p).strand.count j)) link ∙
+          ap (drop 1) (frame_nodes nodes a.owner a.rank nodes' (suc p) (a.top (suc p)) (head_at heads p).strand.count (head_at heads p).strand.first
+          (λ k x y z. t.others k x (apart_from (suc p) (suc_zero p) k x y)) (a.strands (suc p)));
+      others = λ q apart. ap (chain_of nodes') (head_apart heads p q (with_front heads p i) apart) ∙
+          frame_chain nodes a.owner a.rank nodes' (head_at heads q) (suc q) (a.top (suc q)) (λ k x y z. t.others k x (apart_from (suc q) (suc_zero q) k x y)) (a.strands (suc q));
     }
   where
     next_count : (head_at heads p).strand.count + 1 ≡ suc (head_at heads p).strand.count

@@ -1,13 +1,12 @@
 -- What an arena holds, and where a walk along one of its strands stands.
-use Rattle.std.specs.Prelude.{◌≡◌, ◌≢◌, ℕ, zero, suc, ◌+◌, ◌<◌, ◌^◌, List, length, vec_len, vec_capacity, ⊤}
+use Rattle.std.specs.Prelude.{◌≡◌, ◌≢◌, ◌==◌, ℕ, zero, suc, ◌+◌, ◌-◌, ◌<◌, ◌^◌, if◌then◌else◌, List, drop, length, vec_len, vec_capacity, ⊤}
 use Rattle.hg_chain.specs.declared.version.Version.{Version}
 use Rattle.hg_chain.specs.declared.node.Node.{Node}
 use Rattle.hg_chain.specs.declared.node.Head.{Head}
 use Rattle.hg_chain.specs.declared.cursor.Cursor.{Cursor}
 use Rattle.hg_chain.specs.declared.arena.Arena.{Arena}
-use Rattle.hg_chain.specs.Versions.{IsChain}
 use Rattle.hg_chain.specs.Places.{Places}
-use Rattle.hg_chain.specs.Strands.{AreStrands, head_at, versions_of, lists_in, node_behind}
+use Rattle.hg_chain.specs.Strands.{AreStrands, head_at, versions_of, nodes_of, chain_of, lists_in, node_behind}
 
 abbrev pub IsArena : Arena → Type 0
 IsArena a = AreStrands a.heads.items a.nodes.items a.free
@@ -18,8 +17,31 @@ head_in a p = head_at a.heads.items p
 abbrev pub list_in : Arena → ℕ → List Version
 list_in a p = versions_of a.nodes.items (head_in a p)
 
+abbrev pub nodes_in : Arena → ℕ → List ℕ
+nodes_in a p = nodes_of a.nodes.items (head_in a p)
+
+abbrev pub chain_in : Arena → ℕ → List Version × List ℕ
+chain_in a p = chain_of a.nodes.items (head_in a p)
+
+-- each other place has the versions that it had, in the nodes in which they were
 abbrev pub OthersStayIn : ℕ → Arena → Arena → Type 0
-OthersStayIn place old new = (q : ℕ) → q ≢ place → list_in new q ≡ list_in old q
+OthersStayIn place old new = (q : ℕ) → q ≢ place → chain_in new q ≡ chain_in old q
+
+-- a version is put in front of a place's chain: its versions but for the first one stay in their nodes
+abbrev pub PushesIn : ℕ → Arena → Arena → Type 0
+PushesIn place old new = drop 2 (nodes_in new place) ≡ drop 1 (nodes_in old place)
+
+-- the first version goes: those but for the second one, which is the first then, stay in their nodes
+abbrev pub PopsIn : ℕ → Arena → Arena → Type 0
+PopsIn place old new = drop 1 (nodes_in new place) ≡ drop 2 (nodes_in old place)
+
+-- so many versions go, and no node is added
+abbrev pub RemovesIn : ℕ → Arena → Arena → Type 0
+RemovesIn gone old new = (length new.nodes.items ≡ length old.nodes.items) × (gone ≡ 0 → new ≡ old)
+
+-- a free node is taken, and one is added only where none is free
+abbrev pub TakesNodeIn : Arena → Arena → Type 0
+TakesNodeIn old new = (length new.nodes.items ≡ length old.nodes.items + (if old.free.count == 0 then 1 else 0)) × (new.free.count ≡ old.free.count - 1)
 
 -- a node leaves its chain and is free; none is added
 abbrev pub FreesNode : Arena → Arena → Type 0
@@ -43,8 +65,3 @@ IsLast nodes first (suc k) last = node_behind nodes k first ≡ last
 pub record IsAt (a : Arena) (place : ℕ) (cursor : Cursor) : Type 0 where
   pub at : node_behind a.nodes.items cursor.kept (head_in a place).strand.first ≡ cursor.at
   pub last : IsLast a.nodes.items (head_in a place).strand.first cursor.kept cursor.last
-
--- each place's versions are a chain
-pub record Holds (a : Arena) : Type 0 where
-  pub strands : IsArena a
-  pub chains : (p : ℕ) → IsChain (list_in a p)

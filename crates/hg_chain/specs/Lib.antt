@@ -6,3 +6,4 @@ pub mod Places
 -- How they stand in one array: for the array itself.
 pub mod Strands
 pub mod Arenas
+pub mod Landmarks

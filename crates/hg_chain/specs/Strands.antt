@@ -47,6 +47,18 @@ versions nodes begins (suc n) i = version_in begins (node_at nodes i) ∷ versio
 abbrev pub versions_of : List Node → Head → List Version
 versions_of nodes h = versions nodes h.is_open h.strand.count h.strand.first
 
+-- and those nodes themselves
+abbrev pub nodes_along : List Node → ℕ → ℕ → List ℕ
+nodes_along nodes zero i = []
+nodes_along nodes (suc n) i = i ∷ nodes_along nodes n (node_at nodes i).next
+
+abbrev pub nodes_of : List Node → Head → List ℕ
+nodes_of nodes h = nodes_along nodes h.strand.count h.strand.first
+
+-- the versions of a chain, with the nodes that have them
+abbrev pub chain_of : List Node → Head → List Version × List ℕ
+chain_of nodes h = (versions_of nodes h, nodes_of nodes h)
+
 abbrev pub lists_in : List Head → List Node → List (List Version)
 lists_in heads nodes = map (versions_of nodes) heads
 

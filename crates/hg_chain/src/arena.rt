@@ -1,6 +1,7 @@
 //! The nodes of all chains, and the free ones: what is read of them, and walks along a chain.
 
-ghost use Rattle.std.specs.Prelude.{◌≡◌, ◌+◌, ◌<◌, ◌^◌, ◌==◌, ◌&&◌, [], length, not, nat_lt, slice_set};
+ghost use Rattle.std.specs.Prelude.{◌≡◌, ◌+◌, ◌<◌, ◌≤◌, ◌^◌, ◌==◌, ◌&&◌, [], false, length, not, nat_lt, slice_set, take};
+ghost use Rattle.hg_base.specs.Lists.{Each};
 ghost use Rattle.hg_chain.specs.Versions.{IsChain, is_at_most, left_by, number_in};
 ghost use Rattle.hg_chain.specs.Strands.{node_at, stamp_in, version_in, writer_in};
 ghost use Rattle.hg_chain.specs.Arenas.{IsArena, IsAt, head_in, list_in};
@@ -133,8 +134,8 @@ impl Arena {
         }
     }
 
-    // Whether the walk stands before a version that isn't at the bound.
-    fn is_newer(&self, head: Head, cursor: Cursor, bound: u64) -> bool
+    /// Whether the walk stands before a version that isn't at the bound.
+    pub fn is_newer(&self, head: Head, cursor: Cursor, bound: u64) -> bool
         requires { cursor.kept < head.strand.count → cursor.at < length self.now.nodes.items }
         ensures { result ≡
             (nat_lt cursor.kept head.strand.count && not (is_at_most bound (version_in
@@ -150,15 +151,19 @@ impl Arena {
         }
     }
 
-    /// Passes the versions that aren't at the bound: since numbers fall, they stand in front of the others.
-    pub fn passed(&self, place: u64, bound: u64) -> Cursor
+    /// Passes the versions that aren't at the bound: since numbers fall, they stand in front of the others. The walk has passed some.
+    pub fn passed(&self, place: u64, bound: u64, start: Cursor) -> Cursor
         requires arena { IsArena self.now }
         requires chain { IsChain (list_in self.now place) }
+        requires at { IsAt self.now place start }
+        requires within { start.kept ≤ (head_in self.now place).strand.count }
+        requires newer { Each (λ v. is_at_most bound v ≡ false)
+            (take start.kept (list_in self.now place)) }
         ensures at { IsAt self.now place result }
         ensures kept { result.kept ≡ length (left_by bound (list_in self.now place)) }
     {
         let head = self.head(place);
-        let mut cursor = self.start(place);
+        let mut cursor = start;
         while self.is_newer(head, cursor, bound) {
             cursor = self.pass(cursor);
         }

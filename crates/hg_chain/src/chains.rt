@@ -11,6 +11,7 @@ ghost use Rattle.hg_chain.specs.Places.{OthersStay, TakesNode, list_at, nodes_of
 
 use crate::arena::Arena;
 use crate::chain::{Cut, Swept};
+use crate::landmarks::Landmarks;
 use crate::node::Head;
 use crate::version::Stamp;
 use crate::walk::{remove_behind, sweep_all};
@@ -23,6 +24,7 @@ use std::sync::ledger::Ledger;
 #[derive(Drop)]
 pub struct Chains {
     arena: Arena,
+    landmarks: Landmarks,
 }
 
 impl Model for Chains {
@@ -30,11 +32,12 @@ impl Model for Chains {
 
     ghost Value = { Places };
 
-    ghost use Rattle.hg_chain.specs.Arenas.{Holds, places_in};
+    ghost use Rattle.hg_chain.specs.Arenas.{places_in};
+    ghost use Rattle.hg_chain.specs.Landmarks.{Holds};
 
     ghost view = { λ a. places_in a.arena };
 
-    ghost invariant = { λ a. Holds a.arena };
+    ghost invariant = { λ a. Holds a.arena a.landmarks };
 }
 
 impl Chains {
@@ -44,6 +47,7 @@ impl Chains {
     {
         Chains {
             arena: Arena::new(alloc),
+            landmarks: Landmarks::new(alloc),
         }
     }
 
@@ -91,7 +95,8 @@ impl Chains {
     pub fn visible(&self, place: u64, at: u64) -> Option<&Image>
         ensures { option_copied result ≡ image_at at (list_at self.now place) }
     {
-        let cursor = self.arena.passed(place, at);
+        let start = self.landmarks.start(&self.arena, place, at);
+        let cursor = self.arena.passed(place, at, start);
         if cursor.kept == self.arena.head(place).strand.count {
             return None;
         }
@@ -153,6 +158,7 @@ impl Chains {
         match self.arena.make_room(place) {
             Ok(()) => {
                 self.arena.push(place, by, image);
+                self.landmarks.note(&self.arena, place);
                 Ok(true)
             }
             Err(refused) => Err((image, refused)),
@@ -192,7 +198,8 @@ impl Chains {
         ensures others { OthersStay place self.old self.new }
         ensures nodes { nodes_of self.new ≡ nodes_of self.old }
     {
-        let cursor = self.arena.passed(place, bound);
+        let start = self.landmarks.start(&self.arena, place, bound);
+        let cursor = self.arena.passed(place, bound, start);
         let all = self.arena.head(place).strand.count;
         if cursor.kept == all {
             return Cut {
@@ -201,6 +208,7 @@ impl Chains {
             };
         }
         let others = all - cursor.kept - 1;
+        self.landmarks.clear(place);
         Cut {
             image: Some(remove_behind(&mut self.arena, place, cursor, others)),
             gone: u64::from(others),
@@ -236,6 +244,8 @@ impl Chains {
         ensures others { OthersStay place self.old self.new }
         ensures nodes { nodes_of self.new ≡ nodes_of self.old }
     {
-        sweep_all(&mut self.arena, place, base, horizon, snapshots, steps)
+        let swept = sweep_all(&mut self.arena, place, base, horizon, snapshots, steps);
+        self.landmarks.lose(place, swept.gone);
+        swept
     }
 }

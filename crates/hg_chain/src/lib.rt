@@ -50,12 +50,32 @@
 //! A write leaves a place its first node: the version that was there moves to the new node, which is linked after the first (`cover`),
 //! and an undo moves it back (`uncover`). Most reads want the newest version, so the nodes that they read lie close together, in the
 //! order in which the records began, however many versions were written since.
+//!
+//! # Landmarks
+//!
+//! A snapshot that stays in use keeps every version of a record that is written meanwhile, and a read at that snapshot wants one of the
+//! last. So a long chain has landmarks (`Landmarks`): nodes with their heights, which are multiples of 32. A node's height is the number of
+//! versions from it to the end of the chain, so a version that is put in front changes none. Here a chain has 99 versions:
+//!
+//!     versions    [ 3/7 ] -> [ 805 ] .. [ 517 ] .. [ 230 ] .. [ 12 ]
+//!     height        99         98         64         32         1
+//!     landmark                             x          x
+//!
+//! A read at snapshot 300 looks at the first version, which is open. Bisection finds the lowest landmark that is newer than the snapshot:
+//! version 517. All versions before it are newer too, so the walk starts there, and ends at most 32 versions on. Chains of up to 32
+//! versions have no landmarks, and a read of the first version looks for none.
+//!
+//! A write puts a landmark at the third version of a chain (`note`): the first two may leave their nodes (`movable`), the others stay in
+//! theirs as long as they are in the chain. An undo leaves all landmarks. A cut or a sweep that removes versions changes heights, so it
+//! removes the place's landmarks, and allocates nothing. A landmark only says where a walk may start: if there is no memory for one, reads
+//! walk farther, and return the same.
 #![tactic(auto)]
 
 mod arena;
 mod chain;
 mod chains;
 mod cursor;
+mod landmarks;
 mod merge;
 mod node;
 mod removal;

@@ -1,9 +1,9 @@
 //! Removals of versions: a version leaves its chain, and its node is free.
 
-ghost use Rattle.std.specs.Prelude.{◌≡◌, ◌+◌, ◌<◌, ◌^◌, ◌∷◌, ◌++◌, length, take, drop, if◌then◌else◌, slice_set};
+ghost use Rattle.std.specs.Prelude.{◌≡◌, ◌+◌, ◌<◌, ◌^◌, ◌∷◌, ◌++◌, false, length, take, drop, if◌then◌else◌, slice_set};
 ghost use Rattle.hg_chain.specs.declared.version.Stamp.TheVariants.{Numbered};
 ghost use Rattle.hg_chain.specs.Strands.{node_at, freed};
-ghost use Rattle.hg_chain.specs.Arenas.{IsArena, IsAt, FreesNode, OthersStayIn, head_in, list_in};
+ghost use Rattle.hg_chain.specs.Arenas.{IsArena, IsAt, FreesNode, OthersStayIn, PopsIn, head_in, list_in, nodes_in, chain_in};
 
 use crate::arena::Arena;
 use crate::cursor::Cursor;
@@ -41,6 +41,7 @@ impl Arena {
         requires some { 0 < (head_in self.old place).strand.count }
         ensures arena { IsArena self.new }
         ensures here { list_in self.new place ≡ drop 1 (list_in self.old place) }
+        ensures behind { PopsIn place self.old self.new }
         ensures first { (head_in self.new place).strand.first ≡
             (node_at self.old.nodes.items (head_in self.old place).strand.first).next }
         ensures others { OthersStayIn place self.old self.new }
@@ -69,9 +70,12 @@ impl Arena {
         requires behind { 0 < cursor.kept }
         requires some { cursor.kept < (head_in self.old place).strand.count }
         ensures arena { IsArena self.new }
-        ensures here { list_in self.new place ≡
-            take cursor.kept (list_in self.old place) ++
-            drop (cursor.kept + 1) (list_in self.old place) }
+        ensures here { chain_in self.new place ≡ (
+          take cursor.kept (list_in self.old place) ++
+              drop (cursor.kept + 1) (list_in self.old place),
+          take cursor.kept (nodes_in self.old place) ++
+              drop (cursor.kept + 1) (nodes_in self.old place),
+        ) }
         ensures at { IsAt self.new place
             (record cursor { at = (node_at self.old.nodes.items cursor.at).next }) }
         ensures others { OthersStayIn place self.old self.new }
@@ -102,6 +106,7 @@ impl Arena {
         ensures arena { IsArena self.new }
         ensures here { list_in self.new place ≡
             record { stamp = Numbered number by; image = image } ∷ drop 1 (list_in self.old place) }
+        ensures stay { nodes_in self.new place ≡ nodes_in self.old place }
         ensures others { OthersStayIn place self.old self.new }
         ensures nodes { length self.new.nodes.items ≡ length self.old.nodes.items }
         ensures free { self.new.free ≡ self.old.free }
@@ -128,6 +133,7 @@ impl Arena {
         requires some { 1 < (head_in self.old place).strand.count }
         ensures arena { IsArena self.new }
         ensures here { list_in self.new place ≡ drop 1 (list_in self.old place) }
+        ensures behind { PopsIn place self.old self.new }
         ensures others { OthersStayIn place self.old self.new }
         ensures freed { FreesNode self.old self.new }
     {
@@ -144,6 +150,7 @@ impl Arena {
         requires some { 0 < (head_in self.old place).strand.count }
         ensures arena { IsArena self.new }
         ensures here { list_in self.new place ≡ drop 1 (list_in self.old place) }
+        ensures behind { PopsIn place self.old self.new }
         ensures others { OthersStayIn place self.old self.new }
         ensures freed { FreesNode self.old self.new }
     {
@@ -195,6 +202,7 @@ impl Arena {
         ensures kept { cursor.new.kept ≡ cursor.old.kept + (if goes then 0 else 1) }
         ensures others { OthersStayIn place self.old self.new }
         ensures nodes { length self.new.nodes.items ≡ length self.old.nodes.items }
+        ensures same { goes ≡ false → self.new ≡ self.old }
     {
         if goes {
             let _ = self.remove(place, cursor);

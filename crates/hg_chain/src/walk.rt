@@ -5,7 +5,7 @@ ghost use Rattle.hg_base.specs.Lifetimes.{goes};
 ghost use Rattle.hg_chain.specs.Versions.{IsChain};
 ghost use Rattle.hg_chain.specs.Sweeps.{Rises, swept, swept_away, last_number};
 ghost use Rattle.hg_chain.specs.Strands.{node_at};
-ghost use Rattle.hg_chain.specs.Arenas.{IsArena, IsAt, OthersStayIn, head_in, list_in};
+ghost use Rattle.hg_chain.specs.Arenas.{IsArena, IsAt, OthersStayIn, RemovesIn, head_in, list_in};
 
 use crate::arena::Arena;
 use crate::chain::Swept;
@@ -56,7 +56,7 @@ pub(crate) fn sweep_all<L: Ledger>(
     ensures arena { IsArena arena.new }
     ensures left { list_in arena.new place ≡ swept horizon snapshots.now (list_in arena.old place) }
     ensures others { OthersStayIn place arena.old arena.new }
-    ensures nodes { length arena.new.nodes.items ≡ length arena.old.nodes.items }
+    ensures stay { RemovesIn result.gone arena.old arena.new }
     ensures gone { result.gone ≡ swept_away horizon snapshots.now (list_in arena.old place) }
     ensures base_gone { result.base_gone ≡
         goes horizon snapshots.now (last_number (list_in arena.old place)) base }

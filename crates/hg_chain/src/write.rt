@@ -4,7 +4,7 @@ ghost use Rattle.std.specs.Prelude.{◌≡◌, ◌≢◌, ℕ, ◌+◌, ◌-◌,
 ghost use Rattle.hg_base.specs.declared.writer.Writer.{Writer};
 ghost use Rattle.hg_chain.specs.Versions.{NoOther, installed, is_open_by, open_write, stamped};
 ghost use Rattle.hg_chain.specs.Strands.{node_at};
-ghost use Rattle.hg_chain.specs.Arenas.{IsArena, HasRoom, OthersStayIn, head_in, list_in};
+ghost use Rattle.hg_chain.specs.Arenas.{IsArena, HasRoom, OthersStayIn, PushesIn, TakesNodeIn, head_in, list_in, nodes_in, chain_in};
 
 use crate::arena::Arena;
 use crate::node::{Head, Node, Strand};
@@ -17,7 +17,7 @@ impl Arena {
         requires place { place < 2 ^ 40 }
         ensures arena { IsArena self.new }
         ensures head { OnOk result (place < length self.new.heads.items) }
-        ensures lists { (q : ℕ) → list_in self.new q ≡ list_in self.old q }
+        ensures lists { (q : ℕ) → chain_in self.new q ≡ chain_in self.old q }
         ensures nodes { self.new.nodes ≡ self.old.nodes }
         ensures free { self.new.free ≡ self.old.free }
         ensures refused { OnErr result (self.new.heads.items ≡ self.old.heads.items) }
@@ -54,7 +54,7 @@ impl Arena {
         requires place { place < 2 ^ 40 }
         ensures arena { IsArena self.new }
         ensures room { OnOk result (HasRoom self.new place) }
-        ensures lists { (q : ℕ) → list_in self.new q ≡ list_in self.old q }
+        ensures lists { (q : ℕ) → chain_in self.new q ≡ chain_in self.old q }
         ensures nodes { self.new.nodes.items ≡ self.old.nodes.items }
         ensures free { self.new.free ≡ self.old.free }
         ensures refused { OnErr result (self.new.heads.items ≡ self.old.heads.items) }
@@ -122,10 +122,9 @@ impl Arena {
         requires not_open { is_open_by by (list_in self.old place) ≡ false }
         ensures arena { IsArena self.new }
         ensures here { list_in self.new place ≡ open_write by image ∷ list_in self.old place }
+        ensures behind { PushesIn place self.old self.new }
         ensures others { OthersStayIn place self.old self.new }
-        ensures nodes { length self.new.nodes.items ≡
-            length self.old.nodes.items + (if self.old.free.count == 0 then 1 else 0) }
-        ensures free { self.new.free.count ≡ self.old.free.count - 1 }
+        ensures taken { TakesNodeIn self.old self.new }
     {
         let Strand { first, count } = self.head(place).strand;
         let at = self.take(Node {
@@ -155,10 +154,9 @@ impl Arena {
         requires not_open { is_open_by by (list_in self.old place) ≡ false }
         ensures arena { IsArena self.new }
         ensures here { list_in self.new place ≡ open_write by image ∷ list_in self.old place }
+        ensures behind { PushesIn place self.old self.new }
         ensures others { OthersStayIn place self.old self.new }
-        ensures nodes { length self.new.nodes.items ≡
-            length self.old.nodes.items + (if self.old.free.count == 0 then 1 else 0) }
-        ensures free { self.new.free.count ≡ self.old.free.count - 1 }
+        ensures taken { TakesNodeIn self.old self.new }
     {
         let Strand { first, count } = self.head(place).strand;
         let newest = Node {
@@ -191,10 +189,9 @@ impl Arena {
         requires not_open { is_open_by by (list_in self.old place) ≡ false }
         ensures arena { IsArena self.new }
         ensures here { list_in self.new place ≡ open_write by image ∷ list_in self.old place }
+        ensures behind { PushesIn place self.old self.new }
         ensures others { OthersStayIn place self.old self.new }
-        ensures nodes { length self.new.nodes.items ≡
-            length self.old.nodes.items + (if self.old.free.count == 0 then 1 else 0) }
-        ensures free { self.new.free.count ≡ self.old.free.count - 1 }
+        ensures taken { TakesNodeIn self.old self.new }
     {
         if self.head(place).strand.count == 0 {
             self.begin(place, by, image);
@@ -210,6 +207,7 @@ impl Arena {
         ensures arena { IsArena self.new }
         ensures here { (by : Writer) → IsTrue (is_open_by by (list_in self.old place)) →
             list_in self.new place ≡ installed by image (list_in self.old place) }
+        ensures stay { nodes_in self.new place ≡ nodes_in self.old place }
         ensures others { OthersStayIn place self.old self.new }
         ensures nodes { length self.new.nodes.items ≡ length self.old.nodes.items }
         ensures free { self.new.free ≡ self.old.free }
@@ -225,6 +223,7 @@ impl Arena {
         ensures arena { IsArena self.new }
         ensures here { (by : Writer) → IsTrue (is_open_by by (list_in self.old place)) →
             list_in self.new place ≡ stamped by number (list_in self.old place) }
+        ensures stay { nodes_in self.new place ≡ nodes_in self.old place }
         ensures others { OthersStayIn place self.old self.new }
         ensures nodes { length self.new.nodes.items ≡ length self.old.nodes.items }
         ensures free { self.new.free ≡ self.old.free }

@@ -1,5 +1,6 @@
-use Rattle.std.proofs.Common.{◌≡◌, ◌+◌, ◌-◌, ◌<◌, ◌≤◌, ◌&&◌, List, Option, ℕ, length, get_or, refl, sym, ap, ◌∙◌, subst, arith}
-use Rattle.std.specs.Prelude.{◌==◌}
+use Rattle.std.proofs.Common.{◌≡◌, ◌+◌, ◌-◌, ◌<◌, ◌≤◌, ◌&&◌, List, Option, Bool, true, false, ℕ, length, get_or, refl, sym, ap, ◌∙◌, subst, arith}
+use Rattle.std.specs.Prelude.{◌==◌, cond}
+use Rattle.hg_chain.specs.declared.arena.Arena.{Arena}
 use Rattle.hg_chain.specs.declared.version.Version.{Version}
 use Rattle.hg_chain.specs.declared.node.Head.{Head}
 use Rattle.hg_chain.specs.Versions.{number_in}
@@ -26,6 +27,8 @@ loop-turn-init g c =
       passed = none_behind c.args.snapshots.now;
       within = omega arith;
       count = sym count;
+      few = (let k = c.start-cursor.ensures.kept in omega (arith, k));
+      same = λ e. refl;
       cost = omega arith;
     }
 
@@ -45,6 +48,16 @@ remove_or_pass-requires-clause-some g c =
     let more = c.loop-turn-test.true in
     stands (c.head-all.result.strand.count - c.loop-turn._turn) (length (list_in c.loop-turn.arena c.args.place))
     (head_in c.loop-turn.arena c.args.place).strand.count c.loop-turn.cursor.kept c.loop-turn.invariant.settled.many (list_many c.loop-turn.arena c.args.place) (omega (arith, more))
+
+-- a turn that removes no version changes nothing
+fewer_left : (kept kept' all turn : ℕ) (gone : Bool) → turn < all → kept + (all - turn) ≤ all → kept' ≡ kept + cond gone 0 1 → kept' + (all - (turn + 1)) ≤ all
+fewer_left kept kept' all turn true more few e = omega (arith, more, few, e)
+fewer_left kept kept' all turn false more few e = omega (arith, more, few, e)
+
+unchanged : (first a b : Arena) (kept kept' all turn : ℕ) (gone : Bool) → turn < all → kept + (all - turn) ≤ all → kept' ≡ kept + cond gone 0 1 →
+    (kept + (all - turn) ≡ all → a ≡ first) → (gone ≡ false → b ≡ a) → kept' + (all - (turn + 1)) ≡ all → b ≡ first
+unchanged first a b kept kept' all turn true more few e f g h = absurd (omega (arith, more, few, e, h))
+unchanged first a b kept kept' all turn false more few e f g h = g refl ∙ f (let k : kept + (all - turn) ≡ all = omega (arith, more, e, h) in k)
 
 pub loop-turn-preserved : goal.loop-turn-preserved
 loop-turn-preserved g c =
@@ -77,6 +90,10 @@ loop-turn-preserved g c =
       passed = rw c.settle-goes.ensures.successor (c.settle-goes.ensures.passed falls);
       within = c.settle-goes.ensures.within;
       count = c.loop-turn.invariant.count;
+      few = fewer_left c.loop-turn.cursor.kept c.remove_or_pass.new.cursor.kept c.head-all.result.strand.count c.loop-turn._turn c.settle-goes.result more c.loop-turn.invariant.few
+          c.remove_or_pass.ensures.kept;
+      same = λ e. unchanged c.args.arena.now c.loop-turn.arena c.remove_or_pass.new.self c.loop-turn.cursor.kept c.remove_or_pass.new.cursor.kept c.head-all.result.strand.count
+          c.loop-turn._turn c.settle-goes.result more c.loop-turn.invariant.few c.remove_or_pass.ensures.kept c.loop-turn.invariant.same c.remove_or_pass.ensures.same e;
       cost = (let a = c.settle-goes.ensures.cost in let b = c.loop-turn.invariant.cost in omega (arith, a, b));
     }
 
@@ -114,3 +131,23 @@ returns-else-is_some-clause-gone g c =
     let count = c.loop-turn.invariant.count in
     let from = c.from.ensures in
     omega (arith, gone, count, from)
+
+pub returns-then-is_some-clause-stay : goal.returns-then-is_some-clause-stay
+returns-then-is_some-clause-stay g c =
+    let past = c.loop-turn-test.false in
+    let few = c.loop-turn.invariant.few in
+    let from = c.from.ensures in (
+      c.loop-turn.invariant.nodes,
+      λ none. c.loop-turn.invariant.same (let k : c.loop-turn.cursor.kept + (c.head-all.result.strand.count - c.loop-turn._turn) ≡ c.head-all.result.strand.count = omega
+          (arith, past, few, from, none) in k),
+    )
+
+pub returns-else-is_some-clause-stay : goal.returns-else-is_some-clause-stay
+returns-else-is_some-clause-stay g c =
+    let past = c.loop-turn-test.false in
+    let few = c.loop-turn.invariant.few in
+    let from = c.from.ensures in (
+      c.loop-turn.invariant.nodes,
+      λ none. c.loop-turn.invariant.same (let k : c.loop-turn.cursor.kept + (c.head-all.result.strand.count - c.loop-turn._turn) ≡ c.head-all.result.strand.count = omega
+          (arith, past, few, from, none) in k),
+    )

@@ -14,5 +14,7 @@ invariant-loop-turn g l = record {
   passed : HasPassed l.merge.successor l.merge.left l.snapshots;
   within : l.merge.left ≤ length l.snapshots;
   count : l.all ≡ length (list_in l.fn.arena l.place);
+  few : l.cursor.kept + (l.all - l._turn) ≤ l.all;
+  same : l.cursor.kept + (l.all - l._turn) ≡ l.all → l.arena ≡ l.fn.arena;
   cost : l.steps + l.merge.left ≡ l.fn.steps + l._turn + length l.snapshots;
 }

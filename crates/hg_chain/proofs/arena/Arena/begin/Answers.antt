@@ -43,5 +43,8 @@ returns-clause-here c =
     rw (new_heads c, c.set_head.ensures.nodes) (k.here ∙ ap (λ vs. open_write c.args.by c.args.image ∷ vs)
     (unopened c.args.by c.args.self.now.nodes.items h.is_open h.strand.count h.strand.first c.requires.no_other c.requires.not_open))
 
+pub returns-clause-behind : goal.returns-clause-behind
+returns-clause-behind c = let k = all c in rw (new_heads c, c.set_head.ensures.nodes) k.behind
+
 pub returns-clause-others : goal.returns-clause-others
 returns-clause-others c = λ q apart. let k = all c in rw (new_heads c, c.set_head.ensures.nodes) (k.others q apart)

@@ -1,10 +1,10 @@
-use Rattle.std.proofs.Common.{◌≡◌, ℕ, zero, suc, ◌<◌, ◌-◌, List, refl, ◌∙◌, ◌∷◌, true, false, ap, sym, subst, set, arith, length}
+use Rattle.std.proofs.Common.{◌≡◌, ℕ, zero, suc, ◌<◌, ◌-◌, List, refl, ◌∙◌, ◌∷◌, true, false, ap, sym, subst, set, drop, arith, length}
 use Rattle.std.proofs.lemmas.List.{length-set}
 use Rattle.hg_chain.specs.declared.node.Node.{Node}
 use Rattle.hg_chain.specs.declared.node.Head.{Head}
 use Rattle.hg_chain.specs.declared.node.Strand.{Strand}
 use Rattle.hg_chain.specs.Versions.{open_write}
-use Rattle.hg_chain.specs.Strands.{node_at, head_at, version_in, versions}
+use Rattle.hg_chain.specs.Strands.{node_at, head_at, version_in, versions, nodes_along}
 use Rattle.hg_chain.proofs.Removals.{First, first, first_within, free_within}
 use Rattle.hg_chain.proofs.Unlinks.{relinked}
 use Rattle.hg_chain.proofs.Writes.{Took, with_front, unopened}
@@ -99,6 +99,12 @@ returns-clause-here c =
     rw (new_heads c, new_nodes c)
     (k.here ∙ ap (λ (h2 : Head). version_in true (node c) ∷ versions c.args.self.now.nodes.items false h.strand.count h2.strand.first) c.head-first.ensures
     ∙ ap (λ vs. open_write c.args.by c.args.image ∷ vs) (unopened c.args.by c.args.self.now.nodes.items h.is_open h.strand.count h.strand.first c.requires.no_other c.requires.not_open))
+
+pub returns-clause-behind : goal.returns-clause-behind
+returns-clause-behind c =
+    let k = all c in
+    let h = head_at c.args.self.now.heads.items c.args.place in
+    rw (new_heads c, new_nodes c) (k.behind ∙ ap (λ (h2 : Head). drop 1 (nodes_along c.args.self.now.nodes.items h.strand.count h2.strand.first)) c.head-first.ensures)
 
 pub returns-clause-others : goal.returns-clause-others
 returns-clause-others c = λ q apart. let k = all c in rw (new_heads c, new_nodes c) (k.others q apart)

@@ -22,7 +22,7 @@ loop-head-preserved c =
     let now : c.loop-head.cursor.kept < (head_in c.args.self.now c.args.place).strand.count = (let e = ap (λ (h : Head). h.strand.count) c.head-head.ensures in omega (arith, e, less)) in
     rw c.pass-cursor.ensures
     (record {
-      at = next_at c.args.self.now c.args.place c.loop-head.cursor c.loop-head.invariant.at;
+      at = next_at c.args.self.now c.args.place c.loop-head.cursor c.loop-head.invariant.at.at;
       within = omega (arith, less);
       newer = newer_more c.args.self.now c.args.place c.args.bound c.loop-head.cursor c.loop-head.invariant.at now
           (ap (λ (h : Head). at_most c.args.bound h c.loop-head.cursor.kept (node_at c.args.self.now.nodes.items c.loop-head.cursor.at)) (sym c.head-head.ensures) ∙ b.1) c.loop-head.invariant.newer;

@@ -1,7 +1,7 @@
 use Rattle.std.proofs.Common.{◌≡◌, ◌+◌, ◌-◌, set}
 use Rattle.hg_chain.specs.declared.node.Strand.{Strand}
 use Rattle.hg_chain.specs.Strands.{head_at}
-use Rattle.hg_chain.proofs.Removals.{behind_first, without, first_within, popped_arena, popped_here, popped_others}
+use Rattle.hg_chain.proofs.Removals.{behind_first, without, first_within, popped_arena, popped_here, popped_nodes, popped_others}
 use Rattle.hg_chain.proofs.arena.Arena.pop.Goals as goal
 
 pub next-requires : goal.next-requires
@@ -28,6 +28,9 @@ returns-clause-arena c = rw (new_heads c, new_nodes c, new_free c)
 
 pub returns-clause-here : goal.returns-clause-here
 returns-clause-here c = rw (new_heads c, new_nodes c) (popped_here c.args.self.now.heads.items c.args.self.now.nodes.items c.args.self.now.free c.requires.arena c.args.place c.requires.some)
+
+pub returns-clause-behind : goal.returns-clause-behind
+returns-clause-behind c = rw (new_heads c, new_nodes c) (popped_nodes c.args.self.now.heads.items c.args.self.now.nodes.items c.args.self.now.free c.requires.arena c.args.place c.requires.some)
 
 pub returns-clause-others : goal.returns-clause-others
 returns-clause-others c = λ q apart. rw (new_heads c, new_nodes c)

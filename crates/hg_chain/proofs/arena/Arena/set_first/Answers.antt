@@ -38,5 +38,8 @@ returns-clause-arena c = let k = all c in rw (new_heads c, new_nodes c, c.set_he
 pub returns-clause-here : goal.returns-clause-here
 returns-clause-here c = let k = all c in rw (new_heads c, new_nodes c) k.here
 
+pub returns-clause-stay : goal.returns-clause-stay
+returns-clause-stay c = let k = all c in rw (new_heads c, new_nodes c) k.stay
+
 pub returns-clause-others : goal.returns-clause-others
 returns-clause-others c = λ q apart. let k = all c in rw (new_heads c, new_nodes c) (k.others q apart)

@@ -2,7 +2,7 @@ use Rattle.std.proofs.Common.{◌≡◌, ◌∙◌, sym, ap, set, subst, arith, 
 use Rattle.std.proofs.lemmas.List.{set-get_or}
 use Rattle.hg_chain.specs.declared.node.Node.{Node}
 use Rattle.hg_chain.specs.declared.node.Head.{Head}
-use Rattle.hg_chain.specs.Strands.{node_at, head_at, no_head, AreStrands, versions_of}
+use Rattle.hg_chain.specs.Strands.{node_at, head_at, no_head, AreStrands, versions_of, nodes_of, chain_of}
 use Rattle.hg_chain.proofs.Removals.{first_within}
 use Rattle.hg_chain.proofs.Rewrites.{Rewritten, rewritten, reimaged}
 use Rattle.hg_chain.proofs.arena.Arena.set_image.Goals as goal
@@ -41,5 +41,8 @@ returns-clause-here c =
     (λ i. versions_of (sym (new_nodes c) i) (head_at (sym (new_heads c) i) c.args.place)) ∙ k.here ∙
     reimaged by c.args.image c.args.self.now.nodes.items h.is_open h.strand.count h.strand.first open_write
 
+pub returns-clause-stay : goal.returns-clause-stay
+returns-clause-stay c = let k = all c in (λ i. nodes_of (sym (new_nodes c) i) (head_at (sym (new_heads c) i) c.args.place)) ∙ k.stay
+
 pub returns-clause-others : goal.returns-clause-others
-returns-clause-others c = λ q apart. let k = all c in (λ i. versions_of (sym (new_nodes c) i) (head_at (sym (new_heads c) i) q)) ∙ k.others q apart
+returns-clause-others c = λ q apart. let k = all c in (λ i. chain_of (sym (new_nodes c) i) (head_at (sym (new_heads c) i) q)) ∙ k.others q apart

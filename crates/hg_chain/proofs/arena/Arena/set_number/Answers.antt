@@ -39,5 +39,8 @@ returns-clause-here c =
     let h = head_at c.args.self.now.heads.items c.args.place in
     rw (new_heads c, new_nodes c) (k.here ∙ renumbered by c.args.number c.args.self.now.nodes.items h.is_open h.strand.count h.strand.first open_write)
 
+pub returns-clause-stay : goal.returns-clause-stay
+returns-clause-stay c = let k = all c in rw (new_heads c, new_nodes c) k.stay
+
 pub returns-clause-others : goal.returns-clause-others
 returns-clause-others c = λ q apart. let k = all c in rw (new_heads c, new_nodes c) (k.others q apart)

@@ -2,8 +2,8 @@ use Rattle.std.proofs.Common.{◌≡◌, ◌+◌, ◌∷◌, ◌++◌, ◌∙◌
 use Rattle.hg_chain.specs.declared.version.Stamp.TheVariants.{Numbered}
 use Rattle.hg_chain.specs.declared.version.Version.{Version}
 use Rattle.hg_chain.specs.Strands.{node_at, version_in}
-use Rattle.hg_chain.specs.Arenas.{head_in, list_in}
-use Rattle.hg_chain.proofs.Covers.{behind_one, one_passed, second_is}
+use Rattle.hg_chain.specs.Arenas.{head_in, list_in, nodes_in}
+use Rattle.hg_chain.proofs.Covers.{behind_one, one_passed, second_is, third_on}
 use Rattle.hg_chain.proofs.Unlinks.{walk_within}
 use Rattle.hg_chain.proofs.arena.Arena.uncover.Goals as goal
 
@@ -27,8 +27,17 @@ returns-clause-here c =
     let all = list_in c.args.self.now c.args.place in
     let kept = one_passed nodes c.start-first.result c.pass-second.result c.start-first.ensures.kept c.pass-second.ensures in
     let at = behind_one nodes h.strand.first c.start-first.result c.pass-second.result c.start-first.ensures.at.at c.start-first.ensures.kept c.pass-second.ensures in
-    let left : list_in c.unlink-number.new.self c.args.place ≡ take 1 all ++ drop 2 all = c.unlink-number.ensures.here ∙ (λ i. take (kept i) all ++ drop (kept i + 1) all) in
+    let left : list_in c.unlink-number.new.self c.args.place ≡ take 1 all ++ drop 2 all = ap (λ x. x.0) c.unlink-number.ensures.here ∙ (λ i. take (kept i) all ++ drop (kept i + 1) all) in
     c.set_first.ensures.here
     ∙ (λ i. (let v : Version = record { stamp = Numbered (c.unlink-number.ensures.held i).0 (c.writer-by.ensures i); image = (c.unlink-number.ensures.held i).1 } in v) ∷ drop 1 (left i))
     ∙ ap (λ j. version_in false (node_at nodes j) ∷ drop 1 (take 1 all ++ drop 2 all)) at
     ∙ second_is nodes h.is_open h.strand.count h.strand.first c.requires.some
+
+pub returns-clause-behind : goal.returns-clause-behind
+returns-clause-behind c =
+    let nodes = c.args.self.now.nodes.items in
+    let h = head_in c.args.self.now c.args.place in
+    let all = nodes_in c.args.self.now c.args.place in
+    let kept = one_passed nodes c.start-first.result c.pass-second.result c.start-first.ensures.kept c.pass-second.ensures in
+    let left : nodes_in c.unlink-number.new.self c.args.place ≡ take 1 all ++ drop 2 all = ap (λ x. x.1) c.unlink-number.ensures.here ∙ (λ i. take (kept i) all ++ drop (kept i + 1) all) in
+    ap (drop 1) (c.set_first.ensures.stay ∙ left) ∙ third_on nodes h.strand.count h.strand.first c.requires.some

@@ -4,6 +4,8 @@ use Rattle.hg_chain.specs.Versions.{IsChain, left_by, oldest_at, others_at}
 use Rattle.hg_chain.specs.Arenas.{list_in}
 use Rattle.hg_chain.proofs.Cuts.{left_is_chain}
 use Rattle.hg_chain.proofs.Held.{list_seen, list_was, others_seen, nodes_seen, nodes_were, holds_after, walk_less, walk_left, walk_others, all_left, none_gone, none_found, nothing_out, handed_out}
+use Rattle.hg_chain.specs.Landmarks.{landmarks_of}
+use Rattle.hg_chain.proofs.LandmarkFacts.{no_landmarks}
 use Rattle.hg_chain.proofs.chains.Chains.cut.Goals as goal
 
 -- nothing is at the bound
@@ -62,8 +64,9 @@ pub invariant_of-self : goal.invariant_of-self
 invariant_of-self c =
     let a = c.self.inside.arena in
     let left = c.remove_behind.ensures.left ∙ walk_left a c.args.place c.args.bound c.passed-cursor.result.kept (c.self.invariant.chains c.args.place) c.passed-cursor.ensures.kept in
-    holds_after a c.remove_behind.new.arena c.args.place c.self.invariant c.remove_behind.ensures.arena
-    (subst IsChain (sym left) (left_is_chain c.args.bound (list_in a c.args.place) (c.self.invariant.chains c.args.place))) c.remove_behind.ensures.others
+    holds_after a c.remove_behind.new.arena c.self.inside.landmarks c.clear.new.self c.args.place c.self.invariant c.remove_behind.ensures.arena
+    (subst IsChain (sym left) (left_is_chain c.args.bound (list_in a c.args.place) (c.self.invariant.chains c.args.place))) c.remove_behind.ensures.others c.clear.ensures.others
+    (no_landmarks c.remove_behind.new.arena c.args.place (landmarks_of c.clear.new.self c.args.place) c.clear.ensures.here)
 
 pub returns-clause-left : goal.returns-clause-left
 returns-clause-left c =

@@ -1,0 +1,49 @@
+-- Landmarks of chains, and what the chains of all places are, with their landmarks.
+use Rattle.std.specs.Prelude.{◌≡◌, ℕ, ◌+◌, ◌-◌, ◌<◌, ◌≤◌, List, [], length, map, slice_index_or, Option, Some, None, Vec}
+use Rattle.std.specs.declared.alloc.Global.{Global}
+use Rattle.hg_base.specs.Lists.{Each}
+use Rattle.hg_chain.specs.declared.version.Stamp.{Stamp}
+use Rattle.hg_chain.specs.declared.version.Stamp.TheVariants.{Written, Numbered}
+use Rattle.hg_chain.specs.declared.version.Version.{Version}
+use Rattle.hg_chain.specs.declared.landmarks.Landmark.{Landmark}
+use Rattle.hg_chain.specs.declared.landmarks.Landmarks.{Landmarks}
+use Rattle.hg_chain.specs.declared.arena.Arena.{Arena}
+use Rattle.hg_chain.specs.Versions.{IsChain, newest}
+use Rattle.hg_chain.specs.Arenas.{IsArena, list_in, nodes_in}
+
+-- the landmarks of a place: none past the end
+abbrev pub landmarks_at : List (Vec Landmark Global) → ℕ → List Landmark
+landmarks_at lists p = slice_index_or (map (λ v. v.items) lists) p []
+
+abbrev pub landmarks_of : Landmarks → ℕ → List Landmark
+landmarks_of ms p = landmarks_at ms.lists.items p
+
+-- how many versions in front may leave their nodes, so that they have no landmark: the first one, and the next if the first may be undone
+abbrev pub movable_by : Option Stamp → ℕ
+movable_by None = 1
+movable_by (Some (Written w)) = 2
+movable_by (Some (Numbered number by)) = 1
+
+abbrev pub movable : List Version → ℕ
+movable vs = movable_by (newest vs)
+
+-- a landmark names the node that is so many versions before the end of the chain
+pub record IsLandmark (vs : List Version) (nodes : List ℕ) (m : Landmark) : Type 0 where
+  pub some : 0 < m.height
+  pub behind : m.height + movable vs ≤ length nodes
+  pub node : slice_index_or nodes (length nodes - m.height) 0 ≡ m.node
+
+abbrev pub IsLandmarkIn : Arena → ℕ → Landmark → Type 0
+IsLandmarkIn a p m = IsLandmark (list_in a p) (nodes_in a p) m
+
+abbrev pub HasLandmarks : Arena → ℕ → List Landmark → Type 0
+HasLandmarks a p ms = Each (IsLandmarkIn a p) ms
+
+abbrev pub AreLandmarks : Arena → Landmarks → Type 0
+AreLandmarks a ms = (p : ℕ) → HasLandmarks a p (landmarks_of ms p)
+
+-- each place's versions are a chain
+pub record Holds (a : Arena) (ms : Landmarks) : Type 0 where
+  pub strands : IsArena a
+  pub chains : (p : ℕ) → IsChain (list_in a p)
+  pub landmarks : AreLandmarks a ms
