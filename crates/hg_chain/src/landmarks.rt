@@ -140,7 +140,7 @@ impl Landmarks {
         nearest
     }
 
-    /// Where a walk to the versions at the bound starts: before the first version, or behind a landmark that is over the bound.
+    /// Where a walk to the versions at the bound starts: before the first version, or after a landmark that is over the bound.
     pub fn start(&self, arena: &Arena, place: u64, bound: u64) -> Cursor
         requires arena { IsArena arena.now }
         requires chain { IsChain (list_in arena.now place) }
