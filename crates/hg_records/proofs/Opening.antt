@@ -105,10 +105,10 @@ cursored_at before (e ∷ es) (suc i) d less h =
 
 stored_opens : (ns : List ℤ) (rows : List (List Value)) (p : Packed) → table_opened p ≡ opens (statement_in ns rows p)
 stored_opens ns rows (Begin scope) = refl
-stored_opens ns rows (Get rid) = refl
-stored_opens ns rows (Put rid span) = refl
-stored_opens ns rows (PutRow rid i) = refl
-stored_opens ns rows (Del rid) = refl
+stored_opens ns rows (Get table key) = refl
+stored_opens ns rows (Put table count first key) = refl
+stored_opens ns rows (PutRow table i key) = refl
+stored_opens ns rows (Del table key) = refl
 stored_opens ns rows (Scan table low high) = refl
 stored_opens ns rows (CursorOpen table low high) = refl
 stored_opens ns rows (Fetch n cursor) = refl

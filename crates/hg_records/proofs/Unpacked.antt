@@ -19,7 +19,7 @@ use Rattle.hg_records.specs.declared.statements.Entry.{Entry}
 use Rattle.hg_records.specs.declared.packed.Packed.{Packed}
 use Rattle.hg_records.specs.declared.packed.Packed.TheVariants.{Begin, Get, Put, PutRow, Del, Scan, CursorOpen, Fetch, CursorClose, Commit, Rollback, Gc}
 use Rattle.hg_records.specs.Links.{led, sessions_in}
-use Rattle.hg_records.specs.Packed.{HasRow, HasSession, IsWithin, added, added_rows, packed_as, statement_in, unpacked}
+use Rattle.hg_records.specs.Packed.{HasRow, HasSession, IsWithin, added, added_rows, packed_as, rid_at, statement_in, unpacked}
 
 -- ---- one statement
 
@@ -57,10 +57,10 @@ row_stays ns more first count within = rw (drop-append-le first ns more (omega (
 
 stays : (ns more : List ℤ) (rows others : List (List Value)) (p : Packed) → HasRow (length ns) (length rows) p → statement_in (ns ++ more) (rows ++ others) p ≡ statement_in ns rows p
 stays ns more rows others (Begin scope) h = refl
-stays ns more rows others (Get rid) h = refl
-stays ns more rows others (Put rid span) h = ap (λ xs. say.Put rid (map Number xs)) (row_stays ns more span.first span.count h.2)
-stays ns more rows others (PutRow rid i) h = ap (say.Put rid) (get_or-append rows others [] i h)
-stays ns more rows others (Del rid) h = refl
+stays ns more rows others (Get table key) h = refl
+stays ns more rows others (Put table count first key) h = ap (λ xs. say.Put (rid_at table key) (map Number xs)) (row_stays ns more first count h.2)
+stays ns more rows others (PutRow table i key) h = ap (say.Put (rid_at table key)) (get_or-append rows others [] i h)
+stays ns more rows others (Del table key) h = refl
 stays ns more rows others (Scan table low high) h = refl
 stays ns more rows others (CursorOpen table low high) h = refl
 stays ns more rows others (Fetch n cursor) h = refl
@@ -71,10 +71,10 @@ stays ns more rows others (Gc kind) h = refl
 
 more_room : (n m k l : ℕ) (p : Packed) → n ≤ m → k ≤ l → HasRow n k p → HasRow m l p
 more_room n m k l (Begin scope) le less h = tt
-more_room n m k l (Get rid) le less h = tt
-more_room n m k l (Put rid span) le less h = (h.0, h.1, omega (arith, le, h.2))
-more_room n m k l (PutRow rid i) le less h = omega (arith, less, h)
-more_room n m k l (Del rid) le less h = tt
+more_room n m k l (Get table key) le less h = tt
+more_room n m k l (Put table count first key) le less h = (h.0, h.1, omega (arith, le, h.2))
+more_room n m k l (PutRow table i key) le less h = omega (arith, less, h)
+more_room n m k l (Del table key) le less h = tt
 more_room n m k l (Scan table low high) le less h = tt
 more_room n m k l (CursorOpen table low high) le less h = tt
 more_room n m k l (Fetch most cursor) le less h = tt

@@ -2,6 +2,7 @@
 use Rattle.std.specs.Prelude.{ℕ, ℤ, ◌+◌, ◌<◌, ◌≤◌, List, [], ◌∷◌, length, map, take, drop, get_or, Option, if◌then◌else◌, ⊤}
 use Rattle.std.specs.List.{list_any}
 use Rattle.hg_base.specs.declared.limits.TheConstants.{MOST_COLUMNS, MOST_SESSIONS}
+use Rattle.hg_base.specs.declared.rid.Rid.{Rid}
 use Rattle.hg_base.specs.declared.rid.TableId.{TableId}
 use Rattle.hg_base.specs.declared.statement.Statement.{Statement}
 use Rattle.hg_base.specs.declared.statement.Statement.TheVariants as say
@@ -12,13 +13,16 @@ use Rattle.hg_records.specs.declared.statements.Entry.{Entry}
 use Rattle.hg_records.specs.declared.packed.Packed.{Packed}
 use Rattle.hg_records.specs.declared.packed.Packed.TheVariants.{Begin, Get, Put, PutRow, Del, Scan, CursorOpen, Fetch, CursorClose, Commit, Rollback, Gc}
 
+abbrev pub rid_at : TableId → ℕ → Rid
+rid_at table key = record { table = table; key = key }
+
 -- the statement, where these are all numbers and all rows with a text
 abbrev pub statement_in : List ℤ → List (List Value) → Packed → Statement
 statement_in numbers rows (Begin scope) = say.Begin scope
-statement_in numbers rows (Get rid) = say.Get rid
-statement_in numbers rows (Put rid span) = say.Put rid (map Number (take span.count (drop span.first numbers)))
-statement_in numbers rows (PutRow rid i) = say.Put rid (get_or rows i [])
-statement_in numbers rows (Del rid) = say.Del rid
+statement_in numbers rows (Get table key) = say.Get (rid_at table key)
+statement_in numbers rows (Put table count first key) = say.Put (rid_at table key) (map Number (take count (drop first numbers)))
+statement_in numbers rows (PutRow table i key) = say.Put (rid_at table key) (get_or rows i [])
+statement_in numbers rows (Del table key) = say.Del (rid_at table key)
 statement_in numbers rows (Scan table low high) = say.Scan table low high
 statement_in numbers rows (CursorOpen table low high) = say.CursorOpen table low high
 statement_in numbers rows (Fetch n cursor) = say.Fetch n
@@ -33,8 +37,8 @@ unpacked numbers rows e = (e.session, statement_in numbers rows e.packed)
 
 -- its row is among so many numbers, or so many rows
 abbrev pub HasRow : ℕ → ℕ → Packed → Type 0
-HasRow numbers rows (Put rid span) = (1 ≤ span.count) × (span.count ≤ MOST_COLUMNS) × (span.first + span.count ≤ numbers)
-HasRow numbers rows (PutRow rid i) = i < rows
+HasRow numbers rows (Put table count first key) = (1 ≤ count) × (count ≤ MOST_COLUMNS) × (first + count ≤ numbers)
+HasRow numbers rows (PutRow table i key) = i < rows
 HasRow numbers rows _ = ⊤
 
 abbrev pub IsWithin : ℕ → ℕ → Entry → Type 0
@@ -47,9 +51,9 @@ HasSession e = e.session ≤ MOST_SESSIONS
 -- session opened last.
 abbrev pub packed_as : Option TableId → ℕ → ℕ → Statement → Packed
 packed_as cursor numbers rows (say.Begin scope) = Begin scope
-packed_as cursor numbers rows (say.Get rid) = Get rid
-packed_as cursor numbers rows (say.Put rid row) = if list_any is_text row then PutRow rid rows else Put rid (record { first = numbers; count = length row })
-packed_as cursor numbers rows (say.Del rid) = Del rid
+packed_as cursor numbers rows (say.Get rid) = Get rid.table rid.key
+packed_as cursor numbers rows (say.Put rid row) = if list_any is_text row then PutRow rid.table rows rid.key else Put rid.table (length row) numbers rid.key
+packed_as cursor numbers rows (say.Del rid) = Del rid.table rid.key
 packed_as cursor numbers rows (say.Scan table low high) = Scan table low high
 packed_as cursor numbers rows (say.CursorOpen table low high) = CursorOpen table low high
 packed_as cursor numbers rows (say.Fetch n) = Fetch n cursor

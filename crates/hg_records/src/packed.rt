@@ -13,24 +13,42 @@ use crate::asked::Asked;
 use hg_base::{Kind, MOST_COLUMNS, NoMemory, Rid, Row, Scope, Statement, TableId};
 use std::alloc::Global;
 
-/// Where the numbers of a row are among all numbers.
-#[derive(Clone, Copy)]
-pub(crate) struct Span {
-    first: u32,
-    count: u8,
-}
-
-/// A statement. The values of a put are kept elsewhere.
+/// A statement. The values of a put are kept elsewhere. Fields lie in the order in which they are written, the narrow ones next to the
+/// tag.
 #[derive(Clone, Copy)]
 pub(crate) enum Packed {
     Begin(Scope),
-    Get(Rid),
-    Put(Rid, Span),
+    Get {
+        table: TableId,
+        key: u64,
+    },
+    /// A row of numbers, by how many they are and the place of the first among all numbers.
+    Put {
+        table: TableId,
+        count: u8,
+        first: u32,
+        key: u64,
+    },
     /// A row with a text, by its place among such rows.
-    PutRow(Rid, u32),
-    Del(Rid),
-    Scan { table: TableId, low: u64, high: u64 },
-    CursorOpen { table: TableId, low: u64, high: u64 },
+    PutRow {
+        table: TableId,
+        place: u32,
+        key: u64,
+    },
+    Del {
+        table: TableId,
+        key: u64,
+    },
+    Scan {
+        table: TableId,
+        low: u64,
+        high: u64,
+    },
+    CursorOpen {
+        table: TableId,
+        low: u64,
+        high: u64,
+    },
     /// The number of rows, and the table of the session's cursor.
     Fetch(u32, Option<TableId>),
     CursorClose,
@@ -47,10 +65,10 @@ impl Packed {
     {
         match self {
             Packed::Begin(_) => Asked::Begin,
-            Packed::Get(rid) => Asked::Get(rid.table),
-            Packed::Put(rid, _) => Asked::Put(rid.table),
-            Packed::PutRow(rid, _) => Asked::Put(rid.table),
-            Packed::Del(rid) => Asked::Del(rid.table),
+            Packed::Get { table, .. } => Asked::Get(table),
+            Packed::Put { table, .. } => Asked::Put(table),
+            Packed::PutRow { table, .. } => Asked::Put(table),
+            Packed::Del { table, .. } => Asked::Del(table),
             Packed::Scan { table, .. } => Asked::Scan(table),
             Packed::CursorOpen { table, .. } => Asked::CursorOpen(table),
             Packed::Fetch(_, cursor) => Asked::Fetch(cursor),
@@ -83,15 +101,21 @@ fn pack_put(
     ensures err { OnErr result (numbers.new.items ≡ numbers.old.items) }
     ensures rows_err { OnErr result (rows.new.items ≡ rows.old.items) }
 {
+    let Rid { table, key } = rid;
     let count = row.len() as u8;
     if let Some(own) = row.numbers() {
         let first = numbers.len() as u32;
         numbers.extend_from_slice(own)?;
-        return Ok(Packed::Put(rid, Span { first, count }));
+        return Ok(Packed::Put {
+            table,
+            count,
+            first,
+            key,
+        });
     }
     let place = rows.len() as u32;
     rows.push(row)?;
-    Ok(Packed::PutRow(rid, place))
+    Ok(Packed::PutRow { table, place, key })
 }
 
 /// Takes the statement apart. `cursor` is the table of the cursor that its session opened last.
@@ -116,9 +140,9 @@ pub(crate) fn pack(
 {
     Ok(match statement {
         Statement::Begin(scope) => Packed::Begin(scope),
-        Statement::Get(rid) => Packed::Get(rid),
+        Statement::Get(Rid { table, key }) => Packed::Get { table, key },
         Statement::Put(rid, row) => pack_put(numbers, rows, rid, row)?,
-        Statement::Del(rid) => Packed::Del(rid),
+        Statement::Del(Rid { table, key }) => Packed::Del { table, key },
         Statement::Scan { table, low, high } => Packed::Scan { table, low, high },
         Statement::CursorOpen { table, low, high } => Packed::CursorOpen { table, low, high },
         Statement::Fetch(most) => Packed::Fetch(most, cursor),
@@ -129,17 +153,15 @@ pub(crate) fn pack(
     })
 }
 
-// The put whose row has the numbers of this span.
-fn unpack_put(alloc: Global, numbers: &[i64], rid: Rid, span: Span) -> Result<Statement, NoMemory>
-    requires some { 1 ≤ span.count }
-    requires most { span.count ≤ MOST_COLUMNS }
-    requires within { span.first + span.count ≤ length numbers.now }
-    ensures { IfOk result
-        (λ s. s ≡ say.Put rid (map Number (take span.count (drop span.first numbers.now)))) }
+// The row of so many numbers, from the one at `first` on.
+fn unpack_row(alloc: Global, numbers: &[i64], first: u32, count: u8) -> Result<Row, NoMemory>
+    requires some { 1 ≤ count }
+    requires most { count ≤ MOST_COLUMNS }
+    requires within { first + count ≤ length numbers.now }
+    ensures { IfOk result (λ row. row ≡ map Number (take count (drop first numbers.now))) }
 {
-    let first = span.first as usize;
-    let row = Row::from_slice(alloc, &numbers[first..first + span.count as usize])?;
-    Ok(Statement::Put(rid, row))
+    let first = first as usize;
+    Row::from_slice(alloc, &numbers[first..first + count as usize])
 }
 
 /// Puts a statement together. A row of one or two numbers takes no memory.
@@ -154,10 +176,22 @@ pub(crate) fn unpack(
 {
     Ok(match packed {
         Packed::Begin(scope) => Statement::Begin(scope),
-        Packed::Get(rid) => Statement::Get(rid),
-        Packed::Put(rid, span) => return unpack_put(alloc, numbers, rid, span),
-        Packed::PutRow(rid, i) => Statement::Put(rid, rows[i as usize].copy()?),
-        Packed::Del(rid) => Statement::Del(rid),
+        Packed::Get { table, key } => Statement::Get(Rid { table, key }),
+        Packed::Put {
+            table,
+            count,
+            first,
+            key,
+        } => {
+            Statement::Put(
+                Rid { table, key },
+                unpack_row(alloc, numbers, first, count)?,
+            )
+        }
+        Packed::PutRow { table, place, key } => {
+            Statement::Put(Rid { table, key }, rows[place as usize].copy()?)
+        }
+        Packed::Del { table, key } => Statement::Del(Rid { table, key }),
         Packed::Scan { table, low, high } => Statement::Scan { table, low, high },
         Packed::CursorOpen { table, low, high } => Statement::CursorOpen { table, low, high },
         Packed::Fetch(most, _) => Statement::Fetch(most),

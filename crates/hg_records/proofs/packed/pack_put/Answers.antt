@@ -10,8 +10,9 @@ pub returns-in-Some-clause-packed : goal.returns-in-Some-clause-packed
 returns-in-Some-clause-packed c =
     let none : list_any is_text c.args.row ≡ false = ap (list_any is_text) c.in-Some.ensures.some ∙ no_texts c.in-Some.own.now in
     let first : c.len-first.result ≡ length c.args.numbers.now.items = search rules in
-    rw none (ap (λ n. Put c.args.rid (record { first = n; count = c.len-count.result })) first ∙
-    ap (λ n. Put c.args.rid (record { first = length c.args.numbers.now.items; count = n })) c.len-count.ensures.same)
+    let rid = c.args.rid in
+    rw none (ap (λ n. Put rid.table c.len-count.result n rid.key) first ∙
+    ap (λ n. Put rid.table n (length c.args.numbers.now.items) rid.key) c.len-count.ensures.same)
 
 pub returns-in-Some-clause-numbers : goal.returns-in-Some-clause-numbers
 returns-in-Some-clause-numbers c =
