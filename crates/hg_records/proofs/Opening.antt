@@ -1,8 +1,9 @@
 -- The table of each session's last cursor, and what one more statement changes.
-use Rattle.std.proofs.Common.{◌≡◌, ◌<◌, ◌+◌, ◌==◌, ◌∙◌, ℕ, zero, suc, ℤ, List, [], ◌∷◌, ◌++◌, length, map, take, get_or, Option, Some, None, if◌then◌else◌, refl, sym, ap, subst, arith, append_assoc}
+use Rattle.std.proofs.Common.{◌≡◌, ◌<◌, ◌==◌, ◌∙◌, ℕ, zero, suc, ℤ, List, [], ◌∷◌, ◌++◌, length, map, take, get_or, Option, Some, None, if◌then◌else◌, refl, sym, ap, subst, arith, append_assoc}
 use Rattle.std.specs.List.{list_any}
 use Rattle.std.specs.Option.{option_or}
 use Rattle.hg_base.specs.declared.rid.TableId.{TableId}
+use Rattle.hg_base.specs.declared.scope.Scope.TheVariants.{All, Declared}
 use Rattle.hg_base.specs.declared.statement.Statement.{Statement}
 use Rattle.hg_base.specs.declared.statement.Statement.TheVariants as say
 use Rattle.hg_base.specs.declared.value.Value.{Value}
@@ -11,7 +12,7 @@ use Rattle.hg_base.specs.Values.{is_text}
 use Rattle.hg_base.proofs.ListFacts.{append_nil, cases}
 use Rattle.hg_records.specs.declared.statements.Entry.{Entry}
 use Rattle.hg_records.specs.declared.packed.Packed.{Packed}
-use Rattle.hg_records.specs.declared.packed.Packed.TheVariants.{Begin, Get, Put, PutRow, Del, Scan, CursorOpen, Fetch, CursorClose, Commit, Rollback, Gc}
+use Rattle.hg_records.specs.declared.packed.Packed.TheVariants.{Begin, BeginDeclared, Get, Put, PutRow, Del, Scan, CursorOpen, Fetch, CursorClose, Commit, Rollback, Gc}
 use Rattle.hg_records.specs.Cursors.{AreCursored, HasCursor, cursor_among, cursor_in, table_opened}
 use Rattle.hg_records.specs.Links.{led}
 use Rattle.hg_records.specs.Packed.{packed_as, statement_in, unpacked}
@@ -30,7 +31,8 @@ or_parts (Some t) b c = refl
 
 -- a stored statement opens a cursor on the same table as the statement
 pub packed_opens : (cursor : Option TableId) (n k : ℕ) (s : Statement) → table_opened (packed_as cursor n k s) ≡ opens s
-packed_opens cursor n k (say.Begin scope) = refl
+packed_opens cursor n k (say.Begin All) = refl
+packed_opens cursor n k (say.Begin (Declared mask)) = refl
 packed_opens cursor n k (say.Get rid) = refl
 packed_opens cursor n k (say.Put rid row) = cases (list_any is_text row) (λ e. rw e refl) (λ e. rw e refl)
 packed_opens cursor n k (say.Del rid) = refl
@@ -43,7 +45,8 @@ packed_opens cursor n k say.Rollback = refl
 packed_opens cursor n k (say.Gc kind) = refl
 
 pub packed_has : (cursor : Option TableId) (n k : ℕ) (s : Statement) → HasCursor cursor (packed_as cursor n k s)
-packed_has cursor n k (say.Begin scope) = tt
+packed_has cursor n k (say.Begin All) = tt
+packed_has cursor n k (say.Begin (Declared mask)) = tt
 packed_has cursor n k (say.Get rid) = tt
 packed_has cursor n k (say.Put rid row) = cases (list_any is_text row) (λ e. rw e tt) (λ e. rw e tt)
 packed_has cursor n k (say.Del rid) = tt
@@ -104,13 +107,14 @@ cursored_at before (e ∷ es) (suc i) d less h =
     (cursored_at (before ++ e ∷ []) es i d (omega (arith, less)) h.1)
 
 stored_opens : (ns : List ℤ) (rows : List (List Value)) (p : Packed) → table_opened p ≡ opens (statement_in ns rows p)
-stored_opens ns rows (Begin scope) = refl
+stored_opens ns rows Begin = refl
+stored_opens ns rows (BeginDeclared mask) = refl
 stored_opens ns rows (Get table key) = refl
 stored_opens ns rows (Put table count first key) = refl
 stored_opens ns rows (PutRow table i key) = refl
 stored_opens ns rows (Del table key) = refl
-stored_opens ns rows (Scan table low high) = refl
-stored_opens ns rows (CursorOpen table low high) = refl
+stored_opens ns rows (Scan table first) = refl
+stored_opens ns rows (CursorOpen table first) = refl
 stored_opens ns rows (Fetch n cursor) = refl
 stored_opens ns rows CursorClose = refl
 stored_opens ns rows Commit = refl

@@ -1,7 +1,9 @@
 -- Statements whose values stand in one list.
-use Rattle.std.proofs.Common.{◌≡◌, ◌≤◌, ◌<◌, ◌+◌, ◌∙◌, ℕ, zero, suc, ℤ, false, List, [], ◌∷◌, ◌++◌, length, length-drop, map, take, drop, max, fold, get_or, Option, None, refl, ap, arith}
+use Rattle.std.proofs.Common.{◌≡◌, ◌≤◌, ◌<◌, ◌+◌, ◌^◌, ◌∙◌, ℕ, zero, suc, ℤ, false, List, [], ◌∷◌, ◌++◌, length, length-drop, map, take, drop, max, fold, get_or, Option, None, refl, ap, arith}
 use Rattle.std.proofs.Common.{length-append}
+use Rattle.std.specs.Int.{w64}
 use Rattle.std.specs.List.{list_any}
+use Rattle.std.proofs.lemmas.Int.{of_z-to_z}
 use Rattle.std.proofs.Math.ListN.{get_or-append}
 use Rattle.std.proofs.Math.Seq.{get_or-append_seam, take-append-le, drop-append-le, drop-append_seam}
 use Rattle.std.proofs.lemmas.List.{length-map, map-append, take_all}
@@ -11,15 +13,16 @@ use Rattle.hg_base.specs.declared.rid.TableId.{TableId}
 use Rattle.hg_base.specs.declared.value.Value.{Value}
 use Rattle.hg_base.specs.declared.value.Value.TheVariants.{Number}
 use Rattle.hg_base.specs.Values.{is_text, number_of}
+use Rattle.hg_base.specs.declared.scope.Scope.TheVariants.{All, Declared}
 use Rattle.hg_base.specs.declared.statement.Statement.{Statement}
 use Rattle.hg_base.specs.declared.statement.Statement.TheVariants as say
 use Rattle.hg_base.proofs.ListFacts.{cases, each_keeps}
 use Rattle.hg_base.proofs.Numbers.{numbers_alone}
 use Rattle.hg_records.specs.declared.statements.Entry.{Entry}
 use Rattle.hg_records.specs.declared.packed.Packed.{Packed}
-use Rattle.hg_records.specs.declared.packed.Packed.TheVariants.{Begin, Get, Put, PutRow, Del, Scan, CursorOpen, Fetch, CursorClose, Commit, Rollback, Gc}
+use Rattle.hg_records.specs.declared.packed.Packed.TheVariants.{Begin, BeginDeclared, Get, Put, PutRow, Del, Scan, CursorOpen, Fetch, CursorClose, Commit, Rollback, Gc}
 use Rattle.hg_records.specs.Links.{led, sessions_in}
-use Rattle.hg_records.specs.Packed.{HasRow, HasSession, IsWithin, added, added_rows, packed_as, rid_at, statement_in, unpacked}
+use Rattle.hg_records.specs.Packed.{HasKeys, HasSession, HasValues, IsWithin, added, added_rows, key_at, keys_in, packed_as, packed_keys, rid_at, statement_in, unpacked}
 
 -- ---- one statement
 
@@ -38,45 +41,65 @@ put_back ns rows rid row = cases (list_any is_text row)
     (λ e. rw e (ap (say.Put rid) (get_or-append_seam rows row [] [])))
     (λ e. rw e (rw (drop-append_seam ns (map number_of row), take_all (length row) (map number_of row) (omega (arith, length-map row number_of))) (ap (say.Put rid) (numbers_alone row e))))
 
-pub comes_back : (cursor : Option TableId) (ns : List ℤ) (rows : List (List Value)) (s : Statement) →
+keys_back : (ns : List ℤ) (low high : ℕ) → low < 2 ^ 64 → high < 2 ^ 64 → keys_in (length ns) (ns ++ packed_keys low high) ≡ (low, high)
+keys_back ns low high small few = rw (drop-append_seam ns (packed_keys low high), of_z-to_z w64 low small, of_z-to_z w64 high few) refl
+
+pub comes_back : (cursor : Option TableId) (ns : List ℤ) (rows : List (List Value)) (s : Statement) → HasKeys s →
     statement_in (ns ++ added s) (rows ++ added_rows s) (packed_as cursor (length ns) (length rows) s) ≡ s
-comes_back cursor ns rows (say.Begin scope) = refl
-comes_back cursor ns rows (say.Get rid) = refl
-comes_back cursor ns rows (say.Put rid row) = put_back ns rows rid row
-comes_back cursor ns rows (say.Del rid) = refl
-comes_back cursor ns rows (say.Scan table low high) = refl
-comes_back cursor ns rows (say.CursorOpen table low high) = refl
-comes_back cursor ns rows (say.Fetch n) = refl
-comes_back cursor ns rows say.CursorClose = refl
-comes_back cursor ns rows say.Commit = refl
-comes_back cursor ns rows say.Rollback = refl
-comes_back cursor ns rows (say.Gc kind) = refl
+comes_back cursor ns rows (say.Begin All) h = refl
+comes_back cursor ns rows (say.Begin (Declared mask)) h = refl
+comes_back cursor ns rows (say.Get rid) h = refl
+comes_back cursor ns rows (say.Put rid row) h = put_back ns rows rid row
+comes_back cursor ns rows (say.Del rid) h = refl
+comes_back cursor ns rows (say.Scan table low high) h = ap (λ (keys : ℕ × ℕ). say.Scan table keys.0 keys.1) (keys_back ns low high h.0 h.1)
+comes_back cursor ns rows (say.CursorOpen table low high) h = ap (λ (keys : ℕ × ℕ). say.CursorOpen table keys.0 keys.1) (keys_back ns low high h.0 h.1)
+comes_back cursor ns rows (say.Fetch n) h = refl
+comes_back cursor ns rows say.CursorClose h = refl
+comes_back cursor ns rows say.Commit h = refl
+comes_back cursor ns rows say.Rollback h = refl
+comes_back cursor ns rows (say.Gc kind) h = refl
+
+-- at most one row is added
+pub one_row : (s : Statement) → length (added_rows s) ≤ 1
+one_row (say.Begin scope) = omega arith
+one_row (say.Get rid) = omega arith
+one_row (say.Put rid row) = cases (list_any is_text row) (λ e. rw e (omega arith)) (λ e. rw e (omega arith))
+one_row (say.Del rid) = omega arith
+one_row (say.Scan table low high) = omega arith
+one_row (say.CursorOpen table low high) = omega arith
+one_row (say.Fetch n) = omega arith
+one_row say.CursorClose = omega arith
+one_row say.Commit = omega arith
+one_row say.Rollback = omega arith
+one_row (say.Gc kind) = omega arith
 
 row_stays : (ns more : List ℤ) (first count : ℕ) → first + count ≤ length ns → take count (drop first (ns ++ more)) ≡ take count (drop first ns)
 row_stays ns more first count within = rw (drop-append-le first ns more (omega (arith, within))) (take-append-le count (drop first ns) more (omega (arith, within, length-drop first ns)))
 
-stays : (ns more : List ℤ) (rows others : List (List Value)) (p : Packed) → HasRow (length ns) (length rows) p → statement_in (ns ++ more) (rows ++ others) p ≡ statement_in ns rows p
-stays ns more rows others (Begin scope) h = refl
+stays : (ns more : List ℤ) (rows others : List (List Value)) (p : Packed) → HasValues (length ns) (length rows) p → statement_in (ns ++ more) (rows ++ others) p ≡ statement_in ns rows p
+stays ns more rows others Begin h = refl
+stays ns more rows others (BeginDeclared mask) h = refl
 stays ns more rows others (Get table key) h = refl
 stays ns more rows others (Put table count first key) h = ap (λ xs. say.Put (rid_at table key) (map Number xs)) (row_stays ns more first count h.2)
 stays ns more rows others (PutRow table i key) h = ap (say.Put (rid_at table key)) (get_or-append rows others [] i h)
 stays ns more rows others (Del table key) h = refl
-stays ns more rows others (Scan table low high) h = refl
-stays ns more rows others (CursorOpen table low high) h = refl
+stays ns more rows others (Scan table first) h = ap (λ xs. say.Scan table (key_at 0 xs) (key_at 1 xs)) (row_stays ns more first 2 h)
+stays ns more rows others (CursorOpen table first) h = ap (λ xs. say.CursorOpen table (key_at 0 xs) (key_at 1 xs)) (row_stays ns more first 2 h)
 stays ns more rows others (Fetch n cursor) h = refl
 stays ns more rows others CursorClose h = refl
 stays ns more rows others Commit h = refl
 stays ns more rows others Rollback h = refl
 stays ns more rows others (Gc kind) h = refl
 
-more_room : (n m k l : ℕ) (p : Packed) → n ≤ m → k ≤ l → HasRow n k p → HasRow m l p
-more_room n m k l (Begin scope) le less h = tt
+more_room : (n m k l : ℕ) (p : Packed) → n ≤ m → k ≤ l → HasValues n k p → HasValues m l p
+more_room n m k l Begin le less h = tt
+more_room n m k l (BeginDeclared mask) le less h = tt
 more_room n m k l (Get table key) le less h = tt
 more_room n m k l (Put table count first key) le less h = (h.0, h.1, omega (arith, le, h.2))
 more_room n m k l (PutRow table i key) le less h = omega (arith, less, h)
 more_room n m k l (Del table key) le less h = tt
-more_room n m k l (Scan table low high) le less h = tt
-more_room n m k l (CursorOpen table low high) le less h = tt
+more_room n m k l (Scan table first) le less h = omega (arith, le, h)
+more_room n m k l (CursorOpen table first) le less h = omega (arith, le, h)
 more_room n m k l (Fetch most cursor) le less h = tt
 more_room n m k l CursorClose le less h = tt
 more_room n m k l Commit le less h = tt
@@ -91,12 +114,12 @@ all_stay ns more rows others [] h = refl
 all_stay ns more rows others (e ∷ es) h = rw (stays ns more rows others e.packed h.0, all_stay ns more rows others es h.1) refl
 
 -- one statement more
-pub one_more : (cursor : Option TableId) (ns : List ℤ) (rows : List (List Value)) (es : List Entry) (session next : ℕ) (s : Statement) → Each (IsWithin (length ns) (length rows)) es
+pub one_more : (cursor : Option TableId) (ns : List ℤ) (rows : List (List Value)) (es : List Entry) (session next : ℕ) (s : Statement) → HasKeys s → Each (IsWithin (length ns) (length rows)) es
     → map (unpacked (ns ++ added s) (rows ++ added_rows s)) (es ++ (record { session = session; next = next; packed = packed_as cursor (length ns) (length rows) s }) ∷ []) ≡ map
     (unpacked ns rows) es ++ (session, s) ∷ []
-one_more cursor ns rows es session next s h =
+one_more cursor ns rows es session next s keys h =
     let e : Entry = record { session = session; next = next; packed = packed_as cursor (length ns) (length rows) s } in
-    map-append (unpacked (ns ++ added s) (rows ++ added_rows s)) es (e ∷ []) ∙ rw (all_stay ns (added s) rows (added_rows s) es h, comes_back cursor ns rows s) refl
+    map-append (unpacked (ns ++ added s) (rows ++ added_rows s)) es (e ∷ []) ∙ rw (all_stay ns (added s) rows (added_rows s) es h, comes_back cursor ns rows s keys) refl
 
 pub within_more : (ns more : List ℤ) (rows others : List (List Value)) (es : List Entry) → Each (IsWithin (length ns) (length rows)) es →
     Each (IsWithin (length (ns ++ more)) (length (rows ++ others))) es

@@ -17,7 +17,7 @@ cursor_in j (said ∷ more) = option_or (cursor_in j more) (if said.0 == j then 
 -- ---- as statements are stored
 
 abbrev pub table_opened : Packed → Option TableId
-table_opened (CursorOpen table low high) = Some table
+table_opened (CursorOpen table first) = Some table
 table_opened _ = None
 
 abbrev pub cursor_among : ℕ → List Entry → Option TableId

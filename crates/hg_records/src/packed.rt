@@ -7,17 +7,20 @@ ghost use Rattle.hg_base.specs.declared.value.Value as value;
 ghost use Rattle.hg_base.specs.declared.value.Value.TheVariants.{Number};
 ghost use Rattle.hg_records.specs.Asked.{asked_by};
 ghost use Rattle.hg_records.specs.Cursors.{HasCursor};
-ghost use Rattle.hg_records.specs.Packed.{HasRow, added, added_rows, packed_as, statement_in};
+ghost use Rattle.hg_records.specs.Packed.{HasKeys, HasValues, added, added_rows, keys_in, packed_as, packed_keys, statement_in};
 
 use crate::asked::Asked;
 use hg_base::{Kind, MOST_COLUMNS, NoMemory, Rid, Row, Scope, Statement, TableId};
 use std::alloc::Global;
 
-/// A statement. The values of a put are kept elsewhere. Fields lie in the order in which they are written, the narrow ones next to the
-/// tag.
+/// A statement. The values of a put and the keys of a scan are kept elsewhere. Fields lie in the order in which they are written, the
+/// narrow ones next to the tag.
 #[derive(Clone, Copy)]
 pub(crate) enum Packed {
-    Begin(Scope),
+    /// The scope is every table.
+    Begin,
+    /// The scope is these tables, a bit for each.
+    BeginDeclared(u64),
     Get {
         table: TableId,
         key: u64,
@@ -39,15 +42,14 @@ pub(crate) enum Packed {
         table: TableId,
         key: u64,
     },
+    /// The two keys are among the numbers, from this place on.
     Scan {
         table: TableId,
-        low: u64,
-        high: u64,
+        first: u32,
     },
     CursorOpen {
         table: TableId,
-        low: u64,
-        high: u64,
+        first: u32,
     },
     /// The number of rows, and the table of the session's cursor.
     Fetch(u32, Option<TableId>),
@@ -64,7 +66,8 @@ impl Packed {
             result ≡ asked_by cursor (statement_in numbers rows self) }
     {
         match self {
-            Packed::Begin(_) => Asked::Begin,
+            Packed::Begin => Asked::Begin,
+            Packed::BeginDeclared(_) => Asked::Begin,
             Packed::Get { table, .. } => Asked::Get(table),
             Packed::Put { table, .. } => Asked::Put(table),
             Packed::PutRow { table, .. } => Asked::Put(table),
@@ -95,9 +98,8 @@ fn pack_put(
     ensures numbers { OnOk result
         (numbers.new.items ≡ numbers.old.items ++ added (say.Put rid row)) }
     ensures rows { OnOk result (rows.new.items ≡ rows.old.items ++ added_rows (say.Put rid row)) }
-    ensures within { IfOk result (HasRow (length numbers.new.items) (length rows.new.items)) }
+    ensures within { IfOk result (HasValues (length numbers.new.items) (length rows.new.items)) }
     ensures few { OnOk result (length (added (say.Put rid row)) ≤ MOST_COLUMNS) }
-    ensures one { OnOk result (length (added_rows (say.Put rid row)) ≤ 1) }
     ensures err { OnErr result (numbers.new.items ≡ numbers.old.items) }
     ensures rows_err { OnErr result (rows.new.items ≡ rows.old.items) }
 {
@@ -118,6 +120,19 @@ fn pack_put(
     Ok(Packed::PutRow { table, place, key })
 }
 
+// Adds the two keys of a scan after the numbers, and returns the place of the first.
+fn pack_keys(numbers: &mut Vec<i64>, low: u64, high: u64) -> Result<u32, NoMemory>
+    requires { length numbers.old.items < 2 ^ 32 }
+    ensures first { IfOk result (λ first. first ≡ length numbers.old.items) }
+    ensures numbers { OnOk result
+        (numbers.new.items ≡ numbers.old.items ++ packed_keys low high) }
+    ensures err { OnErr result (numbers.new.items ≡ numbers.old.items) }
+{
+    let first = numbers.len() as u32;
+    numbers.extend_from_slice(&[low.cast_signed(), high.cast_signed()])?;
+    Ok(first)
+}
+
 /// Takes the statement apart. `cursor` is the table of the cursor that its session opened last.
 pub(crate) fn pack(
     numbers: &mut Vec<i64>,
@@ -132,19 +147,26 @@ pub(crate) fn pack(
         packed_as cursor (length numbers.old.items) (length rows.old.items) statement) }
     ensures numbers { OnOk result (numbers.new.items ≡ numbers.old.items ++ added statement) }
     ensures rows { OnOk result (rows.new.items ≡ rows.old.items ++ added_rows statement) }
-    ensures within { IfOk result (HasRow (length numbers.new.items) (length rows.new.items)) }
+    ensures within { IfOk result (HasValues (length numbers.new.items) (length rows.new.items)) }
     ensures few { OnOk result (length (added statement) ≤ MOST_COLUMNS) }
-    ensures one { OnOk result (length (added_rows statement) ≤ 1) }
+    ensures keys { OnOk result (HasKeys statement) }
     ensures err { OnErr result (numbers.new.items ≡ numbers.old.items) }
     ensures rows_err { OnErr result (rows.new.items ≡ rows.old.items) }
 {
     Ok(match statement {
-        Statement::Begin(scope) => Packed::Begin(scope),
+        Statement::Begin(Scope::All) => Packed::Begin,
+        Statement::Begin(Scope::Declared(mask)) => Packed::BeginDeclared(mask),
         Statement::Get(Rid { table, key }) => Packed::Get { table, key },
         Statement::Put(rid, row) => pack_put(numbers, rows, rid, row)?,
         Statement::Del(Rid { table, key }) => Packed::Del { table, key },
-        Statement::Scan { table, low, high } => Packed::Scan { table, low, high },
-        Statement::CursorOpen { table, low, high } => Packed::CursorOpen { table, low, high },
+        Statement::Scan { table, low, high } => {
+            let first = pack_keys(numbers, low, high)?;
+            Packed::Scan { table, first }
+        }
+        Statement::CursorOpen { table, low, high } => {
+            let first = pack_keys(numbers, low, high)?;
+            Packed::CursorOpen { table, first }
+        }
         Statement::Fetch(most) => Packed::Fetch(most, cursor),
         Statement::CursorClose => Packed::CursorClose,
         Statement::Commit => Packed::Commit,
@@ -164,6 +186,16 @@ fn unpack_row(alloc: Global, numbers: &[i64], first: u32, count: u8) -> Result<R
     Row::from_slice(alloc, &numbers[first..first + count as usize])
 }
 
+// The two keys of a scan, of which the first is at `first`.
+fn unpack_keys(numbers: &[i64], first: u32) -> (u64, u64)
+    requires { first + 2 ≤ length numbers.now }
+    ensures { result ≡ keys_in first numbers.now }
+{
+    let first = first as usize;
+    let kept = &numbers[first..first + 2];
+    (kept[0].cast_unsigned(), kept[1].cast_unsigned())
+}
+
 /// Puts a statement together. A row of one or two numbers takes no memory.
 pub(crate) fn unpack(
     alloc: Global,
@@ -171,11 +203,12 @@ pub(crate) fn unpack(
     rows: &[Row],
     packed: Packed,
 ) -> Result<Statement, NoMemory>
-    requires { HasRow (length numbers.now) (length rows.now) packed }
+    requires { HasValues (length numbers.now) (length rows.now) packed }
     ensures { IfOk result (λ s. s ≡ statement_in numbers.now rows.now packed) }
 {
     Ok(match packed {
-        Packed::Begin(scope) => Statement::Begin(scope),
+        Packed::Begin => Statement::Begin(Scope::All),
+        Packed::BeginDeclared(mask) => Statement::Begin(Scope::Declared(mask)),
         Packed::Get { table, key } => Statement::Get(Rid { table, key }),
         Packed::Put {
             table,
@@ -192,8 +225,14 @@ pub(crate) fn unpack(
             Statement::Put(Rid { table, key }, rows[place as usize].copy()?)
         }
         Packed::Del { table, key } => Statement::Del(Rid { table, key }),
-        Packed::Scan { table, low, high } => Statement::Scan { table, low, high },
-        Packed::CursorOpen { table, low, high } => Statement::CursorOpen { table, low, high },
+        Packed::Scan { table, first } => {
+            let (low, high) = unpack_keys(numbers, first);
+            Statement::Scan { table, low, high }
+        }
+        Packed::CursorOpen { table, first } => {
+            let (low, high) = unpack_keys(numbers, first);
+            Statement::CursorOpen { table, low, high }
+        }
         Packed::Fetch(most, _) => Statement::Fetch(most),
         Packed::CursorClose => Statement::CursorClose,
         Packed::Commit => Statement::Commit,

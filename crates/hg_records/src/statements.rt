@@ -1,8 +1,8 @@
 //! Statements with their sessions, in little memory.
 //!
-//! The numbers of all rows are in one list, and a put keeps where its own begin and how many they are. So a statement takes
-//! 32 bytes, and 8 more for each number. In them it keeps the index of the next statement of its session. A row with a text
-//! is kept as it is, in a list of such rows.
+//! The numbers of all rows are in one list, and a put keeps where its own begin and how many they are. The two keys of a scan are
+//! in that list too. So a statement takes 24 bytes, and 8 more for each number of its row or 16 more for its two keys. In the 24 is
+//! the index of the next statement of its session. A row with a text is kept as it is, in a list of such rows.
 
 ghost use Rattle.std.specs.Prelude.{◌≡◌, ℕ, ◌≤◌, ◌<◌, ◌+◌, ◌∷◌, ◌++◌, [], IfOk, OnErr, OnOk, fold, get_or, length, map, max, take};
 ghost use Rattle.hg_base.specs.Lists.{greatest};
@@ -29,7 +29,7 @@ pub(crate) struct Entry {
     packed: Packed,
 }
 
-const _: () = prove!(size_of::<Entry>() == 32);
+const _: () = prove!(size_of::<Entry>() == 24);
 
 /// Each statement with the session that says it.
 #[derive(Drop)]

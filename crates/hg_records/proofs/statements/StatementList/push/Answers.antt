@@ -9,7 +9,7 @@ use Rattle.std.specs.Option.{option_or}
 use Rattle.hg_records.specs.Cursors.{HasCursor, cursor_among, table_opened}
 use Rattle.hg_records.proofs.Opening.{cursor_more, cursored_more, led_cursor, led_cursored, packed_has, packed_opens}
 use Rattle.hg_records.proofs.Links.{chained_more, led_many}
-use Rattle.hg_records.proofs.Unpacked.{led_session, led_unpacked, led_within, one_more, within_more}
+use Rattle.hg_records.proofs.Unpacked.{led_session, led_unpacked, led_within, one_more, one_row, within_more}
 use Rattle.hg_records.proofs.statements.StatementList.push.Goals as goal
 
 pub invariant_of-self-2 : goal.invariant_of-self-2
@@ -30,7 +30,7 @@ invariant_of-self-2 c =
     rw (c.lead.ensures, same, here, led_many c.note-last.result (length es) (es ++ x ∷ [])) (
       omega (arith, less, more),
       omega (arith, few, more, c.in_ok-packed.ensures.few, ap length c.in_ok-packed.ensures.numbers, length-append ns (added c.args.statement)),
-      omega (arith, few_rows, more, c.in_ok-packed.ensures.one, ap length c.in_ok-packed.ensures.rows, length-append rows (added_rows c.args.statement)),
+      omega (arith, few_rows, more, one_row c.args.statement, ap length c.in_ok-packed.ensures.rows, length-append rows (added_rows c.args.statement)),
       led_within (length c.pack.new.numbers.items) (length c.pack.new.rows.items) c.note-last.result (length es) (es ++ x ∷ [])
           (each_snoc (IsWithin (length c.pack.new.numbers.items) (length c.pack.new.rows.items)) es x
           (rw (c.in_ok-packed.ensures.numbers, c.in_ok-packed.ensures.rows) (within_more ns (added c.args.statement) rows (added_rows c.args.statement) es within)) c.in_ok-packed.ensures.within),
@@ -60,4 +60,4 @@ returns-clause-ok c =
       c.in_ok-packed.ensures.packed,
       c.reserve.ensures.items,
     )
-    (one_more c.of-cursor.result c.self.inside.numbers.items c.self.inside.rows.items c.self.inside.entries.items c.args.session NOWHERE c.args.statement c.self.invariant.3)
+    (one_more c.of-cursor.result c.self.inside.numbers.items c.self.inside.rows.items c.self.inside.entries.items c.args.session NOWHERE c.args.statement c.in_ok-packed.ensures.keys c.self.invariant.3)
