@@ -27,6 +27,11 @@ use csv::{ByteRecord, Error, ErrorKind, Reader, ReaderBuilder};
 use hg_base::{MOST_RECORDS, MOST_SESSIONS, Natural, NoMemory};
 use std::alloc::Global;
 
+// Records of more bytes or fields are read too, in several steps.
+const USUAL_BYTES: usize = 1_024;
+
+const USUAL_FIELDS: usize = 72;
+
 // Adds what a session asks, which breaks no rule.
 fn add_asked(
     script: &mut Script,
@@ -125,6 +130,12 @@ fn refused(line: u64, code: Code) -> ScriptRefusal
     ScriptRefusal::At { line, code }
 }
 
+// An empty record with room for a usual one. The reader takes no more bytes at a time than there is room for, so with little room it
+// would stop in the middle of records.
+fn new_row(alloc: Global) -> Result<ByteRecord, NoMemory> {
+    Ok(ByteRecord::with_capacity(alloc, USUAL_BYTES, USUAL_FIELDS)?)
+}
+
 // Reads the next record into `row`, and tells whether there was one.
 fn read_row(reader: &mut Reader<&[u8]>, row: &mut ByteRecord) -> Result<bool, ScriptRefusal>
     requires flexible { is_flexible reader.old ≡ true }
@@ -155,7 +166,7 @@ pub fn read_script(alloc: Global, bytes: &[u8]) -> Result<Script, ScriptRefusal>
         .has_headers(false)
         .flexible(true)
         .from_reader(alloc, bytes);
-    let mut row = ByteRecord::new(alloc);
+    let mut row = new_row(alloc)?;
     let mut script = Script::new(alloc);
     let mut sessions = OpenSessions::new();
     for place in 1..MOST_RECORDS + 2 {

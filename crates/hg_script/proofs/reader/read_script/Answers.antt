@@ -56,7 +56,7 @@ returns-in_err-take-in-Ok-true-clause-at c =
     let f = fields_of c.read_row.new.row in
     let m = rows-more (λ (s : Bor (List ℕ)). Some s.now) c.loop-place.reader c.read_row.new.reader f default_config st.StartRecord (strip_bom c.args.bytes.now) y rows inv.config at_y reached reads in
     let more = first-records default_config (strip_bom c.args.bytes.now) (rows ++ f ∷ []) _ m.0 m.2 in
-    let p = err_from_is_err_and c.from_residual.result c.from_residual.ensures.1 in
+    let p = err_from_is_err_and c.from_residual-in_err-take-in-Ok-true.result c.from_residual-in_err-take-in-Ok-true.ensures.1 in
     rw (p.1, p.2) (tells c.loop-place.place (first_code c.loop-place.place c.loop-place.script f) _ c.in_err-take-in-Ok-true.field-0.0
     (λ (code : Code) e.
     let first : refusal_from 1 nothing ((rows ++ f ∷ []) ++ more.0) ≡ Some (1 + length rows, code) = refuses 1 nothing rows f more.0 code none (rw (← count, is) at e) in
