@@ -18,7 +18,7 @@ use hg_run::{NoGate, Status, StdinSource, StdoutSink, serve};
 use std::process::ExitCode;
 use std::{env, io};
 
-// How the call ends where the words can't be had. Those that are not text ask for nothing.
+// The status if the words cannot be read. Words that are not UTF-8 are a usage error.
 fn status_of(error: &io::Error) -> Status
     ensures memory { (result ≡ Status.NoMemory) ↔ (error_kind error.now ≡ OutOfMemory) }
     ensures usage { (result ≡ Status.Usage) ↔ ¬ (error_kind error.now ≡ OutOfMemory) }
