@@ -1,18 +1,25 @@
-//! The collector.
+//! The collector, and its visits of buckets: each bucket is taken, swept and given back.
 
-ghost use Rattle.std.specs.Prelude.{◌≡◌, ◌<◌, ◌≤◌, IfOk, IfErr};
+ghost use Rattle.std.specs.Prelude.{◌≡◌, ◌<◌, ◌≤◌, IfOk, IfErr, ◌^◌};
 ghost use Rattle.hg_rule.specs.Facts.{record_of};
 ghost use Rattle.hg_rule.specs.Views.{pass as own_pass};
-ghost use Rattle.hg_rule.specs.Seats.{BoardId, IsPassOf};
-ghost use Rattle.hg_store.specs.Stores.{store_board_id, store_buckets};
+ghost use Rattle.hg_rule.specs.Seats.{BoardId, IsPassOf, board_id, sizes_of, pass_view};
+ghost use Rattle.hg_store.specs.Stores.{store_board_id, store_buckets, held_board_id, held_number, Holds};
 ghost use Rattle.hg_tracker.specs.Boards.{trackers_board_id, board_sizes};
+ghost use Rattle.hg_base.specs.declared.report.Kind.TheVariants.{Interval};
+ghost use Rattle.hg_core.specs.Counters.{total, removed_all};
+ghost use Rattle.hg_rule.specs.Holding.{bucket};
+ghost use Rattle.hg_tracker.specs.Gathers.{tables_in, IsGatherOf};
+ghost use Rattle.hg_visit.specs.Visits.{Visits, VisitsAll};
+ghost use Rattle.hg_visit.specs.Tables.{ClearsTables};
+ghost use Rattle.hg_gc_interval.specs.Sweeping.{IsCleanBy};
+ghost use Rattle.hg_gc_interval.specs.Costs.{SpendsTables, VisitCosts, VisitsCost};
 
 use crate::tools::Tools;
-use crate::visits::visit_all;
-use hg_base::{Kind, NoMemory, Report, Steps};
-use hg_rule::CollectorPass;
-use hg_store::Store;
-use hg_tracker::Trackers;
+use hg_base::{Kind, NoMemory, Report, Steps, TableId};
+use hg_rule::{Board, CollectorPass};
+use hg_store::{Guards, Held, Store};
+use hg_tracker::{Gathered, Trackers};
 use hg_visit::Rounds;
 use std::alloc::Global;
 use std::sync::Wait;
@@ -111,4 +118,91 @@ impl IntervalCollector {
         self.collect(rt, trackers, store, steps);
         self.rounds.report()
     }
+}
+
+// Sweeps each table of a bucket that is held. The answer says how many versions went.
+fn sweep_tables<L: Ledger>(
+    board: &Board,
+    pass: &mut CollectorPass,
+    held: &mut Held,
+    gathered: &Gathered,
+    steps: &mut Steps<L>,
+) -> u64
+    requires own { IsPassOf (board_id board.now) pass.old }
+    requires tables { tables_in gathered.now ≡ (sizes_of board.now).tables }
+    requires shown { IsGatherOf (sizes_of board.now).sessions (own_pass (pass_view pass.old))
+        gathered.now }
+    requires holds { Holds (pass_view pass.old) held.old }
+    requires few { total (bucket (pass_view pass.old)).content ≤ 2 ^ 40 }
+    ensures clears { ClearsTables Interval (IsCleanBy (record_of (own_pass (pass_view pass.old))))
+        (sizes_of board.now).tables result (pass_view pass.old) (pass_view pass.new) }
+    ensures holds { Holds (pass_view pass.new) held.new }
+    ensures held { (held_board_id held.new ≡ held_board_id held.old) ×
+        (held_number held.new ≡ held_number held.old) }
+    ensures own { IsPassOf (board_id board.now) pass.new }
+    ensures cost { SpendsTables (sizes_of board.now).tables
+        (record_of (own_pass (pass_view pass.old))) (pass_view pass.old) steps.old steps.new }
+{
+    let horizon = gathered.horizon();
+    let mut gone = 0;
+    for number in 0..gathered.tables() {
+        let table = TableId(number as u8);
+        let snapshots = gathered.for_table(table);
+        let guards = Guards { horizon, snapshots };
+        gone += held.sweep(board, pass, table, &guards, steps);
+    }
+    gone
+}
+
+/// Takes bucket `b`, sweeps each of its tables by what the pass gathered last, and gives the bucket back. The answer says how
+/// many versions went.
+pub fn visit_bucket<R: Wait, L: Ledger>(
+    rt: &R,
+    tools: &Tools<'_>,
+    pass: &mut CollectorPass,
+    b: u32,
+    steps: &mut Steps<L>,
+) -> u64
+    requires own { IsPassOf (trackers_board_id tools.now.trackers.now) pass.old }
+    requires shown { IsGatherOf (board_sizes tools.now.trackers.now).sessions
+        (own_pass (pass_view pass.old)) tools.now.gathered.now }
+    requires bucket { b < store_buckets tools.now.store.now }
+    ensures visits { Visits Interval (IsCleanBy (record_of (own_pass (pass_view pass.old)))) b
+        result (pass_view pass.old) (pass_view pass.new) }
+    ensures shown { IsGatherOf (board_sizes tools.now.trackers.now).sessions
+        (own_pass (pass_view pass.new)) tools.now.gathered.now }
+    ensures few { removed_all Interval (own_pass (pass_view pass.new)).visits ≤ 2 ^ 41 }
+    ensures cost { VisitCosts (board_sizes tools.now.trackers.now)
+        (record_of (own_pass (pass_view pass.old))) b steps.old steps.new }
+    ensures own { IsPassOf (trackers_board_id tools.now.trackers.now) pass.new }
+{
+    let board = tools.trackers.board();
+    let mut held = tools.store.take(rt, board, b, pass);
+    let gone = sweep_tables(board, pass, &mut held, tools.gathered, steps);
+    held.give(board, pass);
+    gone
+}
+
+// Visits each bucket, in order. The answer says how many versions went.
+fn visit_all<R: Wait, L: Ledger>(
+    rt: &R,
+    tools: &Tools<'_>,
+    pass: &mut CollectorPass,
+    steps: &mut Steps<L>,
+) -> u64
+    requires own { IsPassOf (trackers_board_id tools.now.trackers.now) pass.old }
+    requires shown { IsGatherOf (board_sizes tools.now.trackers.now).sessions
+        (own_pass (pass_view pass.old)) tools.now.gathered.now }
+    ensures visits { VisitsAll Interval (IsCleanBy (record_of (own_pass (pass_view pass.old))))
+        (store_buckets tools.now.store.now) result (pass_view pass.old) (pass_view pass.new) }
+    ensures cost { VisitsCost (board_sizes tools.now.trackers.now)
+        (record_of (own_pass (pass_view pass.old))) (store_buckets tools.now.store.now)
+        steps.old steps.new }
+    ensures own { IsPassOf (trackers_board_id tools.now.trackers.now) pass.new }
+{
+    let mut gone = 0;
+    for b in 0..tools.store.buckets() {
+        gone += visit_bucket(rt, tools, pass, b, steps);
+    }
+    gone
 }

@@ -20,8 +20,6 @@
 
 mod collector;
 mod tools;
-mod visits;
 
-pub use collector::IntervalCollector;
+pub use collector::{IntervalCollector, visit_bucket};
 pub use tools::Tools;
-pub use visits::visit_bucket;

@@ -15,7 +15,7 @@ use Rattle.hg_visit.proofs.Snapshots.{have_same, same_length, whole_record}
 use Rattle.hg_gc_interval.specs.Sweeping.{IsCleanBy}
 use Rattle.hg_gc_interval.specs.Costs.{SpendsTables}
 use Rattle.hg_gc_interval.proofs.Spending.{spends_more}
-use Rattle.hg_gc_interval.proofs.visits.sweep_tables.Goals as goal
+use Rattle.hg_gc_interval.proofs.collector.sweep_tables.Goals as goal
 
 abbrev at : TableId → ℕ → Rid
 at t k = record { table = t; key = k }

@@ -11,8 +11,8 @@ use Rattle.hg_visit.proofs.Going.{same_pass}
 use Rattle.hg_visit.proofs.Visiting.{visits_none, visits_more, visits_few}
 use Rattle.hg_gc_interval.specs.Sweeping.{IsCleanBy}
 use Rattle.hg_gc_interval.specs.Costs.{VisitCosts, VisitsCost}
-use Rattle.hg_gc_interval.proofs.visits.visit_all.Given as given
-use Rattle.hg_gc_interval.proofs.visits.visit_all.Goals as goal
+use Rattle.hg_gc_interval.proofs.collector.visit_all.Given as given
+use Rattle.hg_gc_interval.proofs.collector.visit_all.Goals as goal
 
 pub loop-b-init : goal.loop-b-init
 loop-b-init g c = let v = pass_view c.args.pass.now in (visits_none Interval (IsCleanBy (record_of (pass v))) v c.requires.own.1, c.requires.own, c.requires.shown, omega arith)

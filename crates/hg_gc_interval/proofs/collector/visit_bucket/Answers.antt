@@ -11,7 +11,7 @@ use Rattle.hg_store.proofs.Holding.{total_at}
 use Rattle.hg_visit.proofs.Visiting.{record_taken, visit_is, visit_few}
 use Rattle.hg_gc_interval.specs.Sweeping.{IsCleanBy}
 use Rattle.hg_gc_interval.specs.Costs.{SpendsTables, VisitCosts}
-use Rattle.hg_gc_interval.proofs.visits.visit_bucket.Goals as goal
+use Rattle.hg_gc_interval.proofs.collector.visit_bucket.Goals as goal
 
 pub sweep_tables-gone-requires-clause-few : goal.sweep_tables-gone-requires-clause-few
 sweep_tables-gone-requires-clause-few g c =

@@ -7,7 +7,7 @@ use Rattle.hg_store.specs.Stores.{held_board_id, held_number, Holds}
 use Rattle.hg_visit.specs.Tables.{ClearsTables}
 use Rattle.hg_gc_interval.specs.Sweeping.{IsCleanBy}
 use Rattle.hg_gc_interval.specs.Costs.{SpendsTables}
-use Rattle.hg_gc_interval.proofs.visits.sweep_tables.Given as goal
+use Rattle.hg_gc_interval.proofs.collector.sweep_tables.Given as goal
 
 abbrev pub invariant-loop-number : goal.invariant-loop-number
 invariant-loop-number g l =

@@ -7,7 +7,7 @@ use Rattle.hg_tracker.specs.Gathers.{IsGatherOf}
 use Rattle.hg_visit.specs.Visits.{VisitsAll}
 use Rattle.hg_gc_interval.specs.Sweeping.{IsCleanBy}
 use Rattle.hg_gc_interval.specs.Costs.{VisitsCost}
-use Rattle.hg_gc_interval.proofs.visits.visit_all.Given as goal
+use Rattle.hg_gc_interval.proofs.collector.visit_all.Given as goal
 
 abbrev pub invariant-loop-b : goal.invariant-loop-b
 invariant-loop-b g l =
