@@ -19,6 +19,5 @@
 #![tactic(auto)]
 
 mod collector;
-mod visits;
 
 pub use collector::TableCollector;

@@ -6,7 +6,7 @@ use Rattle.hg_store.specs.Stores.{held_number}
 use Rattle.hg_store.proofs.Holding.{total_at}
 use Rattle.hg_visit.proofs.Visiting.{visit_is, visit_few}
 use Rattle.hg_gc_table.specs.Cutting.{IsCutBy}
-use Rattle.hg_gc_table.proofs.visits.visit_bucket.Goals as goal
+use Rattle.hg_gc_table.proofs.collector.visit_bucket.Goals as goal
 
 pub cut_tables-gone-requires-clause-few : goal.cut_tables-gone-requires-clause-few
 cut_tables-gone-requires-clause-few g c =

@@ -12,7 +12,7 @@ use Rattle.hg_visit.specs.Tables.{ClearsTables}
 use Rattle.hg_visit.proofs.Tables.{record_still, tables_more}
 use Rattle.hg_visit.proofs.Snapshots.{whole_record}
 use Rattle.hg_gc_table.specs.Cutting.{IsCutBy}
-use Rattle.hg_gc_table.proofs.visits.cut_tables.Goals as goal
+use Rattle.hg_gc_table.proofs.collector.cut_tables.Goals as goal
 
 abbrev at : TableId → ℕ → Rid
 at t k = record { table = t; key = k }

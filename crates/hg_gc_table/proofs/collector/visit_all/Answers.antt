@@ -7,8 +7,8 @@ use Rattle.hg_store.specs.Stores.{store_buckets}
 use Rattle.hg_visit.specs.Visits.{VisitsAll}
 use Rattle.hg_visit.proofs.Visiting.{visits_none, visits_more, visits_few}
 use Rattle.hg_gc_table.specs.Cutting.{IsCutBy}
-use Rattle.hg_gc_table.proofs.visits.visit_all.Given as given
-use Rattle.hg_gc_table.proofs.visits.visit_all.Goals as goal
+use Rattle.hg_gc_table.proofs.collector.visit_all.Given as given
+use Rattle.hg_gc_table.proofs.collector.visit_all.Goals as goal
 
 pub loop-b-init : goal.loop-b-init
 loop-b-init g c = let v = pass_view c.args.pass.now in (visits_none Table (IsCutBy (record_of (pass v))) v c.requires.own.1, c.requires.own, c.requires.shown)

@@ -6,7 +6,7 @@ use Rattle.hg_rule.specs.Seats.{board_id, pass_view, IsPassOf}
 use Rattle.hg_store.specs.Stores.{held_board_id, held_number, Holds}
 use Rattle.hg_visit.specs.Tables.{ClearsTables}
 use Rattle.hg_gc_table.specs.Cutting.{IsCutBy}
-use Rattle.hg_gc_table.proofs.visits.cut_tables.Given as goal
+use Rattle.hg_gc_table.proofs.collector.cut_tables.Given as goal
 
 abbrev pub invariant-loop-number : goal.invariant-loop-number
 invariant-loop-number l =

@@ -6,7 +6,7 @@ use Rattle.hg_tracker.specs.Boards.{trackers_board_id, board_sizes}
 use Rattle.hg_tracker.specs.Gathers.{IsGatherOf}
 use Rattle.hg_visit.specs.Visits.{VisitsAll}
 use Rattle.hg_gc_table.specs.Cutting.{IsCutBy}
-use Rattle.hg_gc_table.proofs.visits.visit_all.Given as goal
+use Rattle.hg_gc_table.proofs.collector.visit_all.Given as goal
 
 abbrev pub invariant-loop-b : goal.invariant-loop-b
 invariant-loop-b g l =
