@@ -36,6 +36,7 @@ versions_of records r = unwrap_or (lookup (same_rid r) records) []
 abbrev pub keys_in : List (List ℕ) → TableId → List ℕ
 keys_in long table = list_of long table.0
 
+-- the same of a bucket: the keys of a table's records that can be shortened
 abbrev pub long_keys : BucketModel → TableId → List ℕ
 long_keys h table = keys_in h.long table
 
@@ -52,6 +53,7 @@ pub record IsSound (h : BucketModel) : Type 0 where
   pub balance : IsBalanced h
   pub small : h.made ≤ 2 ^ 40
 
+-- how many versions were made, undone, removed in each of three ways, and are held
 abbrev pub counts_of : BucketModel → Totals
 counts_of h = record { made = h.made; undone = h.undone; group = h.group; table = h.table; interval = h.interval; left = left h.records }
 
@@ -69,6 +71,7 @@ is_open_by by v = not (is_some v.number) && unwrap_or (option_map (λ w. same_wr
 abbrev pub read_at : Writer → ℕ → List Kept → Option Image
 read_at own at vs = option_map (λ v. v.image) (option_or (find (is_open_by own) vs) (find (is_at_most at) vs))
 
+-- the record of a table that has that key
 abbrev pub record_at : TableId → ℕ → Rid
 record_at table key = record { table = table; key = key }
 
@@ -89,6 +92,7 @@ IsNextKey records table from found =
 abbrev pub OthersStay : List (Rid × List Kept) → List (Rid × List Kept) → Rid → Type 0
 OthersStay old new r = (q : Rid) → IsFalse (same_rid r q) → versions_of new q ≡ versions_of old q
 
+-- an open write of that transaction: it has no number yet
 abbrev pub open_write : Writer → Image → Kept
 open_write by image = record { number = None; by = Some by; image = image }
 

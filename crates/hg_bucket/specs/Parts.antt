@@ -20,6 +20,7 @@ abbrev pub kept_as : Stamp → Image → Kept
 kept_as (Written w) image = record { number = None; by = Some w; image = image }
 kept_as (Numbered n w) image = record { number = Some n; by = Some w; image = image }
 
+-- a version of a chain as a bucket has it: its number unless it is an open write, its writer and its image
 abbrev pub kept : Version → Kept
 kept v = kept_as v.stamp v.image
 
@@ -84,6 +85,7 @@ AreWhole index chains places = AreWholeWhere (λ p. ⊤) index chains places
 abbrev pub listed : Rid → ℕ → Listed
 listed r p = record { key = r.key; place = p }
 
+-- the list of the record's table has the record with that place
 abbrev pub IsListed : List (List Listed) → Rid → ℕ → Type 0
 IsListed longs r p = Has (list_of longs r.table.0) (listed r p)
 
@@ -100,6 +102,7 @@ pub record Recorded : Type 0 where
   pub records : List (Rid × List Kept)
   pub long : List (List ℕ)
 
+-- what is always so of the parts, and of the lists, which have each record that has a chain, and nothing else
 pub record AreKept (index : List (Rid × ℕ)) (chains : Places) (places : List Seat) (longs : List (List Listed)) : Type 0 where
   pub whole : AreWhole index chains places
   pub listed : AreListed index chains longs
@@ -122,6 +125,7 @@ settled (Some p) image = if is_some p.1.row then Some p else None
 
 -- ---- changing the parts
 
+-- what stands at a place: a free seat past the end
 abbrev pub seat_at : List Seat → ℕ → Seat
 seat_at places p = slice_index_or places p free
 

@@ -11,6 +11,7 @@ abbrev pub with_successors : Option ℕ → List Kept → List (Option ℕ × Ke
 with_successors up [] = []
 with_successors up (v ∷ vs) = (up, v) ∷ with_successors v.number vs
 
+-- whether a sweep removes a version, which is given with its successor's number
 abbrev pub goes_after : ℕ → List ℕ → Option ℕ × Kept → Bool
 goes_after horizon snapshots p = goes horizon snapshots p.0 p.1.number
 
@@ -34,6 +35,7 @@ is_long (v ∷ w ∷ vs) = true
 abbrev pub record_steps : List ℕ → List Kept → ℕ
 record_steps snapshots vs = if is_long vs then length vs + length snapshots else 0
 
+-- whether a sweep of the table looks at the record: it is of that table, and has more than an oldest image
 abbrev pub is_looked_at : TableId → Rid × List Kept → Bool
 is_looked_at table e = (e.0.table.0 == table.0) && is_long e.1
 

@@ -8,18 +8,23 @@ use Rattle.hg_chain.specs.declared.arena.Arena.{Arena}
 use Rattle.hg_chain.specs.Places.{Places}
 use Rattle.hg_chain.specs.Strands.{AreStrands, head_at, versions_of, nodes_of, chain_of, lists_in, node_behind}
 
+-- the strands of an arena, that of its free nodes among them, stand apart and have all of its nodes, fewer than 2 ^ 32
 abbrev pub IsArena : Arena → Type 0
 IsArena a = AreStrands a.heads.items a.nodes.items a.free
 
+-- the head of a place in an arena: an empty one past the end
 abbrev pub head_in : Arena → ℕ → Head
 head_in a p = head_at a.heads.items p
 
+-- the versions of a place in an arena, newest first
 abbrev pub list_in : Arena → ℕ → List Version
 list_in a p = versions_of a.nodes.items (head_in a p)
 
+-- the nodes in which the versions of a place in an arena stand, in the same order
 abbrev pub nodes_in : Arena → ℕ → List ℕ
 nodes_in a p = nodes_of a.nodes.items (head_in a p)
 
+-- the versions of a place in an arena, with the nodes that have them
 abbrev pub chain_in : Arena → ℕ → List Version × List ℕ
 chain_in a p = chain_of a.nodes.items (head_in a p)
 

@@ -15,6 +15,7 @@ use Rattle.hg_chain.specs.Arenas.{IsArena, list_in, nodes_in}
 abbrev pub landmarks_at : List (Vec Landmark Global) → ℕ → List Landmark
 landmarks_at lists p = slice_index_or (map (λ v. v.items) lists) p []
 
+-- the landmarks of a place, among those of all places
 abbrev pub landmarks_of : Landmarks → ℕ → List Landmark
 landmarks_of ms p = landmarks_at ms.lists.items p
 
@@ -24,6 +25,7 @@ movable_by None = 1
 movable_by (Some (Written w)) = 2
 movable_by (Some (Numbered number by)) = 1
 
+-- how many versions in front of a chain may leave their nodes: the stamp of the first one tells it
 abbrev pub movable : List Version → ℕ
 movable vs = movable_by (newest vs)
 
@@ -33,12 +35,15 @@ pub record IsLandmark (vs : List Version) (nodes : List ℕ) (m : Landmark) : Ty
   pub behind : m.height + movable vs ≤ length nodes
   pub node : slice_index_or nodes (length nodes - m.height) 0 ≡ m.node
 
+-- a landmark is one of the chain that a place has in an arena
 abbrev pub IsLandmarkIn : Arena → ℕ → Landmark → Type 0
 IsLandmarkIn a p m = IsLandmark (list_in a p) (nodes_in a p) m
 
+-- each of the list is a landmark of that place's chain
 abbrev pub HasLandmarks : Arena → ℕ → List Landmark → Type 0
 HasLandmarks a p ms = Each (IsLandmarkIn a p) ms
 
+-- for each place, all of its landmarks are landmarks of its chain
 abbrev pub AreLandmarks : Arena → Landmarks → Type 0
 AreLandmarks a ms = (p : ℕ) → HasLandmarks a p (landmarks_of ms p)
 

@@ -10,15 +10,19 @@ use Rattle.hg_chain.specs.declared.node.Head.{Head}
 
 -- ---- what is read past an end
 
+-- the node that is read past the end: all numbers are 0, and it has no row
 abbrev pub blank : Node
 blank = record { next = 0; session = 0; transaction = 0; number = 0; image = record { row = None } }
 
+-- the node at an index: the blank one past the end
 abbrev pub node_at : List Node → ℕ → Node
 node_at nodes i = slice_index_or nodes i blank
 
+-- the head that is read past the end: its strand is empty, and no write is open
 abbrev pub no_head : Head
 no_head = record { strand = record { first = 0; count = 0 }; is_open = false }
 
+-- the head of a place: the empty one past the end
 abbrev pub head_at : List Head → ℕ → Head
 head_at heads p = slice_index_or heads p no_head
 
@@ -28,6 +32,7 @@ freed next n = record n { next = next; image = record { row = None } }
 
 -- ---- versions
 
+-- the transaction that a node names as its version's writer
 abbrev pub writer_in : Node → Writer
 writer_in n = record { session = n.session; transaction = n.transaction }
 
@@ -36,6 +41,7 @@ abbrev pub stamp_in : Bool → Node → Stamp
 stamp_in true n = Written (writer_in n)
 stamp_in false n = Numbered n.number (writer_in n)
 
+-- the version that a node has: an open write where that is told, and else one with the node's number
 abbrev pub version_in : Bool → Node → Version
 version_in begins n = record { stamp = stamp_in begins n; image = n.image }
 
@@ -44,6 +50,7 @@ abbrev pub versions : List Node → Bool → ℕ → ℕ → List Version
 versions nodes begins zero i = []
 versions nodes begins (suc n) i = version_in begins (node_at nodes i) ∷ versions nodes false n (node_at nodes i).next
 
+-- the versions of a head's strand, from its first node on: the first is an open write where the head says so
 abbrev pub versions_of : List Node → Head → List Version
 versions_of nodes h = versions nodes h.is_open h.strand.count h.strand.first
 
@@ -52,6 +59,7 @@ abbrev pub nodes_along : List Node → ℕ → ℕ → List ℕ
 nodes_along nodes zero i = []
 nodes_along nodes (suc n) i = i ∷ nodes_along nodes n (node_at nodes i).next
 
+-- the nodes of a head's strand, from its first one on
 abbrev pub nodes_of : List Node → Head → List ℕ
 nodes_of nodes h = nodes_along nodes h.strand.count h.strand.first
 
@@ -59,6 +67,7 @@ nodes_of nodes h = nodes_along nodes h.strand.count h.strand.first
 abbrev pub chain_of : List Node → Head → List Version × List ℕ
 chain_of nodes h = (versions_of nodes h, nodes_of nodes h)
 
+-- the versions of each head, in the order of the heads
 abbrev pub lists_in : List Head → List Node → List (List Version)
 lists_in heads nodes = map (versions_of nodes) heads
 

@@ -17,6 +17,7 @@ abbrev pub with_successors : Option ℕ → List Version → List (Option ℕ ×
 with_successors up [] = []
 with_successors up (v ∷ vs) = (up, v) ∷ with_successors (number_in v.stamp) vs
 
+-- whether a sweep removes a version, which is given with its successor's number
 abbrev pub goes_after : ℕ → List ℕ → Option ℕ × Version → Bool
 goes_after horizon snapshots p = goes horizon snapshots p.0 (number_in p.1.stamp)
 
@@ -24,6 +25,7 @@ goes_after horizon snapshots p = goes horizon snapshots p.0 (number_in p.1.stamp
 abbrev pub swept : ℕ → List ℕ → List Version → List Version
 swept horizon snapshots vs = map (λ p. p.1) (filter (λ p. not (goes_after horizon snapshots p)) (with_successors None vs))
 
+-- how many versions a sweep removes
 abbrev pub swept_away : ℕ → List ℕ → List Version → ℕ
 swept_away horizon snapshots vs = count_by (goes_after horizon snapshots) (with_successors None vs)
 

@@ -15,6 +15,7 @@ abbrev pub has_at_most : ℕ → Stamp → Bool
 has_at_most bound (Written w) = false
 has_at_most bound (Numbered number by) = nat_le number bound
 
+-- the same of a version: whether it is numbered at or below the bound
 abbrev pub is_at_most : ℕ → Version → Bool
 is_at_most bound v = has_at_most bound v.stamp
 
@@ -23,6 +24,7 @@ abbrev pub has_writer : Writer → Stamp → Bool
 has_writer by (Written w) = (w.session == by.session) && (w.transaction == by.transaction)
 has_writer by (Numbered number other) = false
 
+-- the same of a version: whether it is an open write of that transaction
 abbrev pub is_written_by : Writer → Version → Bool
 is_written_by by v = has_writer by v.stamp
 
@@ -36,6 +38,7 @@ abbrev pub HasBelow : ℕ → Stamp → Type 0
 HasBelow n (Written w) = ⊥
 HasBelow n (Numbered number by) = number < n
 
+-- the same of a version: it has a number, which is below n
 abbrev pub IsBelow : ℕ → Version → Type 0
 IsBelow n v = HasBelow n v.stamp
 
@@ -99,11 +102,14 @@ stamped by number (v ∷ vs) = numbered number by v ∷ vs
 abbrev pub left_by : ℕ → List Version → List Version
 left_by bound vs = filter (λ v. not (is_at_most bound v)) vs
 
+-- a version's image with its number, if it has one
 abbrev pub numbered_image : Version → Option (ℕ × Image)
 numbered_image v = option_map (λ n. (n, v.image)) (number_in v.stamp)
 
+-- what a cut hands out: the first version at or below the bound, as its number and image, if there is one
 abbrev pub oldest_at : ℕ → List Version → Option (ℕ × Image)
 oldest_at bound vs = option_and_then numbered_image (find (is_at_most bound) vs)
 
+-- how many others a cut removes: the versions at or below the bound but for the first of them
 abbrev pub others_at : ℕ → List Version → ℕ
 others_at bound vs = count_by (is_at_most bound) vs - 1
