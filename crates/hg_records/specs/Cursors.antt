@@ -16,10 +16,12 @@ cursor_in j (said ∷ more) = option_or (cursor_in j more) (if said.0 == j then 
 
 -- ---- as statements are stored
 
+-- the table of the cursor that a stored statement opens, and none where it opens none
 abbrev pub table_opened : Packed → Option TableId
 table_opened (CursorOpen table first) = Some table
 table_opened _ = None
 
+-- the table of session j's last cursor, in a list of entries
 abbrev pub cursor_among : ℕ → List Entry → Option TableId
 cursor_among j [] = None
 cursor_among j (e ∷ es) = option_or (cursor_among j es) (if e.session == j then table_opened e.packed else None)

@@ -15,6 +15,7 @@ next_of j n (k ∷ ks) = if k == j then n else next_of j (n + 1) ks
 abbrev pub next_from : ℕ → ℕ → List ℕ → ℕ
 next_from j i sessions = next_of j i (drop i sessions)
 
+-- the session of each entry, in order
 abbrev pub sessions_in : List Entry → List ℕ
 sessions_in entries = map (λ e. e.session) entries
 
@@ -25,9 +26,11 @@ AreLinked n (e ∷ es) = (e.next ≡ next_of e.session (n + 1) (sessions_in es))
 
 -- ---- the ends of each session
 
+-- what the ends keep as the index of session j's first entry, and 0 where they keep nothing for j
 abbrev pub first_in : Ends → ℕ → ℕ
 first_in ends j = get_or ends.firsts j 0
 
+-- what the ends keep as the index of session j's last entry, and 0 where they keep nothing for j
 abbrev pub last_in : Ends → ℕ → ℕ
 last_in ends j = get_or ends.lasts j 0
 

@@ -15,6 +15,7 @@ use Rattle.hg_records.specs.declared.statements.Entry.{Entry}
 use Rattle.hg_records.specs.declared.packed.Packed.{Packed}
 use Rattle.hg_records.specs.declared.packed.Packed.TheVariants.{Begin, BeginDeclared, Get, Put, PutRow, Del, Scan, CursorOpen, Fetch, CursorClose, Commit, Rollback, Gc}
 
+-- the record of that key in a table
 abbrev pub rid_at : TableId → ℕ → Rid
 rid_at table key = record { table = table; key = key }
 
@@ -22,9 +23,11 @@ rid_at table key = record { table = table; key = key }
 abbrev pub packed_keys : ℕ → ℕ → List ℤ
 packed_keys low high = cast_signed w64 low ∷ cast_signed w64 high ∷ []
 
+-- the key that number i stands for, as 64 bits without a sign, and 0 where there is no such number
 abbrev pub key_at : ℕ → List ℤ → ℕ
 key_at i kept = cast_unsigned w64 (get_or kept i (pos 0))
 
+-- the two keys of a scan, which are the number at index `first` and the next one
 abbrev pub keys_in : ℕ → List ℤ → ℕ × ℕ
 keys_in first numbers = let kept = take 2 (drop first numbers) in (key_at 0 kept, key_at 1 kept)
 
@@ -56,9 +59,11 @@ HasValues numbers rows (Scan table first) = first + 2 ≤ numbers
 HasValues numbers rows (CursorOpen table first) = first + 2 ≤ numbers
 HasValues numbers rows _ = ⊤
 
+-- the entry's row or keys are among so many numbers, or its row is among so many rows
 abbrev pub IsWithin : ℕ → ℕ → Entry → Type 0
 IsWithin numbers rows e = HasValues numbers rows e.packed
 
+-- the entry's session is at most `MOST_SESSIONS`
 abbrev pub HasSession : Entry → Type 0
 HasSession e = e.session ≤ MOST_SESSIONS
 

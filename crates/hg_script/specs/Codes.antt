@@ -3,6 +3,7 @@ use Rattle.std.specs.Prelude.{ℕ, List, codes}
 use Rattle.hg_script.specs.declared.code.Code.{Code}
 use Rattle.hg_script.specs.declared.code.Code.TheVariants.{Count, Word, Fields, Number, Range, Name, Columns, Value, Order}
 
+-- the text that a code is printed as, which is its name
 abbrev pub code_text : Code → List ℕ
 code_text Count = codes "Count"
 code_text Word = codes "Word"

@@ -38,9 +38,11 @@ use Rattle.hg_script.specs.Fields.{Field, Fields, nth}
 abbrev pub is_name_byte : ℕ → Bool
 is_name_byte c = is_digit c || ((nat_le 65 c && nat_le c 90) || ((nat_le 97 c && nat_le c 122) || (c == 95)))
 
+-- whether a field may be a name: at least one byte, at most `MOST_NAME_BYTES`, and each a letter, a digit or `_`
 abbrev pub is_name : Field → Bool
 is_name name = nat_le 1 (length name) && (nat_le (length name) MOST_NAME_BYTES && list_all is_name_byte name)
 
+-- whether a table is declared by this name
 abbrev pub has_name : Field → Declaration → Bool
 has_name name declaration = bytes_eq declaration.name name
 
@@ -100,9 +102,11 @@ counted (natural.Is k) = if nat_le 1 k && nat_le k MOST_COLUMNS then columns.Are
 abbrev pub is_letter : ℕ → Bool
 is_letter c = (c == 110) || (c == 116)
 
+-- what a column holds by its letter: texts where it is `t`, and else numbers
 abbrev pub kind_by : ℕ → Column
 kind_by c = if c == 116 then column.Text else column.Number
 
+-- the columns of these letters, and `Over` where they are not 1 to `MOST_COLUMNS` or one is neither `n` nor `t`
 abbrev pub lettered : Field → Columns
 lettered text = if nat_le 1 (length text) && (nat_le (length text) MOST_COLUMNS && list_all is_letter text) then columns.Are (map kind_by text) else columns.Over
 
@@ -133,6 +137,7 @@ abbrev pub numbers_in : List Field → Values
 numbers_in [] = Are []
 numbers_in (f ∷ fs) = before (integer_of f) (numbers_in fs)
 
+-- the value that is this number, and none where it is no number or is out of range
 abbrev pub number_value : Integer → Option Value
 number_value (signed.Is v) = Some (Number v)
 number_value _ = None
@@ -157,6 +162,7 @@ row_in _ _ = None
 abbrev pub typed_in : List Column → List Field → Values
 typed_in kinds fields = unwrap_or (option_map Are (row_in kinds fields)) (Bad (length fields))
 
+-- the values of a put by the version: numbers alone in version 1, and else those of the table's columns
 abbrev pub values_by : ℕ → List Column → List Field → Values
 values_by version kinds fields = if version == 1 then numbers_in fields else typed_in kinds fields
 

@@ -9,6 +9,7 @@ use Rattle.hg_script.specs.declared.word.Word.TheVariants.{Version, Table, Begin
 abbrev pub Field : Type 0
 Field = List ℕ
 
+-- a record is the list of its fields
 abbrev pub Fields : Type 0
 Fields = List Field
 

@@ -53,6 +53,7 @@ code_table place s r word draft =
     ∷ (Order, holds_of (order_breaks s.records) draft)
     ∷ []
 
+-- the first of these codes whose rule is broken, and none where no rule is
 abbrev pub first_broken : List (Code × Bool) → Option Code
 first_broken [] = None
 first_broken ((code, breaks) ∷ more) = if breaks then Some code else first_broken more

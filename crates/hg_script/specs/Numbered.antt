@@ -14,6 +14,7 @@ numbered place (said ∷ more) = (record { place = place; session = said.0; stat
 abbrev pub many_before : ℕ → ℕ → ℕ
 many_before version tables = tables + (if version == 1 then 0 else 1)
 
+-- how many records stand before the statements of this script
 abbrev pub records_before : Script → ℕ
 records_before s = many_before s.version (length s.tables)
 

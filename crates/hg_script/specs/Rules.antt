@@ -21,15 +21,18 @@ use Rattle.hg_base.specs.Number.{is_no, is_over, is_between, value_of}
 
 -- ---- Count: one record too many, or one table
 
+-- whether the word is a table's
 abbrev pub is_table : Option Word → Bool
 is_table (Some word.Table) = true
 is_table _ = false
 
+-- whether a record stands past the last place that there may be, or is a table's where there are as many tables as there may be
 abbrev pub count_breaks : ℕ → List Declaration → Option Word → Bool
 count_breaks place tables w = nat_lt MOST_RECORDS place || (is_table w && nat_le MOST_TABLES (length tables))
 
 -- ---- Fields: a number of fields that the word does not have
 
+-- whether a record of this word may not have n fields
 abbrev pub fields_breaks : Word → ℕ → Bool
 fields_breaks word.Version n = not (n == 2)
 fields_breaks word.Table n = not (n == 3)
@@ -47,14 +50,17 @@ fields_breaks word.Close n = not (n == 2)
 
 -- ---- Number: a field that is not written as a number
 
+-- whether a number of columns is not written as a number
 abbrev pub is_no_columns : Columns → Bool
 is_no_columns columns.No = true
 is_no_columns _ = false
 
+-- whether some value is not written as a number
 abbrev pub is_no_values : Values → Bool
 is_no_values No = true
 is_no_values _ = false
 
+-- whether a statement has a key, an end, a value or a count of rows that is not written as a number
 abbrev pub ask_number_breaks : Ask → Bool
 ask_number_breaks (Begin scope) = false
 ask_number_breaks (Get table key) = is_no key
@@ -68,6 +74,7 @@ ask_number_breaks Commit = false
 ask_number_breaks Rollback = false
 ask_number_breaks (Gc kind) = false
 
+-- whether a version, a number of columns, a session or a number in a statement is not written as a number
 abbrev pub number_breaks : Draft → Bool
 number_breaks (Version version) = is_no version
 number_breaks (Table fresh cols) = is_no_columns cols
@@ -75,14 +82,17 @@ number_breaks (Session session ask) = is_no session || ask_number_breaks ask
 
 -- ---- Range: another version than 2, a number that is too small or too great, or columns other than 1 to 8
 
+-- whether columns are not 1 to 8, or have a letter that is neither `n` nor `t`
 abbrev pub is_over_columns : Columns → Bool
 is_over_columns columns.Over = true
 is_over_columns _ = false
 
+-- whether all values are written as numbers, but some is out of range
 abbrev pub is_over_values : Values → Bool
 is_over_values Over = true
 is_over_values _ = false
 
+-- whether a statement's key, end or value is out of range, or a fetch's count of rows is none from 1 to `MOST_FETCHED`
 abbrev pub ask_range_breaks : Ask → Bool
 ask_range_breaks (Begin scope) = false
 ask_range_breaks (Get table key) = is_over key
@@ -96,6 +106,7 @@ ask_range_breaks Commit = false
 ask_range_breaks Rollback = false
 ask_range_breaks (Gc kind) = false
 
+-- whether a version is not 2, columns are out of range, a session is none from 1 to `MOST_SESSIONS`, or a statement breaks its range
 abbrev pub range_breaks : Draft → Bool
 range_breaks (Version version) = not (is_between 2 2 version)
 range_breaks (Table fresh cols) = is_over_columns cols
@@ -103,6 +114,7 @@ range_breaks (Session session ask) = not (is_between 1 MOST_SESSIONS session) ||
 
 -- ---- Name: a name that no table may take, or that no table has, or that no collector has
 
+-- whether a statement names a table or a collector that there is not
 abbrev pub ask_name_breaks : Ask → Bool
 ask_name_breaks (Begin scope) = not (is_some scope)
 ask_name_breaks (Get table key) = not (is_some table)
@@ -116,6 +128,7 @@ ask_name_breaks Commit = false
 ask_name_breaks Rollback = false
 ask_name_breaks (Gc kind) = not (is_some kind)
 
+-- whether a table has a name that it may not take, or a statement names a table or a collector that there is not
 abbrev pub name_breaks : Draft → Bool
 name_breaks (Version version) = false
 name_breaks (Table fresh cols) = not fresh
@@ -129,10 +142,12 @@ count_of (Are row) = length row
 count_of (Bad count) = count
 count_of _ = 0
 
+-- whether a statement is a put whose values are not as many as its table's columns
 abbrev pub ask_columns_breaks : List Declaration → Ask → Bool
 ask_columns_breaks tables (Put table key values) = not (length (kinds_at tables table) == count_of values)
 ask_columns_breaks tables _ = false
 
+-- whether a record is a put whose values are not as many as its table's columns
 abbrev pub columns_breaks : List Declaration → Draft → Bool
 columns_breaks tables (Version version) = false
 columns_breaks tables (Table fresh cols) = false
@@ -140,14 +155,17 @@ columns_breaks tables (Session session ask) = ask_columns_breaks tables ask
 
 -- ---- Value: a row that has a value of another kind than its column
 
+-- whether values are fields that are not those of the columns
 abbrev pub is_bad_values : Values → Bool
 is_bad_values (Bad count) = true
 is_bad_values _ = false
 
+-- whether a statement is a put whose fields are not values of its table's columns
 abbrev pub ask_value_breaks : Ask → Bool
 ask_value_breaks (Put table key values) = is_bad_values values
 ask_value_breaks _ = false
 
+-- whether a record is a put whose fields are not values of its table's columns
 abbrev pub value_breaks : Draft → Bool
 value_breaks (Session session ask) = ask_value_breaks ask
 value_breaks _ = false
@@ -161,6 +179,7 @@ opened before say.Commit = false
 opened before say.Rollback = false
 opened before _ = before
 
+-- whether session j's transaction is open after a record of any session, where `before` says whether it was open until then
 abbrev pub opened_by : ℕ → Bool → Record → Bool
 opened_by j before r = if r.session == j then opened before r.statement else before
 
@@ -174,6 +193,7 @@ reading before (say.CursorOpen table low high) = true
 reading before say.CursorClose = false
 reading before _ = before
 
+-- whether session j's cursor is open after a record of any session, where `before` says whether it was open until then
 abbrev pub reading_by : ℕ → Bool → Record → Bool
 reading_by j before r = if r.session == j then reading before r.statement else before
 
@@ -196,6 +216,7 @@ ask_order_breaks within reads Commit = not within
 ask_order_breaks within reads Rollback = not within
 ask_order_breaks within reads (Gc kind) = false
 
+-- whether a record may not stand after these: a table after any statement, or a statement that breaks its session's order
 abbrev pub order_breaks : List Record → Draft → Bool
 order_breaks records (Version version) = false
 order_breaks records (Table fresh cols) = nat_lt 0 (length records)

@@ -5,6 +5,7 @@ use Rattle.hg_base.specs.declared.value.Column.TheVariants as column
 use Rattle.hg_script.specs.declared.values.Values.{Values}
 use Rattle.hg_script.specs.declared.values.Values.TheVariants.{No, Over, Bad, Are}
 
+-- whether a column holds numbers
 abbrev pub holds_numbers : Column → Bool
 holds_numbers column.Number = true
 holds_numbers column.Text = false

@@ -17,6 +17,7 @@ Ascends index = IsStrictlySortedBy rid_cmp (keys_of index)
 abbrev pub place_of : List (Rid × ℕ) → Rid → Option ℕ
 place_of index r = lookup (same_rid r) index
 
+-- the record has that place
 abbrev pub HasPlace : List (Rid × ℕ) → Rid → ℕ → Type 0
 HasPlace index r p = place_of index r ≡ Some p
 
@@ -33,6 +34,7 @@ pub record IsIndex (index : List (Rid × ℕ)) : Type 0 where
 abbrev pub AreTaken : List (Rid × ℕ) → List Seat → Type 0
 AreTaken index places = (r : Rid) (p : ℕ) → HasPlace index r p → IsTaken places p
 
+-- the record of that key in a table
 abbrev pub record_at : TableId → ℕ → Rid
 record_at table key = record { table = table; key = key }
 

@@ -9,6 +9,7 @@ abbrev pub seen : Place → Seat
 seen (Free next) = free
 seen (Taken oldest) = taken oldest
 
+-- whether a place is free
 abbrev pub is_free : Place → Bool
 is_free (Free next) = true
 is_free (Taken oldest) = false

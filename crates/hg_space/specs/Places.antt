@@ -11,9 +11,11 @@ Oldest = Option (ℕ × Image)
 abbrev pub Seat : Type 0
 Seat = Option Oldest
 
+-- a place that is free
 abbrev pub free : Seat
 free = None
 
+-- a place that is taken, with what it has
 abbrev pub taken : Oldest → Seat
 taken oldest = Some oldest
 

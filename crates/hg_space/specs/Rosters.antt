@@ -8,6 +8,7 @@ use Rattle.hg_space.specs.declared.roster.Standing.{Standing}
 abbrev pub list_of : {X : Type 0} → List (List X) → ℕ → List X
 list_of lists table = slice_index_or lists table []
 
+-- the lists that these vectors hold
 abbrev pub lists_in : List (Vec Listed Global) → List (List Listed)
 lists_in lists = map (λ v. v.items) lists
 

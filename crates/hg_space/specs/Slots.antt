@@ -12,11 +12,13 @@ use Rattle.hg_space.specs.Index.{place_of}
 
 -- ---- a slot
 
+-- whether a slot in this state has a record
 abbrev pub has_record : State → Bool
 has_record Empty = false
 has_record Left = false
 has_record Used = true
 
+-- whether a slot in this state is empty: it has no record, and is not marked as left by one
 abbrev pub was_never_used : State → Bool
 was_never_used Empty = true
 was_never_used Left = false
@@ -54,6 +56,7 @@ abbrev pub put_in : Rid → ℕ → List Slot → List Slot
 put_in r place [] = []
 put_in r place (s ∷ bin) = if is_used s then s ∷ put_in r place bin else used_by r place ∷ bin
 
+-- a slot after a record is taken out of its bin: left where it had the record, and else as it was
 abbrev pub without : Bool → Rid → Slot → Slot
 without gap r s = if is_of r s then left_by gap s else s
 
