@@ -1,12 +1,13 @@
 -- A sweep settles each version once, from the newest on.
-use Rattle.std.proofs.Common.{◌≡◌, ℕ, ◌+◌, ◌<◌, ◌≤◌, List, [], ◌∷◌, ◌++◌, ◌-◌, length, false, Option, None, refl, ap, sym, ◌∙◌, subst, arith}
+use Rattle.std.proofs.Common.{◌≡◌, ℕ, ◌+◌, ◌<◌, ◌≤◌, List, [], ◌∷◌, ◌++◌, ◌-◌, length, Bool, true, false, Option, None, refl, ap, sym, ◌∙◌, subst, arith}
+use Rattle.std.specs.Prelude.{cond}
 use Rattle.hg_base.proofs.ListFacts.{append_nil}
 use Rattle.hg_chain.specs.declared.version.Version.{Version}
 use Rattle.hg_chain.specs.Versions.{number_in, IsChain}
 use Rattle.hg_chain.specs.Sweeps.{last_number, swept, swept_away}
 use Rattle.hg_base.specs.Lifetimes.{goes}
 use Rattle.hg_chain.specs.Merging.{Follows}
-use Rattle.hg_chain.proofs.Sweeps.{Under, under_next, under_follows, swept_from, last_after, last_of_all, swept_stays, swept_sum}
+use Rattle.hg_chain.proofs.Sweeps.{Under, under_next, under_follows, swept_from, last_after, last_of_all, swept_goes, swept_stays, swept_sum}
 
 -- before is not settled yet, kept is what stays of the others, and both stand in items
 pub record Turned (horizon : ℕ) (snapshots : List ℕ) (old items : List Version) (rest : ℕ) (up : Option ℕ) : Type 0 where
@@ -66,7 +67,7 @@ regroup_end : (xs ys : List Version) (v : Version) → (xs ++ ys) ++ v ∷ [] �
 regroup_end [] ys v = refl
 regroup_end (x ∷ xs) ys v = ap (λ zs. x ∷ zs) (regroup_end xs ys v)
 
-pub turn_stays : (horizon : ℕ) (snapshots : List ℕ) (old : List Version) (v : Version) (more : List Version) (rest : ℕ) (up : Option ℕ) → 0 < rest →
+turn_stays : (horizon : ℕ) (snapshots : List ℕ) (old : List Version) (v : Version) (more : List Version) (rest : ℕ) (up : Option ℕ) → 0 < rest →
     Turned horizon snapshots old (v ∷ more) rest up → goes horizon snapshots up (number_in v.stamp) ≡ false → Turned horizon snapshots old (more ++ v ∷ []) (rest - 1) (number_in v.stamp)
 turn_stays horizon snapshots old v more rest up h t e =
     let o = opened horizon snapshots old v more rest up h t in
@@ -80,6 +81,30 @@ turn_stays horizon snapshots old v more rest up h t e =
       under = under_next v.stamp o.before o.chain.0;
       chain = o.chain.1;
     }
+
+turn_goes : (horizon : ℕ) (snapshots : List ℕ) (old : List Version) (v : Version) (more : List Version) (rest : ℕ) (up : Option ℕ) → 0 < rest →
+    Turned horizon snapshots old (v ∷ more) rest up → goes horizon snapshots up (number_in v.stamp) ≡ true → Turned horizon snapshots old more (rest - 1) (number_in v.stamp)
+turn_goes horizon snapshots old v more rest up h t e =
+    let o = opened horizon snapshots old v more rest up h t in
+    record {
+      before = o.before;
+      kept = o.kept;
+      stand = o.stand;
+      many = (let m = o.many in omega (arith, m));
+      left = ap (λ ws. o.kept ++ ws) (sym (swept_goes horizon snapshots up v o.before e)) ∙ o.left;
+      last = o.last;
+      under = under_next v.stamp o.before o.chain.0;
+      chain = o.chain.1;
+    }
+
+-- the version goes, or stays and comes to the end
+pub turn : (horizon : ℕ) (snapshots : List ℕ) (old : List Version) (v : Version) (more items : List Version) (rest : ℕ) (up : Option ℕ) (gone : Bool) → 0 < rest →
+    Turned horizon snapshots old (v ∷ more) rest up → goes horizon snapshots up (number_in v.stamp) ≡ gone → items ≡ cond gone more (more ++ v ∷ []) →
+    Turned horizon snapshots old items (rest - 1) (number_in v.stamp)
+turn horizon snapshots old v more items rest up true h t e is =
+    subst (λ vs. Turned horizon snapshots old vs (rest - 1) (number_in v.stamp)) (sym is) (turn_goes horizon snapshots old v more rest up h t e)
+turn horizon snapshots old v more items rest up false h t e is =
+    subst (λ vs. Turned horizon snapshots old vs (rest - 1) (number_in v.stamp)) (sym is) (turn_stays horizon snapshots old v more rest up h t e)
 
 -- at the end nothing is left to settle
 pub ended : (horizon : ℕ) (snapshots : List ℕ) (old items : List Version) (up : Option ℕ) → Turned horizon snapshots old items 0 up → (items ≡ swept horizon snapshots old) × (up ≡ last_number old)

@@ -1,8 +1,9 @@
 //! The versions of one record, with the calls that change them.
 
-ghost use Rattle.std.specs.Prelude.{ℕ, ◌≡◌, [], drop, not, IsTrue, IsSome, IfOk, IfErr, IsOk, OnOk, OnErr, option_and_then, length, take, ◌<◌, slice_get, None, find, count_by, ◌-◌, ◌+◌, ◌≤◌, option_to_list};
+ghost use Rattle.std.specs.Prelude.{ℕ, ◌≡◌, [], ◌∷◌, ◌++◌, false, if◌then◌else◌, drop, not, IsTrue, IsSome, IfOk, IfErr, IsOk, OnOk, OnErr, option_and_then, length, take, ◌<◌, slice_get, None, find, count_by, ◌-◌, ◌+◌, ◌≤◌, option_to_list};
 ghost use Rattle.std.specs.Bool.{OnFalse};
 ghost use Rattle.std.specs.Option.{option_copied};
+ghost use Rattle.std.specs.VecDeque.{deque_capacity, deque_len};
 ghost use Rattle.hg_base.specs.Lists.{Each};
 ghost use Rattle.hg_chain.specs.Sweeps.{Rises, swept, swept_away, last_number, IsClean};
 ghost use Rattle.hg_base.specs.Lifetimes.{goes, MayStay, IsGuarded};
@@ -212,6 +213,17 @@ impl Chain {
     }
 }
 
+// Puts a version at the end, for which there is room, unless it goes.
+fn keep_unless(goes: bool, versions: &mut VecDeque<Version>, version: Version)
+    requires room { goes ≡ false → deque_len versions.old < deque_capacity versions.old }
+    ensures { versions.new.items ≡
+        (if goes then versions.old.items else versions.old.items ++ version ∷ []) }
+{
+    if !goes {
+        versions.push_back_reserved(version);
+    }
+}
+
 // Each version leaves at the front, and one that stays comes back at the end, for which there is room.
 fn sweep_all<L: Ledger>(
     versions: &mut VecDeque<Version>,
@@ -239,9 +251,8 @@ fn sweep_all<L: Ledger>(
     while rest > 0 {
         rest -= 1;
         if let Some(version) = versions.pop_front() {
-            if !merge.settle(horizon, snapshots, version.number(), steps) {
-                versions.push_back_reserved(version);
-            }
+            let goes = merge.settle(horizon, snapshots, version.number(), steps);
+            keep_unless(goes, versions, version);
         }
     }
     Swept {

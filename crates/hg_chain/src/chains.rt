@@ -95,8 +95,7 @@ impl Chains {
     pub fn visible(&self, place: u64, at: u64) -> Option<&Image>
         ensures { option_copied result ≡ image_at at (list_at self.now place) }
     {
-        let start = self.landmarks.start(&self.arena, place, at);
-        let cursor = self.arena.passed(place, at, start);
+        let cursor = self.landmarks.passed(&self.arena, place, at);
         if cursor.kept == self.arena.head(place).strand.count {
             return None;
         }
@@ -198,8 +197,7 @@ impl Chains {
         ensures others { OthersStay place self.old self.new }
         ensures nodes { nodes_of self.new ≡ nodes_of self.old }
     {
-        let start = self.landmarks.start(&self.arena, place, bound);
-        let cursor = self.arena.passed(place, bound, start);
+        let cursor = self.landmarks.passed(&self.arena, place, bound);
         let all = self.arena.head(place).strand.count;
         if cursor.kept == all {
             return Cut {

@@ -1,8 +1,8 @@
 //! Landmarks: nodes along a long chain, at which a read of an old version starts.
 
-ghost use Rattle.std.specs.Prelude.{◌≡◌, ◌≢◌, ℕ, ◌+◌, ◌<◌, ◌≤◌, ◌∷◌, ◌++◌, [], false, take, IfSome, OnOk, OnErr, vec_len};
+ghost use Rattle.std.specs.Prelude.{◌≡◌, ◌≢◌, ℕ, ◌+◌, ◌<◌, ◌≤◌, ◌∷◌, ◌++◌, [], false, length, take, IfSome, OnOk, OnErr, vec_len};
 ghost use Rattle.hg_base.specs.Lists.{Each};
-ghost use Rattle.hg_chain.specs.Versions.{IsChain, is_at_most};
+ghost use Rattle.hg_chain.specs.Versions.{IsChain, is_at_most, left_by};
 ghost use Rattle.hg_chain.specs.Strands.{node_at};
 ghost use Rattle.hg_chain.specs.Arenas.{IsArena, IsAt, head_in, list_in};
 ghost use Rattle.hg_chain.specs.Landmarks.{AreLandmarks, HasLandmarks, IsLandmarkIn, landmarks_of};
@@ -140,8 +140,8 @@ impl Landmarks {
         nearest
     }
 
-    /// Where a walk to the versions at the bound starts: before the first version, or after a landmark that is over the bound.
-    pub fn start(&self, arena: &Arena, place: u64, bound: u64) -> Cursor
+    // Where a walk to the versions at the bound starts: before the first version, or after a landmark that is over the bound.
+    fn start(&self, arena: &Arena, place: u64, bound: u64) -> Cursor
         requires arena { IsArena arena.now }
         requires chain { IsChain (list_in arena.now place) }
         requires landmarks { HasLandmarks arena.now place (landmarks_of self.now place) }
@@ -152,7 +152,7 @@ impl Landmarks {
     {
         let head = arena.head(place);
         let start = arena.start(place);
-        if head.strand.count <= STRIDE || !arena.is_newer(head, start, bound) {
+        if head.strand.count <= STRIDE {
             return start;
         }
         match self.nearest(arena, place, bound) {
@@ -163,5 +163,20 @@ impl Landmarks {
             }),
             None => start,
         }
+    }
+    /// Passes the versions of a place that aren't at the bound. Most readers want the first version, so it is tested before any landmark
+    /// is looked for.
+    pub fn passed(&self, arena: &Arena, place: u64, bound: u64) -> Cursor
+        requires arena { IsArena arena.now }
+        requires chain { IsChain (list_in arena.now place) }
+        requires landmarks { HasLandmarks arena.now place (landmarks_of self.now place) }
+        ensures at { IsAt arena.now place result }
+        ensures kept { result.kept ≡ length (left_by bound (list_in arena.now place)) }
+    {
+        let first = arena.start(place);
+        if !arena.is_newer(arena.head(place), first, bound) {
+            return first;
+        }
+        arena.passed(place, bound, self.start(arena, place, bound))
     }
 }

@@ -1,9 +1,9 @@
-use Rattle.std.proofs.Common.{◌≡◌, ◌<◌, ◌∷◌, false, sym, ◌∙◌, subst, arith}
+use Rattle.std.proofs.Common.{◌≡◌, ◌<◌, ◌∷◌, ap, sym, ◌∙◌, subst, arith}
 use Rattle.hg_chain.specs.Versions.{number_in}
 use Rattle.hg_base.specs.Lifetimes.{goes}
 use Rattle.hg_chain.specs.Merging.{Follows}
 use Rattle.hg_chain.proofs.Merges.{none_behind}
-use Rattle.hg_chain.proofs.Turns.{Turned, begun, turn_stays, follows, ended_length}
+use Rattle.hg_chain.proofs.Turns.{Turned, begun, turn, follows, ended_length}
 use Rattle.hg_chain.proofs.chain.sweep_all.Goals as goal
 
 pub loop-rest-init : goal.loop-rest-init
@@ -15,22 +15,24 @@ loop-rest-init g c =
       cost = omega (arith, c.len-all.ensures);
     }
 
-pub loop-rest-preserved-then-not-settle : goal.loop-rest-preserved-then-not-settle
-loop-rest-preserved-then-not-settle g c =
+pub loop-rest-preserved-in-Some : goal.loop-rest-preserved-in-Some
+loop-rest-preserved-in-Some g c =
+    let old = c.args.versions.now.items in
+    let v = c.in-Some.version in
+    let more = c.pop_front.new.self.items in
     let up = c.loop-rest.merge.successor in
     let some : 0 < c.loop-rest.rest = c.loop-rest-test.true in
-    let before : Turned c.args.horizon c.args.snapshots.now c.args.versions.now.items (c.in-Some.version ∷ c.pop_front.new.self.items) c.loop-rest.rest up =
-    subst (λ vs. Turned c.args.horizon c.args.snapshots.now c.args.versions.now.items vs c.loop-rest.rest up) c.in-Some.ensures.items c.loop-rest.invariant.turned in
-    let stays : goes c.args.horizon c.args.snapshots.now up (number_in c.in-Some.version.stamp) ≡ false =
-    subst (λ n. goes c.args.horizon c.args.snapshots.now up n ≡ false) c.number.ensures (sym c.settle.ensures.goes ∙ c.if-not-settle.true) in
-    let next = turn_stays c.args.horizon c.args.snapshots.now c.args.versions.now.items c.in-Some.version c.pop_front.new.self.items c.loop-rest.rest up some before stays in
-    let follows = subst (Follows up) (sym c.number.ensures) (follows c.args.horizon c.args.snapshots.now c.args.versions.now.items c.in-Some.version c.pop_front.new.self.items
-    c.loop-rest.rest up some before) in
+    let before : Turned c.args.horizon c.args.snapshots.now old (v ∷ more) c.loop-rest.rest up =
+    subst (λ vs. Turned c.args.horizon c.args.snapshots.now old vs c.loop-rest.rest up) c.in-Some.ensures.items c.loop-rest.invariant.turned in
+    let gone : goes c.args.horizon c.args.snapshots.now up (number_in v.stamp) ≡ c.settle-goes.result =
+    ap (goes c.args.horizon c.args.snapshots.now up) (sym c.number.ensures) ∙ sym c.settle-goes.ensures.goes in
+    let next = turn c.args.horizon c.args.snapshots.now old v more c.keep_unless.new.versions.items c.loop-rest.rest up c.settle-goes.result some before gone c.keep_unless.ensures in
+    let follows = subst (Follows up) (sym c.number.ensures) (follows c.args.horizon c.args.snapshots.now old v more c.loop-rest.rest up some before) in
     record {
-      turned = rw (c.push_back_reserved.ensures.items, c.settle.ensures.successor, c.number.ensures) next;
-      passed = rw c.settle.ensures.successor (c.settle.ensures.passed follows);
-      within = c.settle.ensures.within;
-      cost = omega (arith, some, c.settle.ensures.cost, c.loop-rest.invariant.cost);
+      turned = rw (c.settle-goes.ensures.successor, c.number.ensures) next;
+      passed = rw c.settle-goes.ensures.successor (c.settle-goes.ensures.passed follows);
+      within = c.settle-goes.ensures.within;
+      cost = omega (arith, some, c.settle-goes.ensures.cost, c.loop-rest.invariant.cost);
     }
 
 pub overflow_sub-result : goal.overflow_sub-result

@@ -1,13 +1,9 @@
 use Rattle.std.proofs.Common.{◌-◌, sym, ap, subst, arith}
 use Rattle.hg_chain.specs.declared.node.Head.{Head}
-use Rattle.hg_chain.proofs.Walks.{at_there, next_at}
+use Rattle.hg_chain.proofs.Walks.{next_at}
 use Rattle.hg_chain.proofs.LandmarkFacts.{LandmarkStands, landmark_stands, landmark_low, landmark_newer}
 use Rattle.hg_chain.proofs.landmarks.Landmarks.start.Goals as goal
 use Rattle.hg_chain.proofs.landmarks.Landmarks.start.Goals.{After-pass}
-
-pub is_newer-requires : goal.is_newer-requires
-is_newer-requires c = λ less. at_there c.args.arena.now c.args.place c.start-start.result c.requires.arena c.start-start.ensures.at
-    (let e = ap (λ (h : Head). h.strand.count) c.head-head.ensures in omega (arith, e, less))
 
 pub overflow_sub-head : goal.overflow_sub-head
 overflow_sub-head c =
