@@ -33,6 +33,7 @@ impl<'a> Held<'a> {
     ghost use Rattle.hg_store.specs.Stores.{held_records, Holds};
 
     /// What a transaction reads of a record: a deletion is an image of nothing, and none is where it sees no version.
+    #[inline(always)]
     pub fn read(&self, rid: Rid, snapshot: u64, own: Writer) -> Option<&Image>
         ensures exact { option_copied result ≡
             read_at own snapshot (versions_of (held_records self.now).records rid) }
