@@ -22,7 +22,7 @@ use Rattle.hg_cursor.proofs.Gathering.{IsGathered, all_count, all_over, ascends_
 
 -- ---- in order
 
-ascends_sorted : (rows : Rows) → IsNonDecreasingBy key_of rows → IsDistinct nat_eq (map key_of rows) → Ascends (map key_of rows)
+pub ascends_sorted : (rows : Rows) → IsNonDecreasingBy key_of rows → IsDistinct nat_eq (map key_of rows) → Ascends (map key_of rows)
 ascends_sorted [] s d = tt
 ascends_sorted (p ∷ []) s d = tt
 ascends_sorted (p ∷ q ∷ rows) s d =
@@ -34,7 +34,7 @@ ascends_sorted (p ∷ q ∷ rows) s d =
     less : (a b : ℕ) → a ≤ b → (a ≡ b → ⊥) → a < b
     less a b le n = cases (nat_lt a b) (λ t. grind (arith, nat_tests, t)) (λ f. absurd (n (grind (arith, nat_tests, f, le))))
 
-nat_eq_flips : (x y : ℕ) → nat_eq x y ≡ nat_eq y x
+pub nat_eq_flips : (x y : ℕ) → nat_eq x y ≡ nat_eq y x
 nat_eq_flips x y = cases (nat_eq x y) (λ t. t ∙ sym ((Decides-eqb y x).1 (sym ((Decides-eqb x y).0 t)))) (λ f. f ∙ sym (is_apart y x (λ e. differ x y f (sym e))))
 
 each_get : (P : ℕ × List Value → Type 0) (xs : Rows) (i : ℕ) (d : ℕ × List Value) → i < length xs → Each P xs → P (get_or xs i d)
@@ -42,7 +42,7 @@ each_get P [] i d less e = absurd (omega (arith, less))
 each_get P (x ∷ xs) zero d less e = e.0
 each_get P (x ∷ xs) (suc i) d less e = let l : i < length xs = omega (arith, less) in each_get P xs i d l e.1
 
-each_permuted : (P : ℕ × List Value → Type 0) (xs ys : Rows) → IsPermutation xs ys → Each P xs → Each P ys
+pub each_permuted : (P : ℕ × List Value → Type 0) (xs ys : Rows) → IsPermutation xs ys → Each P xs → Each P ys
 each_permuted P xs ys q e = all_each ys (All-permutation P xs ys q (λ k d less. each_get P xs k d less e))
   where
     all_each : (zs : Rows) → All P zs → Each P zs

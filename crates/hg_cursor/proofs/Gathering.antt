@@ -50,7 +50,7 @@ each_of : (P : ℕ → Type 0) (xs : List ℕ) → AllByRecursion P xs → Each 
 each_of P [] e = tt
 each_of P (x ∷ xs) e = (e.0, each_of P xs e.1)
 
-distinct_append : (xs ys : List ℕ) → IsDistinct nat_eq xs → IsDistinct nat_eq ys → Each (λ x. Each (λ y. nat_eq x y ≡ false) ys) xs → IsDistinct nat_eq (xs ++ ys)
+pub distinct_append : (xs ys : List ℕ) → IsDistinct nat_eq xs → IsDistinct nat_eq ys → Each (λ x. Each (λ y. nat_eq x y ≡ false) ys) xs → IsDistinct nat_eq (xs ++ ys)
 distinct_append [] ys a b e = b
 distinct_append (x ∷ xs) ys a b e =
     IsDistinct-cons nat_eq x (xs ++ ys)
@@ -62,7 +62,7 @@ pub all_over : (x : ℕ) (xs : List ℕ) → Ascends (x ∷ xs) → Each (λ y. 
 all_over x [] a = tt
 all_over x (y ∷ ys) a = (a.0, each_keeps (λ z. y < z) (λ z. x < z) (λ z l. let k = a.0 in omega (arith, k, l)) ys (all_over y ys a.1))
 
-nothing_twice : IsDistinct nat_eq []
+pub nothing_twice : IsDistinct nat_eq []
 unfolding IsDistinct
 nothing_twice = tt
 
@@ -81,14 +81,14 @@ looks_same count table low high p q (suc n) same =
     λ i. Saw table low high (bucket_at count table low n) (same n (omega arith) i) ∷ rest i
 
 -- the parts with one more
-with_part : (ℕ → Rows) → ℕ → Rows → ℕ → Rows
+pub with_part : (ℕ → Rows) → ℕ → Rows → ℕ → Rows
 with_part part n rows i = cond (i == n) rows (part i)
 
-part_here : (part : ℕ → Rows) (n : ℕ) (rows : Rows) → with_part part n rows n ≡ rows
+pub part_here : (part : ℕ → Rows) (n : ℕ) (rows : Rows) → with_part part n rows n ≡ rows
 unfolding with_part
 part_here part n rows = ap (λ t. cond t rows (part n)) ((Decides-eqb n n).1 refl)
 
-part_else : (part : ℕ → Rows) (n : ℕ) (rows : Rows) (i : ℕ) → i < n → with_part part n rows i ≡ part i
+pub part_else : (part : ℕ → Rows) (n : ℕ) (rows : Rows) (i : ℕ) → i < n → with_part part n rows i ≡ part i
 unfolding with_part
 part_else part n rows i l = ap (λ t. cond t rows (part i)) (is_apart i n (λ e. absurd (omega (arith, l, e))))
 

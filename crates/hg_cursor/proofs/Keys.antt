@@ -35,7 +35,7 @@ is_apart a b n = cases (a == b) (λ t. absurd (n ((Decides-eqb a b).0 t))) (λ f
 -- ---- round the buckets
 
 -- the bucket of a key that is d above another one
-moved : (n : ℕ) (table : TableId) (k d : ℕ) → bucket_of n (record_at table (k + d)) ≡ (bucket_of n (record_at table k) + d) % n
+pub moved : (n : ℕ) (table : TableId) (k d : ℕ) → bucket_of n (record_at table (k + d)) ≡ (bucket_of n (record_at table k) + d) % n
 unfolding bucket_of
 moved n table k d =
     let c : ℕ = 31 * table.0 in
@@ -73,12 +73,12 @@ shortest n h a d home within e = cases (nat_lt d a)
     go less (inr x) (inl y) = let p = x.1 in let q = y.1 in omega (arith, e, less, within, p, q)
     go less (inr x) (inr y) = let p = x.1 in let q = y.1 in omega (arith, e, less, p, q)
 
-home_within : (n : ℕ) (r : Rid) → 0 < n → bucket_of n r < n
+pub home_within : (n : ℕ) (r : Rid) → 0 < n → bucket_of n r < n
 unfolding bucket_of
 home_within n r some = omega (arith, some)
 
 -- no key of a bucket is passed over on the way from a record to it
-not_before : (n b : ℕ) (table : TableId) (from a k : ℕ) → bucket_of n (record_at table from) < n → a < n → (bucket_of n (record_at table from) + a) % n ≡ b → from ≤ k →
+pub not_before : (n b : ℕ) (table : TableId) (from a k : ℕ) → bucket_of n (record_at table from) < n → a < n → (bucket_of n (record_at table from) + a) % n ≡ b → from ≤ k →
     IsOwnKey n b table k → from + a ≤ k
 not_before n b table from a k home within there le own =
     let back : from + (k - from) ≡ k = omega (arith, le) in

@@ -32,7 +32,7 @@ use Rattle.hg_cursor.proofs.Uniqueness.{row_there}
 use Rattle.hg_cursor.proofs.Trips.{Beside, first_session}
 
 -- a row is of a record that has a version
-shown_there : (by : Writer) (at : ℕ) (table : TableId) (content : Content) (key : ℕ) (row : List Value) → (read_of by at table content key).row ≡ Some row → HasVersion content table key
+pub shown_there : (by : Writer) (at : ℕ) (table : TableId) (content : Content) (key : ℕ) (row : List Value) → (read_of by at table content key).row ≡ Some row → HasVersion content table key
 shown_there by at table content key row e = cases (nat_lt 0 (length (look (record_at table key) content)))
     (λ t. grind (arith, nat_tests, t))
     (λ f. absurd (none_some (read_of by at table content key).row row (unread by at table content key (λ l. grind (arith, nat_tests, f, l))) e))

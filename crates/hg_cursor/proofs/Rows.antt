@@ -43,7 +43,7 @@ pub record IsUpTo (shown : ℕ → Image) (low high : ℕ) (old rows : Rows) (k 
   pub every : (key : ℕ) → low ≤ key → key ≤ high → key ≤ k → IsTrue (list_any (λ p. p.0 == key) more) ⊎ ((shown key).row ≡ None)
   pub below : Each (λ p. p.0 ≤ k) more
 
-ascends_snoc : (ns : List ℕ) (k : ℕ) → Ascends ns → Each (λ n. n < k) ns → Ascends (ns ++ k ∷ [])
+pub ascends_snoc : (ns : List ℕ) (k : ℕ) → Ascends ns → Each (λ n. n < k) ns → Ascends (ns ++ k ∷ [])
 ascends_snoc [] k a b = tt
 ascends_snoc (m ∷ []) k a b = (b.0, tt)
 ascends_snoc (m ∷ n ∷ ns) k a b = (a.0, ascends_snoc (n ∷ ns) k a.1 b.1)

@@ -35,7 +35,7 @@ pub record Beside (j : ℕ) (part : SessionPart) (b : ℕ) (old : List Sight) (v
   pub parts : v.parts ≡ OfSession j part ∷ OfBucket b holds ∷ []
   pub kept : StartsWith v.sights old
 
-only_others : (v : View) → HasOnlySession v → others v ≡ []
+pub only_others : (v : View) → HasOnlySession v → others v ≡ []
 only_others v only = ap after_first only
 
 pub only_session : (v : View) → HasOnlySession v → HasSession v
@@ -58,7 +58,7 @@ arrived v u b only t = record {
   kept = (t.seen, ap (λ (x : View). x.sights) t.after);
 }
 
-more_seen : (old sights xs : List Sight) → StartsWith sights old → StartsWith (sights ++ xs) old
+pub more_seen : (old sights xs : List Sight) → StartsWith sights old → StartsWith (sights ++ xs) old
 more_seen old sights xs k = (k.0 ++ xs, ap (λ l. l ++ xs) k.1 ∙ append_assoc old k.0 xs)
 
 pub looked : (j : ℕ) (part : SessionPart) (b n : ℕ) (old : List Sight) (ask : Ask) (u w : View) → Beside j part b old u → (k : Looks u ask n w) →

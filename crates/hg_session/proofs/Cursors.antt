@@ -27,6 +27,7 @@ use Rattle.hg_rule.specs.declared.view.View.{View}
 use Rattle.hg_rule.specs.Seats.{IsSessionOf}
 use Rattle.hg_rule.specs.Views.{number, session, HasOnlySession}
 use Rattle.hg_rule.specs.Writes.{with_log}
+use Rattle.hg_cursor.specs.Keys.{Rows}
 use Rattle.hg_session.specs.declared.engine.Engine.{Engine}
 use Rattle.hg_session.specs.declared.session.Session.{Session}
 use Rattle.hg_session.specs.Cursors.{IsLeftBy, FitsRest, HasLookedOn}
@@ -34,7 +35,6 @@ use Rattle.hg_session.specs.Engines.{engine_board_id, engine_sizes}
 use Rattle.hg_session.specs.Gains.{Gains}
 use Rattle.hg_session.specs.Refused.{IsLookAt}
 use Rattle.hg_session.specs.Replies.{AnswersFrom, inside}
-use Rattle.hg_session.specs.Scans.{Rows}
 use Rattle.hg_session.specs.Sessions.{IsIn, IsOf, pass_of, view_of, number_of, log_of, seen_by, open_of, cursor_of, left_of, opened_of, written_of}
 use Rattle.hg_session.specs.Ties.{Ties, FitsCursor, phase_at, snapshot_of}
 use Rattle.hg_rule.specs.Facts.{IsHeard}

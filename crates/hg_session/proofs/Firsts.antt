@@ -31,8 +31,7 @@ use Rattle.hg_session.specs.declared.answers.PutRefusal.TheVariants as put
 use Rattle.hg_session.specs.Firsts.{AnswersWrite, HasFirst, ShownFirst, ShowsPut, ShowsWrite}
 use Rattle.hg_session.specs.Gains.{Gains}
 use Rattle.hg_session.specs.Replies.{Answers, refused_at, refused_reply}
-use Rattle.hg_session.proofs.Trips.{Beside}
-use Rattle.hg_cursor.proofs.Trips.{first_number, first_session}
+use Rattle.hg_cursor.proofs.Trips.{first_number, first_session, Beside}
 
 -- ---- what was heard stays so
 

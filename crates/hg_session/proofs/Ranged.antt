@@ -20,8 +20,9 @@ use Rattle.hg_rule.specs.declared.view.Sizes.{Sizes}
 use Rattle.hg_rule.specs.declared.view.View.{View}
 use Rattle.hg_rule.specs.Views.{session}
 use Rattle.hg_tracker.specs.Begun.{AtMost}
+use Rattle.hg_cursor.specs.Keys.{Rows}
 use Rattle.hg_session.specs.Gains.{Gains}
-use Rattle.hg_session.specs.Scans.{Rows, ScansAll}
+use Rattle.hg_session.specs.Scans.{ScansAll}
 use Rattle.hg_session.specs.Replies.{inside, Answers}
 use Rattle.hg_session.proofs.Replying.{nothing_more, answers_inside, answers_alone}
 use Rattle.hg_session.proofs.Putting.{Writing}

@@ -16,13 +16,13 @@ use Rattle.hg_bucket.specs.declared.refusal.WriteRefusal.{WriteRefusal}
 use Rattle.hg_bucket.specs.declared.refusal.WriteRefusal.TheVariants.{Open, Newer, NoMemory}
 use Rattle.hg_rule.specs.declared.view.Sizes.{Sizes}
 use Rattle.hg_rule.specs.declared.view.View.{View}
+use Rattle.hg_cursor.specs.Keys.{Rows}
 use Rattle.hg_session.specs.declared.answers.PutRefusal.{PutRefusal}
 use Rattle.hg_session.specs.declared.answers.PutRefusal.TheVariants as put
 use Rattle.hg_session.specs.Alone.{IsRefusedAlone}
 use Rattle.hg_session.specs.Gains.{Gains, entries_of}
 use Rattle.hg_session.specs.Refused.{IsLookAt, HasLooked, HasGivenUp, taken_back, LeavesNoWrite}
 use Rattle.hg_session.specs.Replies.{refused_at}
-use Rattle.hg_session.specs.Scans.{Rows}
 use Rattle.hg_session.proofs.Settling.{gains_on}
 
 -- ---- looks

@@ -27,9 +27,10 @@ use Rattle.hg_base.specs.declared.value.Value.{Value}
 use Rattle.hg_base.specs.History.{Write}
 use Rattle.hg_base.specs.Replies.{is_written}
 use Rattle.hg_base.specs.Transcript.{committed_by}
+use Rattle.hg_cursor.specs.Keys.{rows_at}
 use Rattle.hg_session.specs.Ties.{AreWritten}
 use Rattle.hg_session.proofs.Done.{unwritten}
-use Rattle.hg_session.specs.Gains.{Gains, rows_at}
+use Rattle.hg_session.specs.Gains.{Gains}
 use Rattle.hg_session.specs.Replies.{inside, row_answer, IsNext, GoesOn, Answers}
 
 -- nothing that a reply doesn't print

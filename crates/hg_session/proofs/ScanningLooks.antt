@@ -1,16 +1,12 @@
 -- What a look at a range of one bucket logs, and that the rows that were copied are those.
-use Rattle.std.proofs.Common.{◌≡◌, ℕ, ◌≤◌, List, [], ◌∷◌, ◌++◌, length, Some, Result, Ok, Err, ap, ◌∙◌, subst, arith}
-use Rattle.std.specs.Prelude.{nat_lt, OnOk}
-use Rattle.std.proofs.lemmas.Bool.Decides.{nat_tests}
+use Rattle.std.proofs.Common.{◌≡◌, ℕ, ◌≤◌, List, [], ◌∷◌, ◌++◌, Some, Result, Ok, Err, ap, ◌∙◌, subst}
+use Rattle.std.specs.Prelude.{OnOk}
 use Rattle.hg_base.specs.declared.rid.TableId.{TableId}
 use Rattle.hg_base.specs.declared.writer.Writer.{Writer}
 use Rattle.hg_base.specs.declared.fault.NoMemory.{NoMemory}
-use Rattle.hg_base.specs.declared.value.Value.{Value}
-use Rattle.hg_base.proofs.ListFacts.{cases, none_some, each_keeps}
+use Rattle.hg_base.proofs.ListFacts.{each_keeps}
 use Rattle.hg_core.specs.declared.ask.Ask.TheVariants.{Read}
 use Rattle.hg_core.specs.declared.log.LogEntry.TheVariants.{Saw}
-use Rattle.hg_core.specs.Contents.{Content, look}
-use Rattle.hg_bucket.specs.BucketModel.{record_at}
 use Rattle.hg_rule.specs.declared.view.SessionPart.{SessionPart}
 use Rattle.hg_rule.specs.declared.view.Part.{Part}
 use Rattle.hg_rule.specs.declared.view.Sight.{Sight}
@@ -19,19 +15,14 @@ use Rattle.hg_rule.specs.Views.{part_number, after_first}
 use Rattle.hg_rule.specs.Holding.{bucket, writer, snapshot}
 use Rattle.hg_rule.specs.Writes.{with_log, with_entry, log_asked, Looks}
 use Rattle.hg_rule.specs.Places.{without_bucket}
+use Rattle.hg_cursor.specs.Keys.{Rows, IsOwnKey, AreOwn, read_of}
+use Rattle.hg_cursor.proofs.Keys.{own_key}
+use Rattle.hg_cursor.proofs.Uniqueness.{same_rows}
+use Rattle.hg_cursor.proofs.Looking.{shown_there}
 use Rattle.hg_session.specs.Gains.{Gains}
-use Rattle.hg_session.specs.Scans.{Rows, IsOwnKey, AreOwn, HasVersion, read_of, Appends, Sees}
-use Rattle.hg_session.proofs.Trips.{Beside, looked}
-use Rattle.hg_cursor.proofs.Trips.{first_session}
+use Rattle.hg_session.specs.Scans.{Appends, Sees}
+use Rattle.hg_cursor.proofs.Trips.{first_session, Beside, looked}
 use Rattle.hg_session.proofs.Settling.{Trip, trip}
-use Rattle.hg_session.proofs.ScanningKeys.{own_key, unread}
-use Rattle.hg_session.proofs.ScanningRows.{same_rows}
-
--- a row is of a record that has a version
-shown_there : (by : Writer) (at : ℕ) (table : TableId) (content : Content) (key : ℕ) (row : List Value) → (read_of by at table content key).row ≡ Some row → HasVersion content table key
-shown_there by at table content key row e = cases (nat_lt 0 (length (look (record_at table key) content)))
-    (λ t. grind (arith, nat_tests, t))
-    (λ f. absurd (none_some (read_of by at table content key).row row (unread by at table content key (λ l. grind (arith, nat_tests, f, l))) e))
 
 on_ok : {T A B : Type 0} (answer : Result T NoMemory) → (A → B) → OnOk answer A → OnOk answer B
 on_ok (Ok t) f a = f a

@@ -1,27 +1,30 @@
 -- The rows of all buckets, the looks at them, and the order of the rows.
-use Rattle.std.proofs.Common.{◌≡◌, ℕ, zero, suc, ◌<◌, ◌≤◌, List, [], ◌∷◌, ◌++◌, map, length, get_or, true, false, cond, Result, refl, sym, ap, ◌∙◌, subst, arith}
-use Rattle.std.specs.Prelude.{◌==◌, nat_eq, nat_lt, if◌then◌else◌, IsTrue, Contains}
-use Rattle.std.specs.List.{IsDistinct, All, AllByRecursion}
+use Rattle.std.proofs.Common.{◌≡◌, ℕ, zero, suc, ◌<◌, List, [], ◌∷◌, ◌++◌, map, true, false, Result, refl, sym, ap, ◌∙◌, subst, arith}
+use Rattle.std.specs.Prelude.{nat_eq, nat_lt, if◌then◌else◌, IsTrue, Contains}
+use Rattle.std.specs.List.{IsDistinct}
 use Rattle.std.specs.List.Sorted.{IsPermutation, IsNonDecreasingBy}
-use Rattle.std.proofs.lemmas.Bool.Decides.{Decides-eqb, nat_tests}
-use Rattle.std.proofs.lemmas.Map.Keys.{IsDistinct-head, IsDistinct-tail, IsDistinct-cons, IsDistinct-IsPermutation}
-use Rattle.std.proofs.lemmas.List.Sorted.{IsPermutation-map, All-permutation, Contains-permutation}
+use Rattle.std.proofs.lemmas.Bool.Decides.{nat_tests}
+use Rattle.std.proofs.lemmas.Map.Keys.{IsDistinct-IsPermutation}
+use Rattle.std.proofs.lemmas.List.Sorted.{IsPermutation-map, Contains-permutation}
 use Rattle.std.proofs.lemmas.List.Elements.{Contains-append_left, Contains-append_right}
 use Rattle.hg_base.specs.declared.rid.TableId.{TableId}
 use Rattle.hg_base.specs.declared.fault.NoMemory.{NoMemory}
 use Rattle.hg_base.specs.declared.value.Value.{Value}
-use Rattle.hg_base.specs.Lists.{Each, Ascends}
+use Rattle.hg_base.specs.Lists.{Each}
 use Rattle.hg_base.proofs.ListFacts.{cases, each_append, each_keeps, append_nil}
 use Rattle.hg_core.specs.declared.log.LogEntry.TheVariants.{Saw}
 use Rattle.hg_core.specs.Contents.{bucket_of, has_own}
 use Rattle.hg_core.specs.Reading.{IsReached, saws}
 use Rattle.hg_bucket.specs.BucketModel.{record_at}
 use Rattle.hg_rule.specs.declared.view.View.{View}
+use Rattle.hg_cursor.specs.Keys.{Rows, IsOwnKey}
+use Rattle.hg_cursor.proofs.Keys.{is_apart}
+use Rattle.hg_cursor.proofs.Rows.{key_of, map_append, each_mapped}
+use Rattle.hg_cursor.proofs.Gathering.{distinct_append, nothing_twice, ascends_distinct, with_part, part_here, part_else}
+use Rattle.hg_cursor.proofs.Cutting.{ascends_sorted, nat_eq_flips, each_permuted}
 use Rattle.hg_session.specs.Gains.{Gains}
-use Rattle.hg_session.specs.Scans.{Rows, IsOwnKey, Sees, ScansAll, ScansSome}
+use Rattle.hg_session.specs.Scans.{Sees, ScansAll, ScansSome}
 use Rattle.hg_session.proofs.Settling.{gains_on}
-use Rattle.hg_session.proofs.ScanningKeys.{differ, is_apart}
-use Rattle.hg_session.proofs.ScanningRows.{key_of, map_append, each_mapped, ascends_tail}
 
 -- one of the first n buckets, which can have a key of the range
 abbrev pub IsOneOf : ℕ → TableId → ℕ → ℕ → ℕ → ℕ → Type 0
@@ -39,37 +42,6 @@ pub record IsScanned (count : ℕ) (v : View) (table : TableId) (low high n : �
   pub every : (b : ℕ) → IsOneOf count table low high n b → Each (λ p. Contains rows p) (part b)
   pub distinct : IsDistinct nat_eq (map key_of rows)
 
--- ---- distinct numbers
-
-all_of : (P : ℕ → Type 0) (xs : List ℕ) → Each P xs → AllByRecursion P xs
-all_of P [] e = tt
-all_of P (x ∷ xs) e = (e.0, all_of P xs e.1)
-
-each_of : (P : ℕ → Type 0) (xs : List ℕ) → AllByRecursion P xs → Each P xs
-each_of P [] e = tt
-each_of P (x ∷ xs) e = (e.0, each_of P xs e.1)
-
-distinct_append : (xs ys : List ℕ) → IsDistinct nat_eq xs → IsDistinct nat_eq ys → Each (λ x. Each (λ y. nat_eq x y ≡ false) ys) xs → IsDistinct nat_eq (xs ++ ys)
-distinct_append [] ys a b e = b
-distinct_append (x ∷ xs) ys a b e =
-    IsDistinct-cons nat_eq x (xs ++ ys)
-    (all_of (λ y. nat_eq x y ≡ false) (xs ++ ys) (each_append (λ y. nat_eq x y ≡ false) xs ys (each_of (λ y. nat_eq x y ≡ false) xs (IsDistinct-head nat_eq x xs a)) e.0))
-    (distinct_append xs ys (IsDistinct-tail nat_eq x xs a) b e.1)
-
--- ascending numbers are distinct
-all_over : (x : ℕ) (xs : List ℕ) → Ascends (x ∷ xs) → Each (λ y. x < y) xs
-all_over x [] a = tt
-all_over x (y ∷ ys) a = (a.0, each_keeps (λ z. y < z) (λ z. x < z) (λ z l. let k = a.0 in omega (arith, k, l)) ys (all_over y ys a.1))
-
-nothing_twice : IsDistinct nat_eq []
-unfolding IsDistinct
-nothing_twice = tt
-
-ascends_distinct : (xs : List ℕ) → Ascends xs → IsDistinct nat_eq xs
-ascends_distinct [] a = nothing_twice
-ascends_distinct (x ∷ xs) a = IsDistinct-cons nat_eq x xs (all_of (λ y. nat_eq x y ≡ false) xs
-    (each_keeps (λ y. x < y) (λ y. nat_eq x y ≡ false) (λ y l. is_apart x y (λ e. absurd (omega (arith, l, e)))) xs (all_over x xs a))) (ascends_distinct xs (ascends_tail x xs a))
-
 -- ---- the looks
 
 -- only the parts of those buckets count
@@ -78,18 +50,6 @@ saws_same count table low high p q zero same = refl
 saws_same count table low high p q (suc n) same =
     let rest = saws_same count table low high p q n (λ b l. same b (omega (arith, l))) in
     λ i. if has_own count table low high n then Saw table low high n (same n (omega arith) i) ∷ rest i else rest i
-
--- the parts with one more
-with_part : (ℕ → Rows) → ℕ → Rows → ℕ → Rows
-with_part part n rows b = cond (b == n) rows (part b)
-
-part_here : (part : ℕ → Rows) (n : ℕ) (rows : Rows) → with_part part n rows n ≡ rows
-unfolding with_part
-part_here part n rows = ap (λ t. cond t rows (part n)) ((Decides-eqb n n).1 refl)
-
-part_else : (part : ℕ → Rows) (n : ℕ) (rows : Rows) (b : ℕ) → b < n → with_part part n rows b ≡ part b
-unfolding with_part
-part_else part n rows b l = ap (λ t. cond t rows (part b)) (is_apart b n (λ e. absurd (omega (arith, l, e))))
 
 -- ---- bucket by bucket
 
@@ -185,33 +145,6 @@ one_passed count v w table low high n rows none s = record {
     differs e = cc
 
 -- ---- in order
-
-ascends_sorted : (rows : Rows) → IsNonDecreasingBy key_of rows → IsDistinct nat_eq (map key_of rows) → Ascends (map (λ p. p.0) rows)
-ascends_sorted [] s d = tt
-ascends_sorted (p ∷ []) s d = tt
-ascends_sorted (p ∷ q ∷ rows) s d =
-    let le : p.0 ≤ q.0 = s 0 1 p (omega arith) (omega arith) in
-    let apart : nat_eq p.0 q.0 ≡ false = (IsDistinct-head nat_eq p.0 (q.0 ∷ map key_of rows) d).0 in
-    let differs : p.0 ≡ q.0 → ⊥ = differ p.0 q.0 apart in
-    (less p.0 q.0 le differs, ascends_sorted (q ∷ rows) (λ i j x l m. s (suc i) (suc j) x (omega (arith, l)) (omega (arith, m))) (IsDistinct-tail nat_eq p.0 (q.0 ∷ map key_of rows) d))
-  where
-    less : (a b : ℕ) → a ≤ b → (a ≡ b → ⊥) → a < b
-    less a b le n = cases (nat_lt a b) (λ t. grind (arith, nat_tests, t)) (λ f. absurd (n (grind (arith, nat_tests, f, le))))
-
-nat_eq_flips : (x y : ℕ) → nat_eq x y ≡ nat_eq y x
-nat_eq_flips x y = cases (nat_eq x y) (λ t. t ∙ sym ((Decides-eqb y x).1 (sym ((Decides-eqb x y).0 t)))) (λ f. f ∙ sym (is_apart y x (λ e. differ x y f (sym e))))
-
-each_get : (P : ℕ × List Value → Type 0) (xs : Rows) (i : ℕ) (d : ℕ × List Value) → i < length xs → Each P xs → P (get_or xs i d)
-each_get P [] i d less e = absurd (omega (arith, less))
-each_get P (x ∷ xs) zero d less e = e.0
-each_get P (x ∷ xs) (suc i) d less e = let l : i < length xs = omega (arith, less) in each_get P xs i d l e.1
-
-each_permuted : (P : ℕ × List Value → Type 0) (xs ys : Rows) → IsPermutation xs ys → Each P xs → Each P ys
-each_permuted P xs ys q e = all_each ys (All-permutation P xs ys q (λ k d less. each_get P xs k d less e))
-  where
-    all_each : (zs : Rows) → All P zs → Each P zs
-    all_each [] a = tt
-    all_each (z ∷ zs) a = (a 0 z (omega arith), all_each zs (λ k d less. a (suc k) d (omega (arith, less))))
 
 pub all_scanned : (count : ℕ) (v w : View) (table : TableId) (low high n : ℕ) (rows sorted : Rows) → n ≡ count → IsScanned count v table low high n rows w →
     IsPermutation rows sorted → IsNonDecreasingBy key_of sorted → ScansAll count v table low high sorted w

@@ -5,13 +5,11 @@ use Rattle.std.specs.List.{list_any}
 use Rattle.std.proofs.lemmas.Option.{none-some}
 use Rattle.hg_base.specs.declared.rid.Rid.{Rid}
 use Rattle.hg_base.specs.declared.image.Image.{Image}
-use Rattle.hg_base.specs.declared.writer.Writer.{Writer}
 use Rattle.hg_base.specs.declared.value.Value.{Value}
 use Rattle.hg_base.specs.Replies.{AreRows}
 use Rattle.hg_core.specs.declared.ask.Ask.TheVariants.{Read}
 use Rattle.hg_core.specs.declared.log.LogEntry.TheVariants.{Saw}
 use Rattle.hg_core.specs.Contents.{bucket_of}
-use Rattle.hg_core.specs.Logs.{begans}
 use Rattle.hg_core.specs.Reading.{saw}
 use Rattle.hg_core.specs.Replies.{read_by}
 use Rattle.hg_rule.specs.declared.view.SessionPart.{SessionPart}
@@ -19,12 +17,10 @@ use Rattle.hg_rule.specs.declared.view.Part.{Part}
 use Rattle.hg_rule.specs.declared.view.Sight.{Sight}
 use Rattle.hg_rule.specs.declared.view.View.{View}
 use Rattle.hg_rule.specs.Views.{part_number, after_first}
-use Rattle.hg_rule.specs.Steps.{loaded_in}
 use Rattle.hg_rule.specs.Holding.{bucket_number, held, writer, snapshot}
 use Rattle.hg_rule.specs.Writes.{log_asked, Looks}
-use Rattle.hg_session.specs.Gains.{rows_at}
-use Rattle.hg_session.proofs.Trips.{Beside}
-use Rattle.hg_cursor.proofs.Trips.{first_number, first_session}
+use Rattle.hg_cursor.proofs.Trips.{first_session, Beside}
+use Rattle.hg_cursor.specs.Keys.{rows_at}
 
 -- the rows of a range of one key
 pub only_rows : (f : ℕ → Image) (key : ℕ) (row : Option (List Value)) (rows : List (ℕ × List Value)) → AreRows f key key rows → (f key).row ≡ row → rows ≡ rows_at key row
@@ -39,14 +35,6 @@ only_rows f key row (p ∷ []) a e =
     let it : row ≡ Some p.1 = sym e ∙ (ap (λ k. (f k).row) (sym here) ∙ a.each.0.2) in
     (λ i. (here i, p.1) ∷ []) ∙ sym (ap (rows_at key) it)
 only_rows f key row (p ∷ q ∷ rows) a e = absurd (let x = a.each.0 in let y = a.each.1.0 in let z = a.ascend.0 in omega (arith, x.0, x.1, y.0, y.1, z))
-
--- who reads, and at which snapshot
-pub writer_beside : (j b : ℕ) (part : SessionPart) (old : List Sight) (u : View) (by : Writer) → Beside j part b old u → by.session ≡ j → by.transaction ≡ begans part.log → by ≡ writer u
-writer_beside j b part old u by h s t = (λ i. record { session = s i; transaction = t i }) ∙
-    (λ i. record { session = sym (first_number u j part _ h.parts) i; transaction = begans (sym (first_session u j part _ h.parts) i).log })
-
-pub snapshot_beside : (j b : ℕ) (part : SessionPart) (old : List Sight) (u : View) → Beside j part b old u → snapshot u ≡ loaded_in part.phase
-snapshot_beside j b part old u h = ap (λ (p : SessionPart). loaded_in p.phase) (first_session u j part _ h.parts)
 
 pub saw_log : (buckets j b n : ℕ) (part : SessionPart) (old : List Sight) (rid : Rid) (u w : View) (row : Option (List Value)) → Beside j part b old u → b ≡ bucket_of buckets rid →
     (k : Looks u (Read rid.table rid.key rid.key) n w)

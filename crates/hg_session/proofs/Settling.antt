@@ -26,8 +26,8 @@ use Rattle.hg_bucket.specs.declared.refusal.WriteRefusal.TheVariants.{Open, Newe
 use Rattle.hg_store.specs.Ends.{HasNoEnd}
 use Rattle.hg_session.specs.Gains.{Alone, Gains, IsRefusedBy}
 use Rattle.hg_rule.specs.Places.{without_bucket}
-use Rattle.hg_session.proofs.Trips.{Beside, alone_only, departed}
-use Rattle.hg_cursor.proofs.Trips.{first_number, first_session}
+use Rattle.hg_session.proofs.Trips.{alone_only, departed}
+use Rattle.hg_cursor.proofs.Trips.{first_number, first_session, Beside}
 
 -- a pass that gave the bucket back is one of the board still
 pub left_pass : (t : BoardId) (z : Sizes) (p q : SessionPass) (j b : ℕ) (part : SessionPart) (old : List Sight) → IsSessionOf t z p → Beside j part b old (session_view p) →

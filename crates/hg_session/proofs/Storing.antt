@@ -36,8 +36,8 @@ use Rattle.hg_store.specs.Writing.{Writes, IsCause, IsAnothers, OwnerGoesOn}
 use Rattle.hg_store.proofs.Refusing.{same_opened}
 use Rattle.hg_store.proofs.Storing.{free_at, told_newer}
 use Rattle.hg_session.specs.Gains.{entries_of, IsRefusedBy}
-use Rattle.hg_session.proofs.Trips.{Beside, looked, installed}
-use Rattle.hg_cursor.proofs.Trips.{first_number, first_session}
+use Rattle.hg_session.proofs.Trips.{installed}
+use Rattle.hg_cursor.proofs.Trips.{first_number, first_session, Beside, looked}
 use Rattle.hg_session.proofs.Settling.{Trip, trip}
 
 told_open : (o : Option Answer) (w : Writer) → option_and_then refusal_of o ≡ Some (open_by w) → o ≡ Some (answers.OpenBy w)

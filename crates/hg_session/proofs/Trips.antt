@@ -1,53 +1,31 @@
 -- A session that takes a bucket, works in it and gives it back.
-use Rattle.std.proofs.Common.{◌≡◌, ℕ, List, [], ◌∷◌, ◌++◌, refl, sym, ap, ◌∙◌, subst, inl, inr, append_assoc}
+use Rattle.std.proofs.Common.{◌≡◌, ℕ, List, [], ◌∷◌, refl, sym, ap, ◌∙◌, subst, inl, inr}
 use Rattle.hg_base.specs.declared.rid.Rid.{Rid}
 use Rattle.hg_base.specs.declared.image.Image.{Image}
 use Rattle.hg_core.specs.declared.ask.Ask.{Ask}
 use Rattle.hg_core.specs.declared.log.LogEntry.TheVariants.{Wrote, Undid, Over}
 use Rattle.hg_core.specs.declared.phase.Phase.TheVariants.{Idle}
 use Rattle.hg_rule.specs.declared.view.SessionPart.{SessionPart}
-use Rattle.hg_rule.specs.declared.view.BucketPart.{BucketPart}
 use Rattle.hg_rule.specs.declared.view.Part.{Part}
 use Rattle.hg_rule.specs.declared.view.Part.TheVariants.{OfSession, OfBucket}
 use Rattle.hg_rule.specs.declared.view.Sight.{Sight}
 use Rattle.hg_rule.specs.declared.view.Sight.TheVariants.{Heard}
 use Rattle.hg_rule.specs.declared.view.View.{View}
 use Rattle.hg_rule.specs.Facts.{StartsWith, IsAmong}
-use Rattle.hg_rule.specs.Views.{number, part_number, session, others, after_first, seeing, HasSession, HasOnlySession}
+use Rattle.hg_rule.specs.Views.{number, part_number, session, after_first, HasSession, HasOnlySession}
 use Rattle.hg_rule.specs.Steps.{logging, Ends}
 use Rattle.hg_rule.specs.Holding.{bucket_number, bucket, beyond, writer}
 use Rattle.hg_rule.specs.Writes.{with_log, with_entry, log_asked, Looks, Installs, Undoes, installing, undoing}
 use Rattle.hg_rule.specs.Places.{without_bucket}
 use Rattle.hg_rule.proofs.Growing.{among_later}
-use Rattle.hg_rule.proofs.Holders.{session_arrives, session_departs}
-use Rattle.hg_store.specs.Stores.{Takes}
-use Rattle.hg_cursor.proofs.Trips.{first_number, first_session}
+use Rattle.hg_rule.proofs.Holders.{session_departs}
+use Rattle.hg_cursor.proofs.Trips.{first_number, first_session, Beside, only_others, more_seen}
 use Rattle.hg_session.specs.Gains.{Alone}
-
--- a view that has a session's part and a bucket's, and has seen what was seen before
-pub record Beside (j : ℕ) (part : SessionPart) (b : ℕ) (old : List Sight) (v : View) : Type 0 where
-  pub holds : BucketPart
-  pub parts : v.parts ≡ OfSession j part ∷ OfBucket b holds ∷ []
-  pub kept : StartsWith v.sights old
-
-only_others : (v : View) → HasOnlySession v → others v ≡ []
-only_others v only = ap after_first only
-
-pub only_session : (v : View) → HasOnlySession v → HasSession v
-only_session v only = only ∙ (λ i. OfSession (number v) (session v) ∷ sym (only_others v only) i)
 
 pub alone_only : (v : View) (j : ℕ) (part : SessionPart) (old : List Sight) → Alone j part old v → HasOnlySession v
 alone_only v j part old a = a.parts ∙ (λ i. OfSession (sym (first_number v j part [] a.parts) i) (sym (first_session v j part [] a.parts) i) ∷ [])
 
 -- ---- a bucket is taken, and given back
-
-pub arrived : (v u : View) (b : ℕ) → HasOnlySession v → Takes v b u → Beside (number v) (session v) b v.sights u
-arrived v u b only t = record {
-  holds = t.part;
-  parts = session_arrives v (seeing (OfBucket b t.part ∷ []) t.seen []) u b t.part (only_session v only) refl t.after ∙
-      (λ i. OfSession (number v) (session v) ∷ OfBucket b t.part ∷ only_others v only i);
-  kept = (t.seen, ap (λ (x : View). x.sights) t.after);
-}
 
 pub departed : (j : ℕ) (part : SessionPart) (b : ℕ) (old : List Sight) (u w : View) → Beside j part b old u → w ≡ without_bucket u → Alone j part old w
 departed j part b old u w h e = record {
@@ -61,23 +39,6 @@ departed j part b old u w h e = record {
 }
 
 -- ---- what is done between
-
-more_seen : (old sights xs : List Sight) → StartsWith sights old → StartsWith (sights ++ xs) old
-more_seen old sights xs k = (k.0 ++ xs, ap (λ l. l ++ xs) k.1 ∙ append_assoc old k.0 xs)
-
-pub looked : (j : ℕ) (part : SessionPart) (b n : ℕ) (old : List Sight) (ask : Ask) (u w : View) → Beside j part b old u → (k : Looks u ask n w) →
-    Beside j (with_log (log_asked u ask n k.rows) part) b old w × IsAmong (Heard j (log_asked u ask n k.rows)) w.sights
-looked j part b n old ask u w h k =
-    let e = first_number u j part _ h.parts in
-    let s = first_session u j part _ h.parts in
-    let o : others u ≡ OfBucket b h.holds ∷ [] = ap after_first h.parts in (
-      record {
-        holds = h.holds;
-        parts = ap (λ (x : View). x.parts) k.after ∙ (λ i. OfSession (e i) (with_log (log_asked u ask n k.rows) (s i)) ∷ o i);
-        kept = subst (λ l. StartsWith l old) (sym (ap (λ (x : View). x.sights) k.after)) (more_seen old u.sights _ h.kept);
-      },
-      subst (IsAmong (Heard j (log_asked u ask n k.rows))) (sym (ap (λ (x : View). x.sights) k.after)) (among_later _ u.sights _ (inr (inl (ap (λ i. Heard i (log_asked u ask n k.rows)) e)))),
-    )
 
 pub installed : (j : ℕ) (part : SessionPart) (b : ℕ) (old : List Sight) (r : Rid) (image : Image) (u w : View) → Beside j part b old u → Installs u r image w →
     Beside j (with_entry (Wrote r image) part) b old w × IsAmong (Heard j (Wrote r image ∷ part.log)) w.sights
@@ -129,5 +90,3 @@ ended v w only k = (
   },
   subst (IsAmong (Heard (number v) (Over ∷ (session v).log))) (sym (ap (λ (x : View). x.sights) k)) (among_later _ v.sights _ (inl refl)),
 )
-
--- ---- the pass

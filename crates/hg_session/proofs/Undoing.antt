@@ -28,8 +28,8 @@ use Rattle.hg_rule.proofs.Lists.{starts_on}
 use Rattle.hg_store.specs.Stores.{Takes}
 use Rattle.hg_session.specs.Ties.{AreWritten, Ties}
 use Rattle.hg_session.specs.Gains.{Alone, HasUndone}
-use Rattle.hg_session.proofs.Trips.{arrived, undone, departed, alone_only, ended}
-use Rattle.hg_cursor.proofs.Trips.{first_number, first_session}
+use Rattle.hg_session.proofs.Trips.{undone, departed, alone_only, ended}
+use Rattle.hg_cursor.proofs.Trips.{first_number, first_session, arrived}
 
 -- ---- what an undo leaves of a log
 

@@ -4,7 +4,6 @@ use Rattle.hg_base.specs.declared.rid.Rid.{Rid}
 use Rattle.hg_base.specs.declared.rid.TableId.{TableId}
 use Rattle.hg_base.specs.declared.image.Image.{Image}
 use Rattle.hg_base.specs.declared.line.Answer.TheVariants as answers
-use Rattle.hg_base.specs.declared.value.Value.{Value}
 use Rattle.hg_base.specs.History.{History}
 use Rattle.hg_base.specs.Lists.{Each}
 use Rattle.hg_core.specs.declared.log.LogEntry.{LogEntry}
@@ -37,11 +36,6 @@ pub record Gains (old : View) (entries : List LogEntry) (new : View) : Type 0 wh
   pub number_is : number new ≡ number old
   pub log : (session new).log ≡ entries ++ (session old).log
   pub kept : StartsWith new.sights old.sights
-
--- a row under its key, if there is one
-abbrev pub rows_at : ℕ → Option (List Value) → List (ℕ × List Value)
-rows_at key None = []
-rows_at key (Some row) = (key, row) ∷ []
 
 -- what a write leaves in the log, newest first, by its answer
 abbrev pub entries_of : {T : Type 0} → Rid → Image → Result T WriteRefusal → List LogEntry

@@ -1,54 +1,19 @@
 -- What a scan reads of each bucket, and what it leaves of a session's view.
-use Rattle.std.specs.Prelude.{◌≡◌, ℕ, ◌<◌, ◌≤◌, List, [], ◌∷◌, ◌++◌, map, length, Option, Some, None, Result, Ok, Err, OnOk, ⊤}
+use Rattle.std.specs.Prelude.{◌≡◌, ℕ, ◌≤◌, [], ◌∷◌, ◌++◌, map, Result, Ok, Err, OnOk}
 use Rattle.hg_base.specs.declared.rid.TableId.{TableId}
 use Rattle.hg_base.specs.declared.image.Image.{Image}
-use Rattle.hg_base.specs.declared.writer.Writer.{Writer}
 use Rattle.hg_base.specs.declared.fault.NoMemory.{NoMemory}
-use Rattle.hg_base.specs.declared.value.Value.{Value}
 use Rattle.hg_base.specs.Lists.{Each, Ascends}
 use Rattle.hg_base.specs.Replies.{AreRows}
 use Rattle.hg_core.specs.declared.log.LogEntry.TheVariants.{Saw}
-use Rattle.hg_core.specs.Contents.{Content, bucket_of, look}
-use Rattle.hg_core.specs.Replies.{read_by}
 use Rattle.hg_core.specs.Reading.{IsReached, Joins, saws}
-use Rattle.hg_bucket.specs.BucketModel.{record_at}
 use Rattle.hg_rule.specs.declared.view.View.{View}
+use Rattle.hg_cursor.specs.Keys.{Rows, IsOwnKey}
 use Rattle.hg_session.specs.Gains.{Gains}
-
--- rows under their keys
-abbrev pub Rows : Type 0
-Rows = List (ℕ × List Value)
 
 -- ---- the keys of a bucket
 
--- bucket b is the one of the table's record of that key
-abbrev pub IsOwnKey : ℕ → ℕ → TableId → ℕ → Type 0
-IsOwnKey count b table key = bucket_of count (record_at table key) ≡ b
-
--- the records of a content are all of bucket b
-abbrev pub AreOwn : ℕ → ℕ → Content → Type 0
-AreOwn count b content = Each (λ e. bucket_of count e.0 ≡ b) content
-
--- the record of that key has a version
-abbrev pub HasVersion : Content → TableId → ℕ → Type 0
-HasVersion content table key = 0 < length (look (record_at table key) content)
-
--- what was found is of the range
-abbrev pub IsWithin : ℕ → ℕ → Option ℕ → Type 0
-IsWithin from high None = ⊤
-IsWithin from high (Some next) = (from ≤ next) × (next ≤ high)
-
--- A search from a number to `high` passes over no key that it is for: each such key is at or over what was found,
--- and where nothing was found there is none.
-abbrev pub LeadsOn : (ℕ → Type 0) → ℕ → ℕ → Option ℕ → Type 0
-LeadsOn Sought from high None = (k : ℕ) → from ≤ k → k ≤ high → Sought k → ⊥
-LeadsOn Sought from high (Some next) = (k : ℕ) → from ≤ k → k ≤ high → Sought k → next ≤ k
-
 -- ---- the rows of one bucket
-
--- what a transaction reads of each key
-abbrev pub read_of : Writer → ℕ → TableId → Content → ℕ → Image
-read_of by at table content key = read_by by at (look (record_at table key) content)
 
 -- the rows of the range were appended to those that were there
 pub record Appends (shown : ℕ → Image) (low high : ℕ) (old new : Rows) : Type 0 where

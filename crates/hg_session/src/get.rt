@@ -6,13 +6,14 @@ ghost use Rattle.hg_base.specs.History.{nothing};
 ghost use Rattle.hg_base.specs.declared.statement.Statement.TheVariants as say;
 ghost use Rattle.hg_base.specs.declared.value.Value.{Value};
 ghost use Rattle.hg_base.specs.Transcript.{has};
+ghost use Rattle.hg_cursor.specs.Keys.{rows_at};
 ghost use Rattle.hg_session.specs.declared.answers.GetRefusal.TheVariants as refusal;
 ghost use Rattle.hg_core.specs.Reading.{saw};
 ghost use Rattle.hg_session.specs.Engines.{engine_sizes};
 ghost use Rattle.hg_session.specs.Sessions.{IsIn, view_of, opened_of};
 ghost use Rattle.hg_session.specs.Replies.{Answers, IsRefusedIf, IsAtOwn, get_at, reading, row_answer, get_reply};
 ghost use Rattle.hg_session.specs.Frames.{KeepsCounts, KeepsOpened, KeepsWritten};
-ghost use Rattle.hg_session.specs.Gains.{Gains, rows_at};
+ghost use Rattle.hg_session.specs.Gains.{Gains};
 ghost use Rattle.hg_session.specs.Refused.{HasLooked, HasGivenUp};
 
 use crate::answers::{GetRefusal, Read};

@@ -10,8 +10,8 @@ ghost use Rattle.hg_core.specs.Contents.{has_own};
 ghost use Rattle.hg_rule.specs.declared.view.View.{View};
 ghost use Rattle.hg_rule.specs.Holding.{bucket as bucket_in};
 ghost use Rattle.hg_store.specs.Stores.{Holds};
+ghost use Rattle.hg_cursor.specs.Keys.{IsOwnKey, AreOwn, HasVersion, IsWithin, LeadsOn};
 ghost use Rattle.hg_session.specs.Engines.{engine_sizes};
-ghost use Rattle.hg_session.specs.Scans.{IsOwnKey, AreOwn, HasVersion, IsWithin, LeadsOn};
 
 use crate::engine::Engine;
 use crate::range::Range;

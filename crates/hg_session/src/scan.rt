@@ -11,14 +11,14 @@ ghost use Rattle.hg_core.specs.Replies.{read_by};
 ghost use Rattle.hg_rule.specs.declared.view.View.{View};
 ghost use Rattle.hg_rule.specs.Holding.{bucket as bucket_in, held as held_in};
 ghost use Rattle.hg_store.specs.Stores.{Holds};
+ghost use Rattle.hg_cursor.specs.Keys.{rows_at, AreOwn, read_of};
 ghost use Rattle.hg_session.specs.Engines.{engine_sizes};
 ghost use Rattle.hg_session.specs.Sessions.{IsIn, view_of, opened_of};
 ghost use Rattle.hg_session.specs.declared.answers.GetRefusal.TheVariants as refusal;
 ghost use Rattle.hg_session.specs.Replies.{Answers, IsRefusedIf, IsAtOwn, scan_at, reading, scan_reply};
 ghost use Rattle.hg_session.specs.Frames.{KeepsCounts, KeepsOpened, KeepsWritten};
-ghost use Rattle.hg_session.specs.Gains.{rows_at};
 ghost use Rattle.hg_session.specs.Refused.{HasLooked, HasGivenUp};
-ghost use Rattle.hg_session.specs.Scans.{AreOwn, read_of, Appends, Sees, Scans};
+ghost use Rattle.hg_session.specs.Scans.{Appends, Sees, Scans};
 
 use crate::answers::{GetRefusal, Scanned};
 use crate::engine::Engine;

@@ -7,9 +7,10 @@ use Rattle.hg_core.specs.declared.log.LogEntry.TheVariants.{Began, Over}
 use Rattle.hg_core.specs.Logs.{current, own_writes}
 use Rattle.hg_core.specs.Reading.{saw}
 use Rattle.hg_rule.specs.Views.{session}
+use Rattle.hg_cursor.specs.Keys.{rows_at}
 use Rattle.hg_session.specs.Engines.{engine_sizes}
 use Rattle.hg_session.specs.Sessions.{view_of}
-use Rattle.hg_session.specs.Gains.{Gains, rows_at}
+use Rattle.hg_session.specs.Gains.{Gains}
 use Rattle.hg_session.specs.Replies.{del_reply, refused_reply}
 use Rattle.hg_session.specs.Firsts.{AnswersWrite, ShowsPut}
 use Rattle.hg_core.specs.Shown.{HasOpen, reads_at}

@@ -6,9 +6,10 @@ use Rattle.hg_core.specs.declared.log.LogEntry.TheVariants.{Wrote}
 use Rattle.hg_core.specs.Logs.{current, own_writes}
 use Rattle.hg_core.specs.Reading.{saw}
 use Rattle.hg_rule.specs.Views.{session}
+use Rattle.hg_cursor.specs.Keys.{rows_at}
 use Rattle.hg_session.specs.Engines.{engine_sizes}
 use Rattle.hg_session.specs.Sessions.{view_of}
-use Rattle.hg_session.specs.Gains.{Gains, IsRefusedBy, rows_at, outside_entries, entries_of}
+use Rattle.hg_session.specs.Gains.{Gains, IsRefusedBy, outside_entries, entries_of}
 use Rattle.hg_session.specs.Replies.{inside, refused_at, refused_reply}
 use Rattle.hg_session.specs.Firsts.{AnswersWrite, ShowsWrite}
 use Rattle.hg_core.specs.Shown.{HasOpen, reads_at}

@@ -10,11 +10,11 @@ use Rattle.hg_rule.specs.Steps.{loaded_in}
 use Rattle.hg_rule.specs.Holding.{held}
 use Rattle.hg_rule.specs.Writes.{with_log, with_entry}
 use Rattle.hg_rule.specs.Seats.{session_view, IsSeatOf, IsSessionOf}
+use Rattle.hg_cursor.specs.Keys.{rows_at}
+use Rattle.hg_cursor.proofs.Trips.{arrived, looked, writer_beside, snapshot_beside}
 use Rattle.hg_session.specs.Engines.{engine_sizes, engine_board_id}
-use Rattle.hg_session.specs.Gains.{rows_at}
 use Rattle.hg_session.proofs.Tying.{ties_quiet}
-use Rattle.hg_session.proofs.Trips.{arrived, looked}
-use Rattle.hg_session.proofs.Seeing.{writer_beside, snapshot_beside, saw_log}
+use Rattle.hg_session.proofs.Seeing.{saw_log}
 use Rattle.hg_session.proofs.Settling.{Trip, trip, trip_settled, gained}
 use Rattle.hg_session.proofs.del.see_there.Goals as goal
 use Rattle.hg_base.specs.declared.value.Value.{Value}

@@ -5,9 +5,10 @@ use Rattle.hg_core.specs.declared.log.LogEntry.TheVariants.{Began, Over}
 use Rattle.hg_core.specs.Reading.{saw}
 use Rattle.hg_core.specs.Logs.{current}
 use Rattle.hg_rule.specs.Views.{session}
+use Rattle.hg_cursor.specs.Keys.{rows_at}
 use Rattle.hg_session.specs.Engines.{engine_sizes}
 use Rattle.hg_session.specs.Sessions.{view_of}
-use Rattle.hg_session.specs.Gains.{Gains, rows_at}
+use Rattle.hg_session.specs.Gains.{Gains}
 use Rattle.hg_session.specs.Refused.{HasGivenUp}
 use Rattle.hg_session.proofs.Refusing.{given_up}
 use Rattle.hg_session.proofs.Replying.{get_alone}

@@ -3,9 +3,10 @@ use Rattle.hg_base.specs.declared.statement.Statement.TheVariants as say
 use Rattle.hg_core.specs.Reading.{saw}
 use Rattle.hg_core.specs.Logs.{current}
 use Rattle.hg_rule.specs.Views.{session}
+use Rattle.hg_cursor.specs.Keys.{rows_at}
 use Rattle.hg_session.specs.Engines.{engine_sizes}
 use Rattle.hg_session.specs.Sessions.{view_of}
-use Rattle.hg_session.specs.Gains.{Gains, rows_at, outside_entries}
+use Rattle.hg_session.specs.Gains.{Gains, outside_entries}
 use Rattle.hg_session.proofs.Replying.{get_inside, undeclared_inside}
 use Rattle.hg_session.proofs.Settling.{gains_on}
 use Rattle.hg_session.proofs.get.get_inside.Goals as goal

@@ -1,8 +1,9 @@
 use Rattle.std.proofs.Common.{◌≡◌, None, sym, subst, rules}
 use Rattle.hg_rule.specs.Holding.{bucket}
+use Rattle.hg_cursor.specs.Keys.{IsOwnKey, AreOwn, HasVersion, LeadsOn}
+use Rattle.hg_cursor.proofs.Keys.{own_key}
 use Rattle.hg_session.specs.Engines.{engine_sizes}
-use Rattle.hg_session.specs.Scans.{IsOwnKey, AreOwn, HasVersion, LeadsOn}
-use Rattle.hg_session.proofs.ScanningKeys.{own_key, leads_weaker, leads_through}
+use Rattle.hg_session.proofs.ScanningKeys.{leads_weaker, leads_through}
 use Rattle.hg_session.proofs.keys.next_within.Goals as goal
 
 pub returns-in_err-first-clause-leads : goal.returns-in_err-first-clause-leads

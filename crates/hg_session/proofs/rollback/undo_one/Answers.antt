@@ -9,8 +9,7 @@ use Rattle.hg_rule.specs.Holding.{bucket, beyond, bucket_number, HasBucket}
 use Rattle.hg_rule.specs.Seats.{session_view, sizes_of}
 use Rattle.hg_store.proofs.Holding.{number_is}
 use Rattle.hg_store.proofs.Mine.{mine_unstamped}
-use Rattle.hg_session.proofs.Trips.{arrived}
-use Rattle.hg_cursor.proofs.Trips.{first_session}
+use Rattle.hg_cursor.proofs.Trips.{first_session, arrived}
 use Rattle.hg_session.proofs.Undoing.{undid_once}
 use Rattle.hg_session.proofs.rollback.undo_one.Goals as goal
 

@@ -1,8 +1,9 @@
 use Rattle.std.proofs.Common.{Some, subst}
 use Rattle.hg_rule.specs.Holding.{bucket}
-use Rattle.hg_session.specs.Scans.{IsWithin, HasVersion, read_of}
-use Rattle.hg_session.proofs.ScanningKeys.{unread}
-use Rattle.hg_session.proofs.ScanningRows.{IsSoFar, one_more, still_within}
+use Rattle.hg_cursor.specs.Keys.{IsWithin, HasVersion, read_of}
+use Rattle.hg_cursor.proofs.Keys.{unread}
+use Rattle.hg_cursor.proofs.Rows.{IsSoFar, still_within}
+use Rattle.hg_session.proofs.ScanningRows.{one_more}
 use Rattle.hg_session.proofs.scan.push_rows.Goals as goal
 
 pub loop-next-preserved : goal.loop-next-preserved

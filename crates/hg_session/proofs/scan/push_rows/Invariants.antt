@@ -1,9 +1,9 @@
 use Rattle.hg_rule.specs.declared.view.View.{View}
 use Rattle.hg_rule.specs.Holding.{bucket}
 use Rattle.hg_store.specs.Stores.{Holds}
+use Rattle.hg_cursor.specs.Keys.{AreOwn, IsWithin, read_of}
+use Rattle.hg_cursor.proofs.Rows.{IsSoFar, room}
 use Rattle.hg_session.specs.Engines.{engine_sizes}
-use Rattle.hg_session.specs.Scans.{AreOwn, IsWithin, read_of}
-use Rattle.hg_session.proofs.ScanningRows.{IsSoFar, room}
 use Rattle.hg_session.proofs.scan.push_rows.Given as goal
 
 abbrev pub invariant-loop-next : goal.invariant-loop-next

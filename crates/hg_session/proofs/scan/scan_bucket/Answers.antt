@@ -5,12 +5,11 @@ use Rattle.hg_rule.specs.Steps.{loaded_in}
 use Rattle.hg_rule.specs.Places.{HoldsBucket}
 use Rattle.hg_rule.specs.Rules.{IsBacked}
 use Rattle.hg_rule.specs.Seats.{sizes_of, session_view, IsSeatOf, IsSessionOf}
+use Rattle.hg_cursor.proofs.Trips.{arrived, writer_beside, snapshot_beside}
+use Rattle.hg_cursor.proofs.Keys.{held_own}
 use Rattle.hg_session.specs.Engines.{engine_sizes, engine_board_id}
 use Rattle.hg_session.proofs.Tying.{ties_quiet}
-use Rattle.hg_session.proofs.Trips.{arrived}
-use Rattle.hg_session.proofs.Seeing.{writer_beside, snapshot_beside}
 use Rattle.hg_session.proofs.Settling.{trip_settled, gained}
-use Rattle.hg_session.proofs.ScanningKeys.{held_own}
 use Rattle.hg_session.proofs.ScanningLooks.{trip_saw, sees}
 use Rattle.hg_session.proofs.scan.scan_bucket.Goals as goal
 

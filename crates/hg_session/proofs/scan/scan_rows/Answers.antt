@@ -1,10 +1,10 @@
 use Rattle.std.proofs.Common.{◌≡◌, suc, ◌+◌, true, Ok, Err, refl, sym, ◌∙◌, subst, rules, arith}
 use Rattle.std.proofs.lemmas.List.Sorted.{IsNonDecreasingBy-from_sort, answers_always}
 use Rattle.hg_core.specs.Contents.{has_own}
+use Rattle.hg_cursor.proofs.Rows.{key_of}
 use Rattle.hg_session.specs.Engines.{engine_sizes}
 use Rattle.hg_session.specs.Sessions.{view_of}
 use Rattle.hg_session.specs.Scans.{ScansAll, Scans}
-use Rattle.hg_session.proofs.ScanningRows.{key_of}
 use Rattle.hg_session.proofs.ScanningOrder.{IsScanned, none_scanned, one_scanned, one_passed, stops, all_scanned}
 use Rattle.hg_session.proofs.scan.scan_rows.Goals.{then-is_reached+in_ok-scan_bucket, else-is_reached}
 use Rattle.hg_session.proofs.scan.scan_rows.Goals as goal

@@ -18,9 +18,7 @@ use Rattle.hg_store.specs.Writing.{IsAnothers}
 use Rattle.hg_session.specs.Ties.{Ties}
 use Rattle.hg_session.specs.Sessions.{written_of}
 use Rattle.hg_session.proofs.Tying.{with_written, ties_unwritten, ties_refused, ties_wrote}
-use Rattle.hg_session.proofs.Trips.{arrived}
-use Rattle.hg_cursor.proofs.Trips.{first_session}
-use Rattle.hg_session.proofs.Seeing.{snapshot_beside}
+use Rattle.hg_cursor.proofs.Trips.{first_session, arrived, snapshot_beside}
 use Rattle.hg_session.proofs.Settling.{trip_settled, gained}
 use Rattle.hg_session.proofs.Storing.{trip_refused, trip_stored, refused_told}
 use Rattle.hg_session.proofs.Firsts.{refused_shown, stored_shown}
