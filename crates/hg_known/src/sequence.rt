@@ -40,11 +40,11 @@ impl<'a> Model for Sequence<'a> {
 }
 
 // The place of a record of the script among all.
-fn index_of(script: &Script, asked: &Record) -> u32
-    requires asked { IsRecordOf script.now asked.now }
+fn index_of(script: &Script, asked: Record) -> u32
+    requires asked { IsRecordOf script.now asked }
     requires places { AreNumbered script.now }
     requires few { length script.now.records < 2 ^ 32 }
-    ensures { IsIndexOf script.now asked.now result }
+    ensures { IsIndexOf script.now asked result }
 {
     (asked.place - script.records_before() as u64 - 1) as u32
 }
@@ -60,7 +60,7 @@ fn add_session(into: &mut Vec<u32>, script: &Script, session: u32) -> Result<(),
 {
     let mut list = script.records_of(session);
     while let Some(record) = list.take_next()? {
-        into.push(index_of(script, &record))?;
+        into.push(index_of(script, record))?;
     }
     Ok(())
 }
