@@ -6,6 +6,7 @@ pub mod SpotOrder
 pub mod Reading
 pub mod Sequencing
 pub mod Walking
+pub mod Gathering
 -- Printed commits, and the history that they give.
 pub mod Pairs
 pub mod Whole

@@ -8,17 +8,14 @@ use Rattle.hg_base.specs.Lists.{Each, EachAfter, onto, greatest}
 use Rattle.hg_base.specs.History.{Commit}
 use Rattle.hg_base.specs.Transcript.{Said, committed, commit_by, commit_of, commits, commits_from, history_of}
 use Rattle.hg_base.specs.Sound.{IsWhole}
-use Rattle.hg_base.proofs.ListFacts.{cases, false_true, each_snoc, append_nil, each_after_snoc}
+use Rattle.hg_base.proofs.ListFacts.{cases, each_snoc, append_nil, each_after_snoc}
 use Rattle.hg_base.proofs.Growth.{commits_from_snoc}
 use Rattle.hg_known.specs.Commits.{IsFit, AreApart, AllApart, AreCommits, has_number}
-use Rattle.std.specs.Bool.{MatchBool}
-use Rattle.std.specs.BTreeSet.{contains}
-use Rattle.std.specs.Ordering.{nat_cmp}
 use Rattle.hg_known.specs.declared.history.Commits as kept
 use Rattle.hg_known.specs.Written.{IsOfHistory}
 use Rattle.hg_known.specs.Shown.{Shows, Fits, printed}
 use Rattle.hg_known.proofs.Reading.{onto_push}
-use Rattle.hg_known.proofs.Whole.{commits_of, whole_of, history_writes}
+use Rattle.hg_known.proofs.Whole.{whole_of, history_writes}
 
 -- where line k is `now`: the lines up to it, and all lines
 pub record AtLine {X : Type 0} (xs : List X) (k : ℕ) (now : X) : Type 0 where
@@ -99,17 +96,6 @@ pub commits_more : (xs : List Said) (k : ℕ) (now : Said) (n : ℕ) → AtLine 
 commits_more xs k now n at e = sym (ap commits at.up_to ∙ commits_from_snoc [] (take k xs) now ∙
     ap (λ o. commits (take k xs) ++ cons_option (option_map (λ c. (c, commit_by (earlier_at xs k) now)) o) []) e)
 
--- a commit that does not fit those before it
-pub not_whole : (xs : List Said) (k : ℕ) (now : Said) (n : ℕ) → AtLine xs k now → committed now ≡ Some n → (Fits (commits (take k xs)) (printed n (earlier_at xs k) now) → ⊥) → IsWhole xs → ⊥
-not_whole xs k now n at e f whole =
-    let ps = commits (take k xs) in
-    let p = printed n (earlier_at xs k) now in
-    let rest = commits_from (now ∷ earlier_at xs k) (drop (k + 1) xs) in
-    let is : commits xs ≡ ps ++ p ∷ rest = ap commits at.all ∙ commits_append [] (take k xs) (now ∷ drop (k + 1) xs) ∙
-    ap (λ o. ps ++ cons_option (option_map (λ c. (c, commit_by (earlier_at xs k) now)) o) rest) e in
-    let h : AreCommits (ps ++ p ∷ rest) = subst AreCommits is (commits_of xs whole) in
-    f ((each_right IsFit ps (p ∷ rest) h.fit).0, fits_there ps rest p h.apart)
-
 -- ---- the numbers
 
 pub greatest_there : (ps : List (ℕ × Commit)) → 0 < greatest (map (λ (p : ℕ × Commit). p.0) ps) → has_number (greatest (map (λ (p : ℕ × Commit). p.0) ps)) ps
@@ -142,46 +128,7 @@ all_numbers ps f h = record {
       subst (λ m. has_number m ps) is (greatest_there ps some));
 }
 
--- ---- one line more
-
-abbrev pub Kept : List Said → ℕ → kept.Commits → Type 0
-Kept xs k c = Shows c (commits (take k xs)) × Fine (commits (take k xs))
-
-pub kept_same : (xs : List Said) (k : ℕ) (now : Said) (c : kept.Commits) → AtLine xs k now → committed now ≡ None → Kept xs k c → Kept xs (k + 1) c
-kept_same xs k now c at e h = (subst (Shows c) (commits_same xs k now at e) h.0, subst Fine (commits_same xs k now at e) h.1)
-
-pub kept_more : (xs : List Said) (k : ℕ) (now : Said) (n : ℕ) (new : kept.Commits) (b : Bool) → AtLine xs k now → committed now ≡ Some n → Fine (commits (take k xs)) → b ≡ true →
-    MatchBool b (Shows new (commits (take k xs) ++ printed n (earlier_at xs k) now ∷ []) × Fits (commits (take k xs)) (printed n (earlier_at xs k) now))
-    (Fits (commits (take k xs)) (printed n (earlier_at xs k) now) → ⊥) → Kept xs (k + 1) new
-kept_more xs k now n new true at e fine is h =
-    let more = commits_more xs k now n at e in
-    (subst (Shows new) more h.0, subst Fine more (fine_push (commits (take k xs)) (printed n (earlier_at xs k) now) fine h.1))
-kept_more xs k now n new false at e fine is h = absurd (false_true is)
-
-pub lost_there : (xs : List Said) (k : ℕ) (now : Said) (n : ℕ) (new : kept.Commits) (b : Bool) → AtLine xs k now → committed now ≡ Some n → b ≡ false →
-    MatchBool b (Shows new (commits (take k xs) ++ printed n (earlier_at xs k) now ∷ []) × Fits (commits (take k xs)) (printed n (earlier_at xs k) now))
-    (Fits (commits (take k xs)) (printed n (earlier_at xs k) now) → ⊥) → IsWhole xs → ⊥
-lost_there xs k now n new true at e is h = absurd (false_true (sym is))
-lost_there xs k now n new false at e is h = not_whole xs k now n at e h
-
 -- ---- all lines
-
-pub kept_all : (xs : List Said) (k : ℕ) (c : kept.Commits) → length xs ≤ k → Kept xs k c → Shows c (commits xs) × Fine (commits xs)
-kept_all xs k c h kept = (subst (λ ys. Shows c (commits ys)) (take_all xs k h) kept.0, subst (λ ys. Fine (commits ys)) (take_all xs k h) kept.1)
-
-pub left_out : (xs : List Said) (c : kept.Commits) (n : ℕ) → Shows c (commits xs) → 1 ≤ n → n < c.greatest → contains nat_cmp c.numbers n ≡ false → IsWhole xs → ⊥
-left_out xs c n shows low high e whole =
-    let top = shows.greatest in
-    false_true (sym (sym (shows.numbers n) ∙ e) ∙ (commits_of xs whole).every n low (omega (arith, high, top)))
-
-pub number_more : (xs : List Said) (c : kept.Commits) (k : ℕ) → Shows c (commits xs) → ((n : ℕ) → 1 ≤ n → n < k → has_number n (commits xs)) → contains nat_cmp c.numbers k ≡ true →
-    (n : ℕ) → 1 ≤ n → n < k + 1 → has_number n (commits xs)
-number_more xs c k shows h e n low high = cases (n == k)
-    (λ same. subst (λ m. has_number m (commits xs)) (sym ((Decides-eqb n k).0 same)) (sym (shows.numbers k) ∙ e))
-    (λ other. h n low (below n k high (λ q. false_true (sym other ∙ (Decides-eqb n k).1 q))))
-  where
-    below : (n k : ℕ) → n < k + 1 → (n ≡ k → ⊥) → n < k
-    below n k h f = grind (arith, h, f)
 
 pub history_is : (xs : List Said) (c : kept.Commits) (k : ℕ) → Shows c (commits xs) → Fine (commits xs) → ((n : ℕ) → 1 ≤ n → n < k → has_number n (commits xs)) → c.greatest ≤ k →
     IsWhole xs × IsOfHistory (history_of xs) c.writes

@@ -22,4 +22,6 @@ pub mod Heard
 pub mod Marked
 -- What is kept of all lines, where some line asks for it.
 pub mod Context
+-- What is gathered of lines, one after the other.
+pub mod Gathered
 pub mod Before

@@ -1,6 +1,6 @@
 -- What is kept of the printed commits.
-use Rattle.std.specs.Prelude.{◌≡◌, ℕ, List, [], ◌∷◌, ◌++◌, map, Bool, ◌&&◌, ◌==◌}
-use Rattle.std.specs.List.{list_any}
+use Rattle.std.specs.Prelude.{◌≡◌, ℕ, List, [], ◌∷◌, ◌++◌, map, Bool, ◌&&◌, ◌==◌, Option, IfSome}
+use Rattle.std.specs.List.{cons_option, list_any}
 use Rattle.std.specs.Bool.{MatchBool}
 use Rattle.std.specs.BTreeSet.{contains}
 use Rattle.std.specs.declared.cmp.Ordering.{Ordering}
@@ -44,3 +44,7 @@ printed n earlier now = (n, commit_by earlier now)
 -- the commit is kept after those, exactly where it fits them
 abbrev pub Adds : kept.Commits → kept.Commits → List (ℕ × Commit) → ℕ × Commit → Bool → Type 0
 Adds old new ps p fits = Shows old ps → MatchBool fits (Shows new (ps ++ p ∷ []) × Fits ps p) (¬ Fits ps p)
+
+-- the same of a commit, if there is one
+abbrev pub AddsAny : kept.Commits → List (ℕ × Commit) → Option (ℕ × Commit) → Bool → Type 0
+AddsAny new ps p fits = MatchBool fits (Shows new (ps ++ cons_option p []) × IfSome p (Fits ps)) (¬ IfSome p (Fits ps))

@@ -1,6 +1,6 @@
 //! The history that the printed commit numbers give, where they give one, and whether it loses an update.
 
-ghost use Rattle.std.specs.Prelude.{◌≡◌, ◌↔◌, ℕ, ◌<◌, List, [], ◌∷◌, Some, None, length, IsTrue, IsSome, IfSome, IfOk};
+ghost use Rattle.std.specs.Prelude.{◌≡◌, ◌↔◌, ℕ, ◌<◌, ◌≤◌, List, [], ◌∷◌, Some, None, length, IsTrue, IsSome, IfSome, IfOk};
 ghost use Rattle.std.specs.Bool.{MatchBool};
 ghost use Rattle.std.specs.Option.{MatchOption};
 ghost use Rattle.hg_base.specs.declared.rid.Rid.{Rid};
@@ -9,6 +9,7 @@ ghost use Rattle.hg_base.specs.History.{Commit};
 ghost use Rattle.hg_base.specs.Transcript as script;
 ghost use Rattle.hg_base.specs.Transcript.{history_of};
 ghost use Rattle.hg_base.specs.Sound.{IsWhole};
+ghost use Rattle.hg_known.specs.Commits.{has_number};
 ghost use Rattle.hg_known.specs.Lines.{said_of};
 ghost use Rattle.hg_known.specs.Owned.{HasOwn, own_at};
 ghost use Rattle.hg_known.specs.Written.{IsOfHistory, image_at};
@@ -19,10 +20,11 @@ ghost use Rattle.hg_known.specs.Shown.{Shows, Adds, printed};
 ghost use Rattle.hg_known.specs.Tallied.{IsTally};
 
 use crate::context::{Context, find_wants};
+use crate::gathered::{Gathered, gather};
 use crate::lines::Lines;
 use crate::own::{LEAST, Own, Tx, copy};
 use crate::said::Said;
-use crate::tally::{Tally, Versions};
+use crate::tally::Tally;
 use crate::writes::Writes;
 use hg_base::{Answer, NoMemory, Rid, Statement};
 use std::alloc::Global;
@@ -148,6 +150,20 @@ pub struct Past {
     pub context: Context,
 }
 
+// Whether some commit has each number from 1 to the greatest.
+pub(crate) fn has_each(commits: &Commits) -> bool
+    ensures { (ps : List (ℕ × Commit)) → Shows commits.now ps →
+        (IsTrue result ↔
+        ((n : ℕ) → 1 ≤ n → n < commits.now.greatest → has_number n ps)) }
+{
+    for number in 1..commits.greatest {
+        if !commits.numbers.contains(&number) {
+            return false;
+        }
+    }
+    true
+}
+
 /// The history that the lines give, if the printed numbers give one.
 pub fn read_history(alloc: Global, all: &Lines<'_>, is_run: bool) -> Result<Option<Past>, NoMemory>
     requires { EachAfter IsOpen [] all.now }
@@ -158,28 +174,16 @@ pub fn read_history(alloc: Global, all: &Lines<'_>, is_run: bool) -> Result<Opti
         IsContext (wants_of is_run all.now) past.context (onto all.now []))) }
 {
     let wants = find_wants(all, is_run);
-    let mut context = Context::new(alloc);
-    let mut own = Own::new(alloc);
-    let mut commits = Commits::new(alloc);
-    let mut versions = Versions::new(alloc);
-    let mut reader = all.reader(alloc);
-    for _ in 0..all.len() {
-        let said = reader.read()?;
-        let first = own.add(&said)?;
-        versions.add(&said, first)?;
-        if let Some(number) = committed(&said) {
-            if !commits.add(&own, &said, number)? {
-                return Ok(None);
-            }
-        }
-        own.close(&said);
-        context.keep(wants, &said)?;
+    let mut gathered = Gathered::new(alloc);
+    if !gather(alloc, all, wants, &mut gathered)? {
+        return Ok(None);
     }
-    for number in 1..commits.greatest {
-        if !commits.numbers.contains(&number) {
-            return Ok(None);
-        }
-    }
+    let Gathered {
+        context,
+        own: _,
+        commits,
+        versions,
+    } = gathered;
     let groups = commits.greatest;
     Ok(Some(Past {
         writes: commits.into_writes(),

@@ -27,6 +27,7 @@
 
 mod before;
 mod context;
+mod gathered;
 mod history;
 mod lines;
 mod own;
