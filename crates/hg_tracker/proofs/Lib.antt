@@ -6,3 +6,4 @@ pub mod Bounds
 pub mod After
 pub mod Entries
 pub mod Tries
+pub mod Made

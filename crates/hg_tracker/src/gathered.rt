@@ -1,16 +1,16 @@
 //! What a pass gathered.
 
-ghost use Rattle.std.specs.Prelude.{◌≡◌, ℕ, ◌<◌, ◌≤◌, [], ◌++◌, length, vec_capacity, IsPermutation, IfOk};
+ghost use Rattle.std.specs.Prelude.{◌≡◌, ℕ, ◌<◌, ◌≤◌, [], ◌++◌, length, vec_capacity, All, IsPermutation, IfOk};
 ghost use Rattle.std.specs.List.Sorted.{IsNonDecreasing, IsNonDecreasingBy};
 ghost use Rattle.hg_core.specs.Passes.{lower, horizon, recorded, table_bound, group_bound};
 ghost use Rattle.hg_rule.specs.declared.view.PassPart.{PassPart};
 ghost use Rattle.hg_rule.specs.Facts.{record_of};
 ghost use Rattle.hg_base.specs.declared.report.Entry.{Entry};
-ghost use Rattle.hg_tracker.specs.Gathers.{AreListsOf};
+ghost use Rattle.hg_tracker.specs.Gathers.{AreEmpty, AreListsOf};
 ghost use Rattle.hg_rule.specs.Rounds.{masked_scope, live_entry, entries_of};
 ghost use Rattle.hg_tracker.specs.Entries.{times};
 
-use crate::lists::{fill_all, fill_common, fill_moved, lowest_entry, lowest_of, rank, serve};
+use crate::lists::{fill_claimed, fill_common, fill_moved, lowest_entry, lowest_of, rank, serve};
 use hg_base::{Entry, NoMemory, Scope, TableId};
 use hg_core::{Loaded, Register};
 use std::alloc::Global;
@@ -46,6 +46,21 @@ fn masked_scope(mask: Option<u64>) -> Scope
     }
 }
 
+// For each table an empty list with room for so many numbers.
+fn empty_lists(alloc: Global, sessions: u32, tables: u32) -> Result<Vec<Vec<u64>>, NoMemory>
+    ensures count { IfOk result (λ lists. length lists.items ≡ tables) }
+    ensures room { IfOk result
+        (λ lists. All (λ list. sessions ≤ vec_capacity list) lists.items) }
+    ensures empty { IfOk result (λ lists. AreEmpty lists.items) }
+{
+    let mut lists = Vec::with_capacity(alloc, tables as usize)?;
+    for _ in 0..tables {
+        let list: Vec<u64> = Vec::with_capacity(alloc, sessions as usize)?;
+        lists.push(list)?;
+    }
+    Ok(lists)
+}
+
 impl Gathered {
     ghost use Rattle.hg_tracker.specs.Gathers.{tables_in, IsMadeFor, IsGatherOf};
 
@@ -54,11 +69,7 @@ impl Gathered {
         requires { tables ≤ 64 }
         ensures { IfOk result (λ g. IsMadeFor sessions tables g) }
     {
-        let mut lists = Vec::with_capacity(alloc, tables as usize)?;
-        for _ in 0..tables {
-            let list: Vec<u64> = Vec::with_capacity(alloc, sessions as usize)?;
-            lists.push(list)?;
-        }
+        let lists = empty_lists(alloc, sessions, tables)?;
         Ok(Gathered {
             sessions,
             mark: 0,
@@ -188,15 +199,12 @@ impl Gathered {
         rank(&mut self.ranked, &self.entries);
         fill_common(&mut self.common, &self.ranked);
         fill_moved(&mut self.moved, &self.ranked);
-        let claims = !self.moved.is_empty();
-        if claims || self.claimed {
-            fill_all(
-                self.lists.as_mut_slice(),
-                &self.moved,
-                &self.ranked,
-                self.sessions,
-            );
-            self.claimed = claims;
-        }
+        fill_claimed(
+            self.lists.as_mut_slice(),
+            &mut self.claimed,
+            &self.moved,
+            &self.ranked,
+            self.sessions,
+        );
     }
 }

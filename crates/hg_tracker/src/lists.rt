@@ -1,7 +1,7 @@
 //! The lists that a gather makes of the live registers: those of them that were moved, and the numbers that count for all tables
 //! and for each one.
 
-ghost use Rattle.std.specs.Prelude.{◌≡◌, ◌<◌, ◌≤◌, length, map, vec_capacity, All, IsPermutation};
+ghost use Rattle.std.specs.Prelude.{◌≡◌, ◌<◌, ◌≤◌, false, length, map, vec_capacity, All, IsPermutation};
 ghost use Rattle.std.specs.List.Sorted.{IsNonDecreasingBy};
 ghost use Rattle.hg_base.specs.declared.report.Entry.{Entry};
 ghost use Rattle.hg_tracker.specs.Gathers.{AreEmpty, AreListsOf};
@@ -76,7 +76,7 @@ fn fill_own(list: &mut Vec<u64>, table: u8, moved: &[Entry], ranked: &[Entry])
 }
 
 // Each table's own list. None needs more room than for so many sessions.
-pub(crate) fn fill_all(lists: &mut [Vec<u64>], moved: &[Entry], ranked: &[Entry], _sessions: u32)
+fn fill_all(lists: &mut [Vec<u64>], moved: &[Entry], ranked: &[Entry], _sessions: u32)
     requires tables { length lists.old ≤ 64 }
     requires moved { moved.now ≡ moved_of ranked.now }
     requires room { (length ranked.now ≤ _sessions) ×
@@ -88,6 +88,31 @@ pub(crate) fn fill_all(lists: &mut [Vec<u64>], moved: &[Entry], ranked: &[Entry]
 {
     for table in 0..lists.len() {
         fill_own(&mut lists[table], table as u8, moved, ranked);
+    }
+}
+
+// Each table's own list, where a moved one may count for some table now, or did before. Else each is empty, and stays so.
+pub(crate) fn fill_claimed(
+    lists: &mut [Vec<u64>],
+    claimed: &mut bool,
+    moved: &[Entry],
+    ranked: &[Entry],
+    sessions: u32,
+)
+    requires tables { length lists.old ≤ 64 }
+    requires moved { moved.now ≡ moved_of ranked.now }
+    requires room { (length ranked.now ≤ sessions) ×
+        All (λ list. sessions ≤ vec_capacity list) lists.old }
+    requires empty { claimed.old ≡ false → AreEmpty lists.old }
+    ensures lists { AreListsOf 0 (common_numbers ranked.now) ranked.now lists.new }
+    ensures empty { claimed.new ≡ false → AreEmpty lists.new }
+    ensures room { (length lists.new ≡ length lists.old) ×
+        All (λ list. sessions ≤ vec_capacity list) lists.new }
+{
+    let claims = !moved.is_empty();
+    if claims || *claimed {
+        fill_all(lists, moved, ranked, sessions);
+        *claimed = claims;
     }
 }
 

@@ -1,10 +1,12 @@
-use Rattle.std.proofs.Common.{◌≡◌, ◌+◌, ◌≤◌, length, arith, sym, ap, subst}
-use Rattle.hg_rule.specs.Views.{pass}
+use Rattle.std.proofs.Common.{◌≡◌, ◌+◌, ◌≤◌, List, [], length, arith, sym, ap, ◌∙◌, subst}
+use Rattle.hg_rule.specs.declared.view.Part.{Part}
+use Rattle.hg_rule.specs.Views.{pass, seeing}
 use Rattle.hg_rule.specs.Seats.{pass_view}
 use Rattle.hg_rule.specs.Rounds.{entries_of}
 use Rattle.hg_tracker.specs.Gathers.{IsNotedOf}
 use Rattle.hg_tracker.specs.Begun.{HasLoaded}
 use Rattle.hg_tracker.specs.Boards.{board_sizes}
+use Rattle.hg_tracker.proofs.Made.{made_itself, made_again}
 use Rattle.hg_tracker.proofs.TableLists.{entries_most}
 use Rattle.hg_tracker.proofs.After.{loads_none, keys_length, none_past, gathered_of, whole_of, noted_one}
 use Rattle.hg_tracker.proofs.trackers.Trackers.gather.Goals as goal
@@ -52,3 +54,31 @@ returns-clause-gathered c = gathered_of (pass_view c.args.pass.now) (pass_view c
 
 pub returns-clause-whole : goal.returns-clause-whole
 returns-clause-whole c = whole_of (pass_view c.args.pass.now) (pass_view c.loop-j.pass) c.mark-mark.result (board_sizes c.args.self.now).sessions (all_loaded c)
+
+pub load-loaded-requires-clause-own : goal.load-loaded-requires-clause-own
+load-loaded-requires-clause-own c = c.loop-j.invariant.3
+
+pub sum_up-requires-clause-made : goal.sum_up-requires-clause-made
+sum_up-requires-clause-made c = made_itself (board_sizes c.args.self.now).sessions (board_sizes c.args.self.now).tables c.loop-j.into c.loop-j.invariant.2
+
+pub returns-clause-shown : goal.returns-clause-shown
+returns-clause-shown c =
+    let w = pass_view c.loop-j.pass in
+    let l = all_loaded c in
+    let mark : (pass w).mark ≡ c.mark-mark.result = ap (λ (ps : List Part). (pass (seeing ps [] [])).mark) l.parts in
+    let same = c.sum_up.ensures.noted in
+    let noted = c.loop-j.invariant.1 in
+    record {
+      noted = subst (λ n. IsNotedOf n (pass w).loaded c.sum_up.new.self) (sym mark) (same.0 ∙ noted.0, same.1 ∙ noted.1, same.2 ∙ noted.2);
+      loaded = (l.keys, l.registers);
+      shuffled = c.sum_up.ensures.shuffled;
+      rises = c.sum_up.ensures.rises;
+      lists = c.sum_up.ensures.lists;
+    }
+
+pub returns-clause-made : goal.returns-clause-made
+returns-clause-made c = made_again (board_sizes c.args.self.now).sessions (board_sizes c.args.self.now).tables c.loop-j.into c.sum_up.new.self
+    c.loop-j.invariant.2 c.sum_up.ensures.made
+
+pub returns-clause-own : goal.returns-clause-own
+returns-clause-own c = c.loop-j.invariant.3

@@ -1,10 +1,13 @@
-use Rattle.std.proofs.Common.{rules, ◌≡◌, ℕ, ◌<◌, length, get_or, true, false, sym, ap, ◌∙◌, subst, arith}
+use Rattle.std.proofs.Common.{rules, ◌≡◌, ℕ, ◌<◌, List, [], length, take, filter, get_or, true, false, refl, sym, ap, ◌∙◌, subst, arith, append-nil}
+use Rattle.std.proofs.Math.Seq.{take-length}
+use Rattle.hg_base.specs.declared.report.Entry.{Entry}
 use Rattle.hg_rule.specs.Views.{pass}
 use Rattle.hg_rule.specs.Seats.{pass_view}
 use Rattle.hg_rule.specs.Steps.{Moves}
 use Rattle.hg_rule.specs.Rounds.{entries_of}
-use Rattle.hg_tracker.specs.Tries.{is_long}
+use Rattle.hg_tracker.specs.Tries.{is_long, HasTried}
 use Rattle.hg_tracker.specs.Boards.{board_sizes}
+use Rattle.hg_tracker.proofs.Made.{made_itself, made_again}
 use Rattle.hg_tracker.proofs.TableLists.{entries_most}
 use Rattle.hg_tracker.proofs.After.{keys_length}
 use Rattle.hg_tracker.proofs.Tries.{next_tried, skip_tried, drop_at, drop_more}
@@ -74,3 +77,54 @@ loop-position-preserved c =
         omega (arith, h.7),
       )
     ]
+
+pub loop-position-init : goal.loop-position-init
+loop-position-init c = (
+  record { outcomes = []; each = refl; count_is = refl; parts = c.requires.own.1; sights = refl; events = sym (append-nil (pass_view c.args.pass.now).events) },
+  c.requires.shown.noted,
+  c.requires.shown.loaded,
+  refl,
+  refl,
+  c.requires.made,
+  c.requires.own,
+  omega arith,
+)
+
+pub try_move-moved-requires-clause-own : goal.try_move-moved-requires-clause-own
+try_move-moved-requires-clause-own c = c.loop-position.invariant.6
+
+pub try_move-moved-requires-clause-noted : goal.try_move-moved-requires-clause-noted
+try_move-moved-requires-clause-noted c = c.loop-position.invariant.1
+
+pub try_move-moved-requires-clause-loaded : goal.try_move-moved-requires-clause-loaded
+try_move-moved-requires-clause-loaded c = c.loop-position.invariant.2
+
+pub sum_up-requires-clause-made : goal.sum_up-requires-clause-made
+sum_up-requires-clause-made c = made_itself (board_sizes c.args.self.now).sessions (board_sizes c.args.self.now).tables c.loop-position.gathered c.loop-position.invariant.5
+
+pub returns-clause-moved : goal.returns-clause-moved
+returns-clause-moved c =
+    let v = pass_view c.args.pass.now in
+    let es = c.args.gathered.now.entries.items in
+    let end : c.loop-position.position ≡ length es = omega (arith, c.loop-position.auto.position-end, c.loop-position-test.false) in
+    subst (λ (l : List Entry). HasTried v (filter (is_long (pass v).mark c.args.long) l) c.loop-position.count (pass_view c.loop-position.pass))
+    (ap (λ n. take n es) end ∙ (take-length es ∙ c.requires.shown.noted.2)) c.loop-position.invariant.0
+
+pub returns-clause-shown : goal.returns-clause-shown
+returns-clause-shown c =
+    let same = c.sum_up.ensures.noted in
+    let noted = c.loop-position.invariant.1 in
+    record {
+      noted = (same.0 ∙ noted.0, same.1 ∙ noted.1, same.2 ∙ noted.2);
+      loaded = c.loop-position.invariant.2;
+      shuffled = c.sum_up.ensures.shuffled;
+      rises = c.sum_up.ensures.rises;
+      lists = c.sum_up.ensures.lists;
+    }
+
+pub returns-clause-made : goal.returns-clause-made
+returns-clause-made c = made_again (board_sizes c.args.self.now).sessions (board_sizes c.args.self.now).tables c.loop-position.gathered c.sum_up.new.self
+    c.loop-position.invariant.5 c.sum_up.ensures.made
+
+pub returns-clause-own : goal.returns-clause-own
+returns-clause-own c = c.loop-position.invariant.6
