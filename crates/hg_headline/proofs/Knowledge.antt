@@ -9,7 +9,7 @@ use Rattle.hg_base.specs.declared.line.Answer.{Answer}
 use Rattle.hg_base.specs.declared.line.Answer.TheVariants.{Begun, Newer, OpenBy, Swept}
 use Rattle.hg_base.specs.declared.line.Reply.{Reply}
 use Rattle.hg_base.specs.declared.line.Line.{Line}
-use Rattle.hg_base.specs.History.{Write, History, writes}
+use Rattle.hg_base.specs.History.{Write, History}
 use Rattle.hg_base.specs.Transcript.{Rest}
 use Rattle.hg_core.specs.declared.log.LogEntry.{LogEntry}
 use Rattle.hg_core.specs.Logs.{current, begans, own_writes, is_plain}

@@ -39,7 +39,7 @@ use Rattle.hg_headline.proofs.Loops.{replayed_more}
 use Rattle.hg_headline.proofs.OnTop.{is_open}
 use Rattle.hg_headline.proofs.Answering.{Leaves, leaves}
 use Rattle.hg_headline.proofs.Replaying.{equal_within}
-use Rattle.hg_headline.proofs.Knowledge.{line_for, inside, alone, Next, IsAsked, gone_put, answered_access, answered_met, IsSmall, access_in, access_rest, fits_small}
+use Rattle.hg_headline.proofs.Knowledge.{line_for, alone, Next, IsAsked, gone_put, answered_access, answered_met, IsSmall, access_in, access_rest, fits_small}
 
 -- it reads at the mark, and declares its one table
 abbrev pub own_snapshot : History → Statement → Snapshot

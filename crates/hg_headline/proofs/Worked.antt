@@ -31,7 +31,7 @@ use Rattle.hg_headline.proofs.Words.{true_false}
 use Rattle.hg_headline.proofs.Growing.{put_same}
 use Rattle.hg_headline.proofs.Answering.{nothing_more}
 use Rattle.hg_headline.proofs.Loops.{replayed_opened, replayed_more}
-use Rattle.hg_headline.proofs.Knowledge.{IsAsked}
+use Rattle.hg_headline.proofs.Knowledge.{IsAsked, Next}
 use Rattle.hg_headline.proofs.Stepping.{replayed_begin, replayed_inside, replayed_undone}
 use Rattle.hg_headline.proofs.Singles.{replayed_alone, replayed_commits}
 
@@ -40,6 +40,9 @@ none j = []
 
 abbrev written : ℕ → Write
 written n = record { rid = five; image = image n }
+
+abbrev snap : Snapshot
+snap = record { at = 1; scope = All }
 
 other : (m n : ℕ) → (m == n) ≡ false → m ≡ n → ⊥
 other m n e same = grind (arith, nat_tests, e, same)
@@ -57,6 +60,59 @@ undoes own e = ((refl, tt), λ r. go r (same_rid r five) refl (same_rid five r) 
     go r true e false f = absurd (true_false (sym (same_rid_sym r five e) ∙ f))
     go r false e true f = absurd (true_false (sym (same_rid_sym five r f) ∙ e))
 
+-- what is known after each of the first five records
+first : Next 1 2 history none (asked 1 1 (Put five (Number (pos 7) ∷ [])) ∷ []) (line 1 1 (Some 0) Stored (Some 1) ∷ []) 1 None 1 [] 1 0
+first = replayed_commits 1 2 [] none [] [] (asked 1 1 (Put five (Number (pos 7) ∷ []))) Stored (written 7) (replayed_opened 1 2 (omega arith)) one_of refl refl (tt, tt)
+
+of_two : first.more 2 ≡ []
+of_two = first.gone.others 2 (other 2 1 refl)
+
+second : Next 1 2 history first.more (asked 1 1 (Put five (Number (pos 7) ∷ [])) ∷ asked 2 2 (Begin All) ∷ [])
+    (line 1 1 (Some 0) Stored (Some 1) ∷ line 2 2 None (Begun 1) None ∷ []) 2 (Some snap) (suc (begans (first.more 2))) [] 0 0
+second = replayed_begin 1 2 history first.more (asked 1 1 (Put five (Number (pos 7) ∷ [])) ∷ []) (line 1 1 (Some 0) Stored (Some 1) ∷ []) 2 2 All first.replayed (omega arith)
+    (omega arith) (ap current of_two)
+
+third : Next 1 2 history second.more (asked 1 1 (Put five (Number (pos 7) ∷ [])) ∷ asked 2 2 (Begin All) ∷ asked 3 2 (Put five (Number (pos 8) ∷ [])) ∷ [])
+    (line 1 1 (Some 0) Stored (Some 1) ∷ line 2 2 None (Begun 1) None ∷ line 3 2 None Stored None ∷ []) 2 (Some snap) (begans (second.more 2))
+    (written 8 ∷ own_writes (second.more 2)) (adding (own_writes (second.more 2)) (Some (written 8))) 0
+third = replayed_inside 1 2 history second.more (asked 1 1 (Put five (Number (pos 7) ∷ [])) ∷ asked 2 2 (Begin All) ∷ [])
+    (line 1 1 (Some 0) Stored (Some 1) ∷ line 2 2 None (Begun 1) None ∷ []) (asked 3 2 (Put five (Number (pos 8) ∷ []))) Stored snap second.replayed
+    (record { some = omega arith; most = omega arith }) second.gone.opened second.gone.plain (tt, tt)
+
+own_of_two : own_writes (third.more 2) ≡ written 8 ∷ []
+own_of_two = third.gone.writes ∙ ap (λ ws. written 8 ∷ ws) second.gone.writes
+
+count_of_two : begans (third.more 2) ≡ 1
+count_of_two = third.gone.begun ∙ second.gone.begun ∙ ap (λ l. suc (begans l)) of_two
+
+one_closed : current (third.more 1) ≡ None
+one_closed = ap current (third.gone.others 1 (other 1 2 refl) ∙ second.gone.others 1 (other 1 2 refl)) ∙ first.gone.opened
+
+fourth : Next 1 2 history third.more (asked 1 1 (Put five (Number (pos 7) ∷ [])) ∷ asked 2 2 (Begin All) ∷ asked 3 2 (Put five (Number (pos 8) ∷ [])) ∷ asked 4 1
+    (Put five (Number (pos 9) ∷ [])) ∷ [])
+    (line 1 1 (Some 0) Stored (Some 1) ∷ line 2 2 None (Begun 1) None ∷ line 3 2 None Stored None ∷ line 4 1 (Some 1) (OpenBy (record { session = 2; transaction = 1 })) None ∷ [])
+    1 None (suc (begans (third.more 1))) [] 0 0
+fourth = replayed_alone 1 2 history third.more (asked 1 1 (Put five (Number (pos 7) ∷ [])) ∷ asked 2 2 (Begin All) ∷ asked 3 2 (Put five (Number (pos 8) ∷ [])) ∷ [])
+    (line 1 1 (Some 0) Stored (Some 1) ∷ line 2 2 None (Begun 1) None ∷ line 3 2 None Stored None ∷ []) (asked 4 1 (Put five (Number (pos 9) ∷ [])))
+    (OpenBy (record { session = 2; transaction = 1 })) third.replayed (record { some = omega arith; most = omega arith }) one_closed refl
+    (tt, (refl, refl, third.gone.plain, record { opened = ap is_some third.gone.opened; number = count_of_two; does = subst (λ ws. is_some (image_in five ws) ≡ true) (sym own_of_two) refl }))
+
+two_stays : fourth.more 2 ≡ third.more 2
+two_stays = fourth.gone.others 2 (other 2 1 refl)
+
+fifth : Next 1 2 history fourth.more (asked 1 1 (Put five (Number (pos 7) ∷ [])) ∷ asked 2 2 (Begin All) ∷ asked 3 2 (Put five (Number (pos 8) ∷ [])) ∷ asked 4 1
+    (Put five (Number (pos 9) ∷ [])) ∷ asked 5 2 Rollback ∷ [])
+    (line 1 1 (Some 0) Stored (Some 1) ∷ line 2 2 None (Begun 1) None ∷ line 3 2 None Stored None ∷ line 4 1 (Some 1) (OpenBy (record { session = 2; transaction = 1 })) None
+    ∷ line 5 2 None Undone None ∷ []) 2 None (begans (fourth.more 2)) [] 0 1
+fifth = replayed_undone 1 2 history fourth.more (asked 1 1 (Put five (Number (pos 7) ∷ [])) ∷ asked 2 2 (Begin All) ∷ asked 3 2 (Put five (Number (pos 8) ∷ [])) ∷ asked 4 1
+    (Put five (Number (pos 9) ∷ [])) ∷ [])
+    (line 1 1 (Some 0) Stored (Some 1) ∷ line 2 2 None (Begun 1) None ∷ line 3 2 None Stored None ∷ line 4 1 (Some 1) (OpenBy (record { session = 2; transaction = 1 })) None ∷ [])
+    5 2 snap (five ∷ []) fourth.replayed (omega arith) (omega arith) (ap current two_stays ∙ third.gone.opened) (ap is_plain two_stays ∙ third.gone.plain)
+    (undoes (own_writes (fourth.more 2)) (ap own_writes two_stays ∙ own_of_two))
+
+third_adds : made_in 2 third.more ≡ made_in 2 second.more + 1
+third_adds = third.made ∙ ap (λ ws. made_in 2 second.more + adding ws (Some (written 8))) second.gone.writes
+
 -- what the first five records leave
 record Left : Type 0 where
   logs : ℕ → List LogEntry
@@ -71,37 +127,15 @@ record Left : Type 0 where
   undone : undone_in 2 logs ≡ 1
 
 left : Left
-left =
-    let snap : Snapshot = record { at = 1; scope = All } in
-    let a = replayed_commits 1 2 [] none [] [] (asked 1 1 (Put five (Number (pos 7) ∷ []))) Stored (written 7) (replayed_opened 1 2 (omega arith)) one_of refl refl (tt, tt) in
-    let b = replayed_begin 1 2 history a.more (asked 1 1 (Put five (Number (pos 7) ∷ [])) ∷ []) (line 1 1 (Some 0) Stored (Some 1) ∷ []) 2 2 All a.replayed (omega arith)
-    (omega arith) (ap current (a.gone.others 2 (other 2 1 refl))) in
-    let c = replayed_inside 1 2 history b.more (asked 1 1 (Put five (Number (pos 7) ∷ [])) ∷ asked 2 2 (Begin All) ∷ [])
-    (line 1 1 (Some 0) Stored (Some 1) ∷ line 2 2 None (Begun 1) None ∷ []) (asked 3 2 (Put five (Number (pos 8) ∷ []))) Stored snap b.replayed
-    (record { some = omega arith; most = omega arith }) b.gone.opened b.gone.plain (tt, tt) in
-    let own : own_writes (c.more 2) ≡ written 8 ∷ [] = c.gone.writes ∙ ap (λ ws. written 8 ∷ ws) b.gone.writes in
-    let number : begans (c.more 2) ≡ 1 = c.gone.begun ∙ b.gone.begun ∙ ap (λ l. suc (begans l)) (a.gone.others 2 (other 2 1 refl)) in
-    let one : current (c.more 1) ≡ None = ap current (c.gone.others 1 (other 1 2 refl) ∙ b.gone.others 1 (other 1 2 refl)) ∙ a.gone.opened in
-    let d = replayed_alone 1 2 history c.more (asked 1 1 (Put five (Number (pos 7) ∷ [])) ∷ asked 2 2 (Begin All) ∷ asked 3 2 (Put five (Number (pos 8) ∷ [])) ∷ [])
-    (line 1 1 (Some 0) Stored (Some 1) ∷ line 2 2 None (Begun 1) None ∷ line 3 2 None Stored None ∷ []) (asked 4 1 (Put five (Number (pos 9) ∷ [])))
-    (OpenBy (record { session = 2; transaction = 1 })) c.replayed (record { some = omega arith; most = omega arith }) one refl
-    (tt, (refl, refl, c.gone.plain, record { opened = ap is_some c.gone.opened; number = number; does = subst (λ ws. is_some (image_in five ws) ≡ true) (sym own) refl })) in
-    let two_is : d.more 2 ≡ c.more 2 = d.gone.others 2 (other 2 1 refl) in
-    let e = replayed_undone 1 2 history d.more (asked 1 1 (Put five (Number (pos 7) ∷ [])) ∷ asked 2 2 (Begin All) ∷ asked 3 2 (Put five (Number (pos 8) ∷ [])) ∷ asked 4 1
-    (Put five (Number (pos 9) ∷ [])) ∷ [])
-    (line 1 1 (Some 0) Stored (Some 1) ∷ line 2 2 None (Begun 1) None ∷ line 3 2 None Stored None ∷ line 4 1 (Some 1) (OpenBy (record { session = 2; transaction = 1 })) None ∷ [])
-    5 2 snap (five ∷ []) d.replayed (omega arith) (omega arith) (ap current two_is ∙ c.gone.opened) (ap is_plain two_is ∙ c.gone.plain)
-    (undoes (own_writes (d.more 2)) (ap own_writes two_is ∙ own)) in
-    let c_adds : made_in 2 c.more ≡ made_in 2 b.more + 1 = c.made ∙ ap (λ ws. made_in 2 b.more + adding ws (Some (written 8))) b.gone.writes in
-    record {
-      logs = e.more;
-      replayed = e.replayed;
-      one = ap current (e.gone.others 1 (other 1 2 refl)) ∙ d.gone.opened;
-      two = e.gone.opened;
-      others = λ j p q. ap current (e.gone.others j q ∙ d.gone.others j p ∙ c.gone.others j q ∙ b.gone.others j q ∙ a.gone.others j p);
-      made = omega (arith, a.made, b.made, c_adds, d.made, e.made);
-      undone = omega (arith, a.undone, b.undone, c.undone, d.undone, e.undone);
-    }
+left = record {
+  logs = fifth.more;
+  replayed = fifth.replayed;
+  one = ap current (fifth.gone.others 1 (other 1 2 refl)) ∙ fourth.gone.opened;
+  two = fifth.gone.opened;
+  others = λ j p q. ap current (fifth.gone.others j q ∙ fourth.gone.others j p ∙ third.gone.others j q ∙ second.gone.others j q ∙ first.gone.others j p);
+  made = omega (arith, first.made, second.made, third_adds, fourth.made, fifth.made);
+  undone = omega (arith, first.undone, second.undone, third.undone, fourth.undone, fifth.undone);
+}
 
 -- and then a collector's pass
 pub record Met : Type 0 where
