@@ -13,7 +13,6 @@ use Rattle.hg_script.proofs.Scopes.{among, scope-fits}
 use Rattle.hg_script.proofs.Widths.{natural-fits, values-fit}
 use Rattle.hg_script.specs.declared.code.Code.{Code}
 use Rattle.hg_base.specs.declared.number.Natural.{Natural}
-use Rattle.hg_base.specs.declared.number.Natural.TheVariants as n
 use Rattle.hg_script.specs.declared.word.Word.{Word}
 use Rattle.hg_script.specs.declared.word.Word.TheVariants as word
 use Rattle.hg_script.specs.declared.draft.Ask.TheVariants.{Begin, Get, Put, Del, Scan, CursorOpen, Fetch, CursorClose, Commit, Rollback, Gc}
@@ -23,7 +22,7 @@ use Rattle.hg_script.specs.Numbered.{records_before}
 use Rattle.hg_script.proofs.Numbered.{few_before}
 use Rattle.hg_script.specs.Fields.{Field, Fields, is_version, nth, statement_word, word_of}
 use Rattle.hg_script.specs.declared.rules.TheConstants.{MOST_FETCHED}
-use Rattle.hg_script.specs.Draft.{before, draft_of, first_table, kind_named, kinds_at, scope_named}
+use Rattle.hg_script.specs.Draft.{draft_of, first_table, kind_named, kinds_at, scope_named}
 use Rattle.hg_script.specs.Draft.{table_named, values_by}
 use Rattle.hg_script.specs.Rules.{count_breaks}
 use Rattle.hg_script.specs.Meaning.{draft_code, first_code, nothing, or_next, refusal_from, refusal_of, script_from, script_of, with_draft, with_row}

@@ -9,6 +9,7 @@ pub mod Typed
 pub mod Widths
 -- A script stays lawful, record by record.
 pub mod Open
+pub mod Declared
 pub mod Fitting
 pub mod Growth
 pub mod Lawful
