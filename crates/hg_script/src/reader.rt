@@ -162,11 +162,11 @@ pub fn read_script(alloc: Global, bytes: &[u8]) -> Result<Script, ScriptRefusal>
     // So a table is declared, a row has its table's columns, numbers have their widths, and places ascend.
     ensures lawful { IfOk result IsLawful }
 {
+    let mut row = new_row(alloc)?;
     let mut reader = ReaderBuilder::new()
         .has_headers(false)
         .flexible(true)
         .from_reader(alloc, bytes);
-    let mut row = new_row(alloc)?;
     let mut script = Script::new(alloc);
     let mut sessions = OpenSessions::new();
     for place in 1..MOST_RECORDS + 2 {
