@@ -23,12 +23,6 @@ use hg_base::{Answer, NoMemory, Reply, Scope, Statement};
 use std::alloc::Global;
 use std::collections::{BTreeMap, BTreeSet};
 
-fn lesser(number: u64, least: Option<u64>) -> u64
-    ensures { result ≡ min number (unwrap_or least number) }
-{
-    number.min(least.unwrap_or(number))
-}
-
 /// The least commit number of each transaction that has one.
 #[derive(Drop)]
 pub struct Numbers {
@@ -57,7 +51,7 @@ impl Numbers {
             session: said.session,
             number: said.transaction,
         };
-        let least = lesser(number, self.least.get(&tx).copied());
+        let least = number.min(self.least.get(&tx).copied().unwrap_or(number));
         self.least.insert(tx, least)?;
         Ok(())
     }

@@ -126,19 +126,6 @@ impl Commits {
         self.greatest = self.greatest.max(number);
         Ok(true)
     }
-
-    /// What they write.
-    pub fn into_writes(self) -> Writes
-        ensures { result ≡ self.writes }
-    {
-        let Commits {
-            writes,
-            seats: _,
-            numbers: _,
-            greatest: _,
-        } = self;
-        writes
-    }
 }
 
 /// What each group of a history writes, how many there are, how many versions its lines made and undid, and what a line may ask of all.
@@ -184,10 +171,15 @@ pub fn read_history(alloc: Global, all: &Lines<'_>, is_run: bool) -> Result<Opti
         commits,
         versions,
     } = gathered;
-    let groups = commits.greatest;
+    let Commits {
+        writes,
+        seats: _,
+        numbers: _,
+        greatest,
+    } = commits;
     Ok(Some(Past {
-        writes: commits.into_writes(),
-        groups,
+        writes,
+        groups: greatest,
         tally: versions.tally(),
         context,
     }))

@@ -33,16 +33,6 @@ impl Rest {
         }
         rows[count - 1].0
     }
-
-    // What is left after such a fetch.
-    fn behind(self, most: u32, rows: &[(u64, Row)]) -> Rest
-        ensures { rest_of result ≡ script.rest_behind most rows.now (rest_of self) }
-    {
-        Rest {
-            next: self.passed(most, rows).checked_add(1),
-            ..self
-        }
-    }
 }
 
 /// What the cursor of a line's transaction has left after the line.
@@ -59,7 +49,13 @@ fn rest_after(now: &Said) -> Option<Rest>
             high: *high,
         }),
         Statement::Fetch(most) => match &now.reply.answer {
-            Answer::Rows(rows) => Some(now.rest?.behind(*most, rows.as_slice())),
+            Answer::Rows(rows) => {
+                let rest = now.rest?;
+                Some(Rest {
+                    next: rest.passed(*most, rows.as_slice()).checked_add(1),
+                    ..rest
+                })
+            }
             _ => now.rest,
         },
         _ => now.rest,

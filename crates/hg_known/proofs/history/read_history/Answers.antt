@@ -2,11 +2,10 @@ use Rattle.std.proofs.Common.{◌∙◌, sym, subst, []}
 use Rattle.std.specs.Bool.{MatchBool}
 use Rattle.hg_base.specs.Lists.{onto}
 use Rattle.hg_base.specs.Sound.{IsWhole}
-use Rattle.hg_base.specs.Transcript.{commits, history_of}
+use Rattle.hg_base.specs.Transcript.{commits}
 use Rattle.hg_base.proofs.Growth.{as_many}
 use Rattle.hg_known.specs.Context.{IsContext}
 use Rattle.hg_known.specs.Gathered.{IsGathered}
-use Rattle.hg_known.specs.Written.{IsOfHistory}
 use Rattle.hg_known.proofs.Gathering.{writes_there}
 use Rattle.hg_known.proofs.Whole.{greatest_number}
 use Rattle.hg_known.proofs.history.read_history.Goals as goal
@@ -26,7 +25,7 @@ returns c =
     let done = subst (λ b. MatchBool b (IsWhole xs × IsGathered c.find_wants-wants.result c.gather.new.into (onto xs []) (commits xs)) (IsWhole xs → ⊥))
     c.if-not-branch.false c.in_ok-gather.ensures in (
       done.0,
-      subst (IsOfHistory (history_of xs)) (sym c.into_writes.ensures) (writes_there xs c.gather.new.into.commits done.1.shows done.0),
+      writes_there xs c.gather.new.into.commits done.1.shows done.0,
       as_many xs ∙ sym (greatest_number xs) ∙
           sym done.1.shows.greatest,
       c.tally.ensures xs done.1.versions,

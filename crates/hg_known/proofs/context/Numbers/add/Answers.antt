@@ -10,5 +10,5 @@ returns-in_default c = λ earlier h. numbers_same c.args.self.now.least earlier 
 pub returns : goal.returns
 returns c =
     λ earlier h.
-    numbers_more c.args.self.now.least c.insert.new.self earlier (said_of c.args.said.now) c.in-Some.number c.lesser-least.result (sym c.committed.ensures ∙ c.in-Some.is)
-    (c.lesser-least.ensures ∙ ap (λ o. min c.in-Some.number (unwrap_or o c.in-Some.number)) (c.copied.ensures ∙ c.get.ensures.value)) c.in_ok-insert.ensures.updates.0 h
+    numbers_more c.args.self.now.least c.insert.new.self earlier (said_of c.args.said.now) c.in-Some.number c.min-least.result (sym c.committed.ensures ∙ c.in-Some.is)
+    (c.min-least.ensures ∙ ap (min c.in-Some.number) (c.unwrap_or.ensures ∙ ap (λ o. unwrap_or o c.in-Some.number) (c.copied.ensures ∙ c.get.ensures.value))) c.in_ok-insert.ensures.updates.0 h
