@@ -2,6 +2,7 @@
 
 ghost use Rattle.std.specs.Prelude.{◌≡◌, ◌≤◌, ◌<◌, ◌++◌, ◌∷◌, [], IfSome, None, OnErr, OnOk, length};
 ghost use Rattle.hg_script.specs.Draft.{is_fresh, is_name, table_named};
+ghost use Rattle.hg_script.specs.Places.{ArePlaces};
 
 use crate::table::{Table, is_named_well};
 use hg_base::{MOST_TABLES, NoMemory, TableId};
@@ -78,10 +79,26 @@ impl Tables {
         ensures err { OnErr result (self.new ≡ self.old) }
     {
         self.list.reserve(1)?;
-        let name = table.name().to_vec(*self.list.allocator())?;
-        let place = TableId(self.list.len() as u8);
-        self.places.insert(name, place)?;
+        add_name(&mut self.places, &self.list, &table)?;
         self.list.push(table)?;
         Ok(())
     }
+}
+
+// Adds the name of a table that is to stand behind these, of which none has it.
+fn add_name(
+    places: &mut BTreeMap<Vec<u8>, TableId>,
+    tables: &Vec<Table>,
+    table: &Table,
+) -> Result<(), NoMemory>
+    requires room { length tables.now.items < MOST_TABLES }
+    requires places { ArePlaces places.old tables.now.items }
+    requires fresh { table_named tables.now.items table.now.name ≡ None }
+    ensures places { OnOk result (ArePlaces places.new (tables.now.items ++ table.now ∷ [])) }
+    ensures kept { OnErr result (ArePlaces places.new tables.now.items) }
+{
+    let name = table.name().to_vec(*tables.allocator())?;
+    let place = TableId(tables.len() as u8);
+    places.insert(name, place)?;
+    Ok(())
 }
