@@ -85,7 +85,7 @@ impl Tables {
     }
 }
 
-// Adds the name of a table that is to stand behind these, of which none has it.
+// Adds the name of a table that will be the next one, and that no table before it has.
 fn add_name(
     places: &mut BTreeMap<Vec<u8>, TableId>,
     tables: &Vec<Table>,
