@@ -167,10 +167,10 @@ module _ (v w x y u : View) (part : CommitPart) (ms : Members) (txs : List OpenT
   pub taken_after : (commit y).taken ≡ part.taken
   taken_after = ap (λ (ps : List Part). (commit_there (first_in (after_first ps))).taken) parts_are ∙ ap (λ (c : CommitPart). c.taken) q.commit_is ∙ ap (λ (c : CommitPart). c.taken) o.commit_is
 
-  u_parts : u.parts ≡ Away (number v) (session v) (since v) ∷ lent (numbered n ms)
+  pub u_parts : u.parts ≡ Away (number v) (session v) (since v) ∷ lent (numbered n ms)
   u_parts = ap (λ (z : View). z.parts) left ∙ ap (λ (ps : List Part). first_in ps ∷ after_first (after_first ps)) parts_are
 
-  u_sights : u.sights ≡ (x.sights ++ (Saw (groups (part.history.list ++ group ∷ [])) ∷ hears n ms)) ++ (Saw (commit y).history ∷ Took (commit y).taken ∷ [])
+  pub u_sights : u.sights ≡ (x.sights ++ (Saw (groups (part.history.list ++ group ∷ [])) ∷ hears n ms)) ++ (Saw (commit y).history ∷ Took (commit y).taken ∷ [])
   u_sights = ap (λ (z : View). z.sights) left ∙ ap (λ l. l ++ (Saw (commit y).history ∷ Took (commit y).taken ∷ []))
       (ap (λ (z : View). z.sights) p.1 ∙ (λ i. x.sights ++ (Saw (groups ((history_is i).list ++ same_of group_of bare_group (members (beyond x)) ms alike i ∷ [])) ∷ same_of
       (hears n) (bare_hears n) (members (beyond x)) ms alike i)))

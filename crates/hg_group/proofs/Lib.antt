@@ -21,5 +21,6 @@ pub mod Returning
 pub mod Back
 pub mod Through
 pub mod Joint
+pub mod Led
 -- A collector takes the oldest group.
 pub mod NextGroup

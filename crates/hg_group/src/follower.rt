@@ -1,7 +1,7 @@
 //! A follower: hands its open transaction over, waits turn after turn, and takes back what is laid for it.
 
 ghost use Rattle.std.specs.Prelude.{◌≡◌, ℕ, suc, ◌<◌, [], length, IfOk, IfErr, IfSome};
-ghost use Rattle.hg_lock.specs.Locks.{EachFits};
+ghost use Rattle.hg_lock.specs.Locks.{EachFits, count_of, tag_of};
 ghost use Rattle.hg_rule.specs.Views.{number, session, others, HasOnlySession};
 ghost use Rattle.hg_rule.specs.Seats.{BoardId, board_id, sizes_of, session_view, IsSessionOf, IsAwayOf};
 ghost use Rattle.hg_queue.specs.Handing.{MayCommit};
@@ -17,7 +17,7 @@ use crate::book::{Batches, Founding, Laid, Outcome};
 use crate::list::GroupList;
 use crate::receipt::Receipt;
 use hg_base::NoMemory;
-use hg_lock::{Fits, Loan};
+use hg_lock::{Fits, Loan, Locks};
 use hg_queue::{Handed, OpenTx, Queue, QueuePass};
 use hg_rule::{Board, SessionPass};
 use hg_store::Store;
@@ -39,8 +39,8 @@ impl Fits for Pusher {
     ghost fits = { PusherFits };
 }
 
-/// The right to push, for each session.
-pub(crate) fn make_pushers(
+// The right to push, for each session.
+fn make_pushers(
     alloc: Global,
     queue: &Queue,
     line: &mut QueuePass,
@@ -59,6 +59,23 @@ pub(crate) fn make_pushers(
         })?;
     }
     Ok(pushers)
+}
+
+/// A lock for each session's right to push.
+pub(crate) fn push_locks(
+    alloc: Global,
+    queue: &Queue,
+    line: &mut QueuePass,
+    founding: &Snapshot<Founding>,
+    sessions: u32,
+) -> Result<Locks<Pusher>, NoMemory>
+    requires queue { founding.now.value.queue.value ≡ queue.now }
+    requires line { IsPushing queue.now (founding_board_id founding.now.value) line.old }
+    ensures tag { IfOk result (λ locks. tag_of locks ≡ founding.now) }
+    ensures count { IfOk result (λ locks. count_of locks ≡ sessions) }
+{
+    let pushers = make_pushers(alloc, queue, line, founding, sessions)?;
+    Locks::new(alloc, pushers, founding)
 }
 
 /// A session's right to push, while its transaction is on its way and its lock is held. It has no `Drop`: it ends in `finish`.

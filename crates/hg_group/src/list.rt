@@ -3,8 +3,8 @@
 ghost use Rattle.std.specs.Prelude.{◌≡◌};
 ghost use Rattle.hg_lock.specs.Locks.{count_of, tag_of};
 
-use crate::book::{Batches, Book, Founding, Laid, empty_places};
-use crate::follower::{Pusher, Submitted, join_queue, make_pushers, take_laid, wait_until_laid};
+use crate::book::{Batches, Founding, Laid, commit_lock};
+use crate::follower::{Pusher, Submitted, join_queue, push_locks, take_laid, wait_until_laid};
 use crate::leader::{Tools, lead_unless_laid};
 use crate::receipt::Receipt;
 use hg_base::NoMemory;
@@ -13,7 +13,6 @@ use hg_queue::{OpenTx, Queue};
 use hg_rule::{Board, CommitSeat, SessionPass};
 use hg_store::Store;
 use std::alloc::Global;
-use std::collections::VecDeque;
 use std::snapshot::Snapshot;
 use std::sync::Wait;
 
@@ -56,22 +55,8 @@ impl GroupList {
             sessions,
         };
         let tag = Snapshot::of(&founding);
-        let pushers = make_pushers(alloc, &queue, &mut pushing, &tag, sessions)?;
-        let pushers = Locks::new(alloc, pushers, &tag)?;
-        let popped = Vec::with_capacity(alloc, sessions as usize)?;
-        let laid = empty_places(alloc, sessions)?;
-        let contexts = VecDeque::new(alloc);
-        let mut batches = Vec::with_capacity(alloc, 1)?;
-        let book = Book {
-            line,
-            popped,
-            laid,
-            contexts,
-            count: 0,
-        };
-        let book = Box::new(alloc, book)?;
-        batches.push(Batches { seat, book })?;
-        let batches = Locks::new(alloc, batches, &tag)?;
+        let pushers = push_locks(alloc, &queue, &mut pushing, &tag, sessions)?;
+        let batches = commit_lock(alloc, seat, line, &tag, sessions)?;
         Ok(GroupList {
             batches,
             pushers,

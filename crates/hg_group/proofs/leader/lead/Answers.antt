@@ -1,12 +1,14 @@
-use Rattle.std.proofs.Common.{rules, ◌≡◌, inl, ◌<◌, ◌+◌, ◌++◌, ◌∷◌, [], ℕ, suc, List, length, map, refl, sym, ap, ◌∙◌, subst, arith, append-nil}
+use Rattle.std.proofs.Common.{rules, ◌≡◌, inl, ◌+◌, ◌++◌, ◌∷◌, [], ℕ, suc, List, length, map, refl, sym, ap, ◌∙◌, subst, arith, append-nil}
 use Rattle.hg_base.specs.History.{History, NoNumberTwice}
 use Rattle.hg_rule.specs.declared.groups.Groups.{Groups}
 use Rattle.hg_rule.specs.declared.view.CommitPart.{CommitPart}
 use Rattle.hg_rule.specs.declared.view.View.{View}
 use Rattle.hg_rule.specs.declared.view.Part.TheVariants.{Away}
 use Rattle.hg_rule.specs.Views.{number, session, since, commit_there, first_in}
-use Rattle.hg_rule.specs.Holding.{beyond}
-use Rattle.hg_rule.specs.Handing.{Members, lent, members, who, group_of}
+use Rattle.hg_rule.specs.declared.view.Sight.TheVariants.{Saw, Took}
+use Rattle.hg_rule.specs.Facts.{groups}
+use Rattle.hg_rule.specs.Holding.{beyond, commit}
+use Rattle.hg_rule.specs.Handing.{Members, lent, members, who, numbered, hears, group_of}
 use Rattle.hg_rule.specs.Seats.{board_id, sizes_of, session_view, commit_view}
 use Rattle.hg_queue.specs.declared.open_tx.OpenTx.{OpenTx}
 use Rattle.hg_queue.specs.Queues.{known}
@@ -19,13 +21,10 @@ use Rattle.hg_group.proofs.Grouped.{once, follows_group, follows_still, commits_
 use Rattle.hg_group.proofs.Laying_down.{whose_length}
 use Rattle.hg_group.proofs.Stamped.{on_way}
 use Rattle.hg_group.proofs.Whole.{may_all}
-use Rattle.std.specs.Prelude.{◌≤◌, ◌^◌}
-use Rattle.hg_rule.specs.declared.view.Part.{Part}
-use Rattle.hg_rule.specs.declared.view.Part.TheVariants.{OfCommit}
-use Rattle.hg_rule.specs.declared.view.Sizes.{Sizes}
-use Rattle.hg_rule.specs.Rules.{HasRoom, IsBacked}
-use Rattle.hg_group.proofs.Bound.{count_most}
-use Rattle.hg_group.proofs.Joint.{in_hand, taken_whose, after_is, none_after, taken_after, has_group, has_batch}
+use Rattle.std.specs.Prelude.{◌≤◌}
+use Rattle.hg_group.proofs.Bound.{low, room_long, at_most, batch_fits}
+use Rattle.hg_group.proofs.Led.{alone_led, laid_led, split_parts, kept_back, refused_whole, kept_through}
+use Rattle.hg_group.proofs.Joint.{in_hand, taken_whose, u_parts, u_sights, after_is, none_after, taken_after, has_group, has_batch}
 use Rattle.hg_core.proofs.Groups.{length_more}
 use Rattle.hg_queue.specs.Rids.{Rids}
 use Rattle.hg_group.proofs.Booked.{booked_kept}
@@ -123,9 +122,6 @@ returns-clause-turn g c =
     (ap (λ (t : View). t.events) c.join_commit-number.ensures.view ∙ h.events) s.only s.events (ap (λ (t : View). t.events) c.publish.ensures.step.1)
     (ap (λ (t : View). t.events) c.split_commit-seat-2.ensures.view) group c.lay.ensures.all
 
-low : (a h b k : ℕ) → a ≤ h → b ≡ a → k ≡ suc h → b ≤ k
-low a h b k le e f = omega (arith, le, e, f)
-
 pub returns-clause-kept : goal.returns-clause-kept
 returns-clause-kept g c =
     let v = session_view c.args.pass.now in
@@ -181,17 +177,6 @@ returns-clause-kept g c =
       c.gather.ensures.line.0,
     )
 
-few : (z : Sizes) (mark count long sessions : ℕ) (w : View) (first : Part) (part : CommitPart) (os : List Part) → IsBacked z mark w → w.parts ≡ first ∷ OfCommit part ∷ os →
-    HasRoom z → count ≡ commits_in part.history.list → long ≤ sessions → sessions < 2 ^ 32 → count + long < 2 ^ 64
-few z mark count long sessions w first part os backed is room same le small = let a = count_most z mark w first part os backed is room.begins in omega (arith, a, same, le, small)
-
-room_long : (n : ℕ) (txs : List OpenTx) → length (with_room n txs) ≡ length txs
-room_long n [] = refl
-room_long n (tx ∷ txs) = refl
-
-at_most : (long popped most laid sessions : ℕ) → long ≡ popped → popped ≤ most → most ≡ laid → laid ≡ sessions → long ≤ sessions
-at_most long popped most laid sessions a b c d = omega (arith, a, b, c, d)
-
 pub lay-requires-clause-small : goal.lay-requires-clause-small
 lay-requires-clause-small g c =
     let v = session_view c.args.pass.now in
@@ -207,7 +192,7 @@ lay-requires-clause-small g c =
     (ap length c.make_room.ensures.whole.1 ∙ room_long c.make_room.ensures.whole.0 c.gather.new.popped.items) in
     let most : length txs ≤ z.sessions = at_most (length txs) (length c.gather.new.popped.items) c.len-sessions.result
     (length book.laid.items) z.sessions long c.gather.ensures.room.1 (c.len-sessions.ensures ∙ book.laid.ok.0) kept.laid.1 in
-    few z c.join_commit-number.result book.count (length txs) z.sessions w (Away (number v) (session v) (since v)) part
+    batch_fits z c.join_commit-number.result book.count (length txs) z.sessions w (Away (number v) (session v) (since v)) part
     (lent h.ms) c.join_commit-number.ensures.backed o.parts c.args.tools.now.board.now.room kept.count_is most (search rules)
 
 pub overflow_add-open : goal.overflow_add-open
@@ -226,7 +211,7 @@ overflow_add-open g c =
     let most : length txs ≤ z.sessions = at_most (length txs) (length c.gather.new.popped.items) c.len-sessions.result
     (length book.laid.items) z.sessions long c.gather.ensures.room.1 (c.len-sessions.ensures ∙ book.laid.ok.0) kept.laid.1 in
     record {
-      fits = few z c.join_commit-number.result book.count (length txs) z.sessions w (Away (number v) (session v) (since v)) part
+      fits = batch_fits z c.join_commit-number.result book.count (length txs) z.sessions w (Away (number v) (session v) (since v)) part
           (lent h.ms) c.join_commit-number.ensures.backed o.parts c.args.tools.now.board.now.room kept.count_is most (search rules);
     }
 
@@ -266,3 +251,45 @@ returns-in_default-clause-kept g c =
       },
       c.gather.ensures.line.0,
     )
+
+pub returns-then-is_empty-clause-led : goal.returns-then-is_empty-clause-led
+returns-then-is_empty-clause-led g c =
+    let h = c.gather.ensures.gathered in
+    let none : length c.gather.new.popped.items ≡ 0 = search rules in
+    alone_led (session_view c.args.pass.now) (session_view c.gather.new.pass) h.ms c.gather.new.popped.items none h.taken h.parts h.kept h.events
+
+pub returns-in_default-clause-turn : goal.returns-in_default-clause-turn
+returns-in_default-clause-turn g c = refused_whole (session_view c.args.pass.now) (session_view c.join_commit-number.new.pass) (session_view c.split_commit-seat.new.pass)
+    (session_view c.lay_back.new.pass) c.make_room.new.popped.items
+    (ap (λ (t : View). t.events) c.join_commit-number.ensures.view ∙ c.gather.ensures.gathered.events) (ap (λ (t : View). t.events) c.split_commit-seat.ensures.view) c.lay_back.ensures.all
+
+pub returns-in_default-clause-led : goal.returns-in_default-clause-led
+returns-in_default-clause-led g c =
+    let v = session_view c.args.pass.now in
+    let h = c.gather.ensures.gathered in
+    let part = part_in c.args.kept.seat in
+    let w = session_view c.join_commit-number.new.pass in
+    let u = session_view c.split_commit-seat.new.pass in
+    let o = in_hand v (session_view c.gather.new.pass) (commit_view c.args.kept.seat) w part h.ms h.parts c.requires.kept.0.seat.1 c.join_commit-number.ensures.view in
+    laid_led v u (session_view c.lay_back.new.pass) h.ms c.make_room.new.popped.items (split_parts v w u part h.ms o c.split_commit-seat.ensures.view)
+    (kept_back v (session_view c.gather.new.pass) w u (commit_view c.args.kept.seat).sights (Saw (commit w).history ∷ Took (commit w).taken ∷ []) h.kept
+    (ap (λ (t : View). t.sights) c.join_commit-number.ensures.view) (ap (λ (t : View). t.sights) c.split_commit-seat.ensures.view))
+    c.lay_back.ensures.all (returns-in_default-clause-turn g c)
+
+pub returns-clause-led : goal.returns-clause-led
+returns-clause-led g c =
+    let v = session_view c.args.pass.now in
+    let h = c.gather.ensures.gathered in
+    let part = part_in c.args.kept.seat in
+    let w = session_view c.join_commit-number.new.pass in
+    let x = session_view c.stamp_batch.new.pass in
+    let y = session_view c.publish.new.pass in
+    let u = session_view c.split_commit-seat-2.new.pass in
+    let n : ℕ = c.join_commit-number.result + 1 in
+    let txs = c.as_slice-txs.result.now in
+    let s = c.stamp_batch.ensures.stamped in
+    let o = in_hand v (session_view c.gather.new.pass) (commit_view c.args.kept.seat) w part h.ms h.parts c.requires.kept.0.seat.1 c.join_commit-number.ensures.view in
+    laid_led v u (session_view c.lay.new.pass) (numbered n h.ms) txs (u_parts v w x y u part h.ms txs n o s c.publish.ensures.step c.split_commit-seat-2.ensures.view)
+    (kept_through v (session_view c.gather.new.pass) w x u (commit_view c.args.kept.seat).sights (Saw (groups (part.history.list ++ group_of h.ms ∷ [])) ∷ hears n h.ms)
+    (Saw (commit y).history ∷ Took (commit y).taken ∷ []) h.kept (ap (λ (t : View). t.sights) c.join_commit-number.ensures.view) s.kept
+    (u_sights v w x y u part h.ms txs n o s c.publish.ensures.step c.split_commit-seat-2.ensures.view)) c.lay.ensures.all (returns-clause-turn g c)
