@@ -152,3 +152,7 @@ wrote_is own j x earlier (Some r) next is = sym (some (stored_in j x earlier) (s
 pub decided_within : (b r : Bool) (P U : Type 0) → b ≡ true → Decides r P → Decides r (MatchBool b P U)
 decided_within true r P U e d = d
 decided_within false r P U e d = absurd (false_true e)
+
+pub decided_without : (b r : Bool) (P U : Type 0) → b ≡ false → Decides r U → Decides r (MatchBool b P U)
+decided_without true r P U e d = absurd (false_true (sym e))
+decided_without false r P U e d = d
