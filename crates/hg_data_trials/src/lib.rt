@@ -1,8 +1,8 @@
 //! Tests of the single-threaded crates, of what no row of tests/ can show: values that the program never prints.
 //!
 //!     calls      calls on one record's versions, as words
-//!     alone      the calls on a chain by itself
-//!     places     the same calls at a place among others
+//!     writes     writes by a chain by itself, and at a place among others
+//!     both       the calls on a chain by itself, and the same at a place among others
 //!     nodes      nodes that are free, and given again
 //!     rows       rows of calls, and what they answer
 //!     seeds      records of the script of a seed
@@ -13,13 +13,11 @@
 #![tactic(auto)]
 
 #[cfg(test)]
-mod alone;
+mod both;
 #[cfg(test)]
 mod calls;
 #[cfg(test)]
 mod nodes;
-#[cfg(test)]
-mod places;
 #[cfg(test)]
 mod rows;
 #[cfg(test)]
@@ -28,3 +26,5 @@ mod seeds;
 mod streams;
 #[cfg(test)]
 mod words;
+#[cfg(test)]
+mod writes;

@@ -1,9 +1,7 @@
 //! Rows of calls, and what they answer.
 
-use crate::alone::{alone_told, deletion_told};
+use crate::both::{agreed, deletion_told, places_told};
 use crate::nodes::nodes_told;
-use crate::places::{place_told, places_told};
-use hg_base::NoMemory;
 use std::alloc::Global;
 use std::test::Fail;
 
@@ -23,25 +21,16 @@ Some(=
 )=
 ";
 
-fn shortened(alloc: Global, told: &str, pairs: &str) -> Result<String, NoMemory> {
-    let mut short = String::from_str(alloc, told)?;
+fn shortened(alloc: Global, told: String, pairs: &str) -> String {
+    let mut short = told;
     for pair in pairs.lines() {
         if let Some((long, part)) = pair.split_once('=') {
-            short = short.replace(alloc, long, part)?;
+            if let Ok(next) = short.replace(alloc, long, part) {
+                short = next;
+            }
         }
     }
-    Ok(short)
-}
-
-// What calls answer on a chain alone. Where they answer otherwise at a place, that comes after a slash.
-fn agreed(alloc: Global, calls: &str) -> Result<String, NoMemory> {
-    let mut told = alone_told(alloc, calls)?;
-    let other = place_told(alloc, calls)?;
-    if told != other {
-        told.push('/')?;
-        told.push_str(&other)?;
-    }
-    Ok(told)
+    short
 }
 
 // Four versions are cut. Five are swept: at two horizons with readers between, with both snapshots at one number, and over the horizon.
@@ -57,16 +46,13 @@ put see:0 put see:0 put see:0 put see:0 put sweep:9:9:9 see:9 see:7 see:5 see:3 
 put see:0 put see:0 put see:0 put see:0 put sweep:2:9:9 see:9 see:7 see:5 see:3 see:1 = Some(1); None; Some(3); None; Some(5); None; Some(7); None; Some(9); Swept { gone: 0, base_gone: false }; Some(9); Some(7); Some(5); Some(3); Some(1);
 ";
 
-fn rows_told(alloc: Global, rows: &str) -> Result<String, NoMemory> {
+fn rows_told(alloc: Global, rows: &str) -> String {
     let mut told = String::new(alloc);
     for row in rows.lines() {
         let calls = row.split('=').next().unwrap_or("");
-        told.push_str(calls)?;
-        told.push('=')?;
-        told.push_str(&agreed(alloc, calls)?)?;
-        told.push('\n')?;
+        let _ = write!(told, "{calls}={}\n", agreed(alloc, calls));
     }
-    Ok(told)
+    told
 }
 
 // Two hundred calls.
@@ -114,23 +100,23 @@ const PLACES_TOLD: &str = " 1; 11111111 ........
 // How many nodes there are, how many are free, and whether there is a version at the places 0, 1, 2 and 5; and what a cut at place 1
 // hands out, and whether that leaves nothing there.
 const NODES: &str = "\
-3 0: true true true false
+3 0 [true, true, true, false]
 Cut { image: Some((2, Image { row: None })), gone: 0 } true
-3 1: true false true false
-3 0: true false true true
+3 1 [true, false, true, false]
+3 0 [true, false, true, true]
 ";
 
 #[test]
 fn calls_answer_as_rows_say(rt: HostRuntime) -> Result<(), Fail> {
     let alloc = rt.alloc();
-    let told = shortened(alloc, &rows_told(alloc, ROWS)?, SHORT)?;
+    let told = shortened(alloc, rows_told(alloc, ROWS), SHORT);
     assert_eq!(rt; told.as_str(), ROWS);
     Ok(())
 }
 
 #[test]
 fn a_chain_is_the_model_of_a_place(rt: HostRuntime) -> Result<(), Fail> {
-    let told = agreed(rt.alloc(), CALLS)?;
+    let told = agreed(rt.alloc(), CALLS);
     assert_eq!(rt; told.split(';').count(), 201, "{told}");
     Ok(())
 }
@@ -138,24 +124,24 @@ fn a_chain_is_the_model_of_a_place(rt: HostRuntime) -> Result<(), Fail> {
 #[test]
 fn a_place_leaves_another_alone(rt: HostRuntime) -> Result<(), Fail> {
     let alloc = rt.alloc();
-    let told = shortened(alloc, &places_told(alloc, PLACES)?, SHORT)?;
-    let told = shortened(alloc, &told, SEEN)?;
+    let told = shortened(alloc, places_told(alloc, PLACES), SHORT);
+    let told = shortened(alloc, told, SEEN);
     assert_eq!(rt; told.as_str(), PLACES_TOLD);
     Ok(())
 }
 
 #[test]
 fn a_freed_node_is_given_again(rt: HostRuntime) -> Result<(), Fail> {
-    assert_eq!(rt; nodes_told(rt.alloc())?.as_str(), NODES);
+    assert_eq!(rt; nodes_told(rt.alloc()).as_str(), NODES);
     Ok(())
 }
 
 #[test]
 fn the_newest_deletion_stays(rt: HostRuntime) -> Result<(), Fail> {
-    let told = deletion_told(rt.alloc())?;
+    let told = deletion_told(rt.alloc());
     assert_eq!(rt;
         told.as_str(),
-        "Swept { gone: 0, base_gone: true } Some(Image { row: None })"
+        " Swept { gone: 0, base_gone: true }; Some(Image { row: None });"
     );
     Ok(())
 }

@@ -1,7 +1,6 @@
 //! Records of made scripts, as the same rules written in another language make them.
 
 use crate::calls::word_number;
-use hg_base::NoMemory;
 use hg_script::Script;
 use hg_seed::make_script;
 use std::alloc::Global;
@@ -23,39 +22,41 @@ const MADE: &str = "\
 4294967296 11 = 15 4 Gc(Table)
 ";
 
-fn tell_record(told: &mut String, script: &Script, index: usize) -> Result<(), NoMemory> {
+// Adds what a record is. Where memory runs out, the text is cut short, and isn't the one that is wanted.
+fn tell_record(told: &mut String, script: &Script, index: usize) {
     if index >= script.record_count() {
-        return Ok(told.push_str("none")?);
+        let _ = told.push_str("none");
+    } else if let Ok(record) = script.record(index) {
+        let _ = write!(
+            told,
+            "{} {} {:?}",
+            record.place, record.session, record.statement
+        );
     }
-    let record = script.record(index)?;
-    write!(
-        told,
-        "{} {} {:?}",
-        record.place, record.session, record.statement
-    )?;
-    Ok(())
 }
 
 // Adds a row again, with what its record is found to be.
-fn tell_row(alloc: Global, told: &mut String, row: &str) -> Result<(), NoMemory> {
+fn tell_row(alloc: Global, told: &mut String, row: &str) {
     let mut words = row.split(' ');
     let seed = word_number(words.next());
     let index = word_number(words.next());
-    write!(told, "{seed} {index} = ")?;
-    tell_record(told, &make_script(alloc, seed)?, index as usize)?;
-    Ok(told.push('\n')?)
+    let _ = write!(told, "{seed} {index} = ");
+    if let Ok(script) = make_script(alloc, seed) {
+        tell_record(told, &script, index as usize);
+    }
+    let _ = told.push('\n');
 }
 
-fn made_told(alloc: Global) -> Result<String, NoMemory> {
+fn made_told(alloc: Global) -> String {
     let mut told = String::new(alloc);
     for row in MADE.lines() {
-        tell_row(alloc, &mut told, row)?;
+        tell_row(alloc, &mut told, row);
     }
-    Ok(told)
+    told
 }
 
 #[test]
 fn scripts_are_made(rt: HostRuntime) -> Result<(), Fail> {
-    assert_eq!(rt; made_told(rt.alloc())?.as_str(), MADE);
+    assert_eq!(rt; made_told(rt.alloc()).as_str(), MADE);
     Ok(())
 }

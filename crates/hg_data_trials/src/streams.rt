@@ -2,8 +2,8 @@
 
 ghost use Rattle.std.specs.Prelude.{◌≡◌, ◌<◌};
 
-use hg_base::{MemorySink, MemorySource, NoMemory, Sink, Source, SteadySink, SteadySource, Steps};
-use std::alloc::Global;
+use hg_base::{MemorySink, MemorySource, Sink, Source, SteadySink, SteadySource, Steps};
+use std::alloc::{AllocError, Global};
 use std::marker::Brand;
 use std::sync::ledger::{Blank, Ledger};
 use std::test::Fail;
@@ -17,47 +17,51 @@ Err(Failed)Ok(3)[97, 98, 99]
 Ok(2)Ok(4)[97, 98, 99] 3
 ";
 
-fn tell_reads<S: Source>(told: &mut String, source: &mut S) -> Result<(), NoMemory> {
+// Adds what four reads give. Where memory runs out, a text is cut short, and isn't the one that is wanted.
+fn tell_reads<S: Source>(told: &mut String, source: &mut S) {
     for _ in 0..4 {
         let mut buffer = [0u8; 8];
-        let Ok(count) = source.read(&mut buffer) else {
-            return Ok(told.push('?')?);
-        };
-        write!(told, "{:?}", &buffer[..count])?;
+        if let Ok(count) = source.read(&mut buffer) {
+            let _ = write!(told, "{:?}", &buffer[..count]);
+        }
     }
-    Ok(told.push('\n')?)
+    let _ = told.push('\n');
 }
 
-fn tell_sources(alloc: Global, told: &mut String) -> Result<(), NoMemory> {
+fn tell_sources(alloc: Global, told: &mut String) -> Result<(), AllocError> {
     let bytes = Vec::from_slice(alloc, b"abcde")?;
-    tell_reads(told, &mut MemorySource::new(bytes, 2, Vec::new(alloc)))?;
+    tell_reads(told, &mut MemorySource::new(bytes, 2, Vec::new(alloc)));
     let bytes = Vec::from_slice(alloc, b"abcde")?;
-    tell_reads(told, &mut SteadySource::new(bytes, 2))
+    tell_reads(told, &mut SteadySource::new(bytes, 2));
+    Ok(())
 }
 
-fn tell_sink(alloc: Global, told: &mut String) -> Result<(), NoMemory> {
+fn tell_sink(alloc: Global, told: &mut String) {
     let mut sink = MemorySink::new(alloc, 4, Vec::new(alloc));
-    write!(told, "{:?}", sink.write(b"ab"))?;
-    sink.reserve(3)?;
-    write!(told, "{:?}", sink.write(b"abcde"))?;
-    write!(told, "{:?}\n", sink.bytes())?;
-    Ok(())
+    let first = sink.write(b"ab");
+    let _ = sink.reserve(3);
+    let second = sink.write(b"abcde");
+    let _ = write!(told, "{first:?}{second:?}{:?}\n", sink.bytes());
 }
 
-fn tell_steady_sink(alloc: Global, told: &mut String) -> Result<(), NoMemory> {
+fn tell_steady_sink(alloc: Global, told: &mut String) {
     let mut sink = SteadySink::new(alloc, 4);
-    write!(told, "{:?}", sink.write(b"ab"))?;
-    sink.reserve(3)?;
-    write!(told, "{:?}", sink.write(b"abcde"))?;
-    write!(told, "{:?} {}\n", sink.bytes(), sink.past())?;
-    Ok(())
+    let first = sink.write(b"ab");
+    let _ = sink.reserve(3);
+    let second = sink.write(b"abcde");
+    let _ = write!(
+        told,
+        "{first:?}{second:?}{:?} {}\n",
+        sink.bytes(),
+        sink.past()
+    );
 }
 
-fn streams_told(alloc: Global) -> Result<String, NoMemory> {
+fn streams_told(alloc: Global) -> Result<String, AllocError> {
     let mut told = String::new(alloc);
     tell_sources(alloc, &mut told)?;
-    tell_sink(alloc, &mut told)?;
-    tell_steady_sink(alloc, &mut told)?;
+    tell_sink(alloc, &mut told);
+    tell_steady_sink(alloc, &mut told);
     Ok(told)
 }
 

@@ -1,7 +1,7 @@
 //! Words, as a person types them, and the options that they are. Words that are refused are rows (tests/words.txt).
 
 use hg_words::read_words;
-use std::alloc::{AllocError, Global};
+use std::alloc::Global;
 use std::test::Fail;
 
 const TAKEN: &str = "\
@@ -19,31 +19,33 @@ run --sweepers 16 = Ok(Options { command: Run, buckets: 64, long: 4, rounds: 8, 
 replay --sweepers 2 = Ok(Options { command: Replay, buckets: 64, long: 4, rounds: 8, sweepers: 2 })
 ";
 
-// Words, as they are between spaces.
-fn split(alloc: Global, words: &str) -> Result<Vec<String>, AllocError> {
+// Words, as they are between spaces. Where memory runs out, they aren't the ones that are wanted, and the test fails.
+fn split(alloc: Global, words: &str) -> Vec<String> {
     let mut all = Vec::new(alloc);
     for word in words.split_whitespace() {
-        all.push(String::from_str(alloc, word)?)?;
+        if let Ok(word) = String::from_str(alloc, word) {
+            let _ = all.push(word);
+        }
     }
-    Ok(all)
+    all
 }
 
 // Adds what words are read as.
-fn tell_words(alloc: Global, told: &mut String, words: &str) -> Result<(), AllocError> {
-    let all = split(alloc, words)?;
-    write!(told, "{words} = {:?}\n", read_words(alloc, &all))
+fn tell_words(alloc: Global, told: &mut String, words: &str) {
+    let all = split(alloc, words);
+    let _ = write!(told, "{words} = {:?}\n", read_words(alloc, &all));
 }
 
-fn words_told(alloc: Global) -> Result<String, AllocError> {
+fn words_told(alloc: Global) -> String {
     let mut told = String::new(alloc);
     for row in TAKEN.lines() {
-        tell_words(alloc, &mut told, row.split(" = ").next().unwrap_or(""))?;
+        tell_words(alloc, &mut told, row.split(" = ").next().unwrap_or(""));
     }
-    Ok(told)
+    told
 }
 
 #[test]
 fn words_are_taken(rt: HostRuntime) -> Result<(), Fail> {
-    assert_eq!(rt; words_told(rt.alloc())?.as_str(), TAKEN);
+    assert_eq!(rt; words_told(rt.alloc()).as_str(), TAKEN);
     Ok(())
 }

@@ -1,9 +1,0 @@
-use Rattle.hg_base.specs.Lists.{Each}
-use Rattle.hg_chain.specs.Versions.{IsBelow}
-use Rattle.hg_data_trials.proofs.alone.calls_alone.Given as goal
-
-abbrev pub invariant-loop-text : goal.invariant-loop-text
-invariant-loop-text l =
-    goal.iterator-loop-text.can_next l.text-iterator
-    × goal.iterator-loop-text.is_finite l.text-iterator
-    × Each (IsBelow l.number) l.chain
