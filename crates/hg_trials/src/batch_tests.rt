@@ -1,52 +1,28 @@
 //! Two sessions commit through the queue.
 
-ghost use Rattle.std.specs.Prelude.{◌≡◌, ◌∷◌, [], ◌<◌, true, false, length, IfOk, IfSome};
-ghost use Rattle.hg_base.specs.declared.scope.Scope.TheVariants.{All};
-ghost use Rattle.hg_core.specs.declared.log.LogEntry.TheVariants.{Began, Wrote};
-ghost use Rattle.hg_core.specs.declared.phase.Phase.TheVariants.{Idle, Live};
-ghost use Rattle.hg_core.specs.Logs.{begans};
+ghost use Rattle.std.specs.Prelude.{◌≡◌, ◌∷◌, [], ◌<◌, true, false, IfSome};
+ghost use Rattle.hg_core.specs.declared.log.LogEntry.TheVariants.{Wrote};
+ghost use Rattle.hg_core.specs.declared.phase.Phase.TheVariants.{Idle};
 ghost use Rattle.hg_rule.specs.declared.view.Part.TheVariants.{OfSession};
-ghost use Rattle.hg_rule.specs.Seats.{board_id, sizes_of, session_view, IsSessionOf};
-ghost use Rattle.hg_rule.specs.Steps.{logging};
+ghost use Rattle.hg_rule.specs.Seats.{board_id, sizes_of, session_view, IsSessionOf, IsAwayOf, IsPassOf};
 ghost use Rattle.hg_rule.specs.Holding.{writer};
 ghost use Rattle.hg_rule.specs.Writes.{with_entry};
-ghost use Rattle.hg_rule.specs.Views.{number, session, HasOnlySession};
+ghost use Rattle.hg_rule.specs.Views.{number, session, others, HasOnlySession};
+ghost use Rattle.hg_group.specs.Frames.{AreOfOne, IsListOf, IsToCommit};
+ghost use Rattle.hg_group.specs.Lists.{groups_board_id, IsSubmittedTo};
 ghost use Rattle.hg_store.specs.Stores.{store_board_id, store_buckets};
-ghost use Rattle.hg_queue.specs.Handing.{IsOpenTxOf, MayCommit};
+ghost use Rattle.hg_queue.specs.Handing.{MayCommit};
 ghost use Rattle.hg_trials.specs.Between.{HasBegun};
 
-use hg_base::{Image, NoMemory, Rid, Row, Scope, Snapshot, TableId, Writer};
-use hg_group::{GroupList, OpenTx, RidList};
-use hg_rule::{Board, SessionPass};
+use crate::entering_tests::begin;
+use hg_base::{Image, Rid, Row, Scope, Snapshot, TableId, Writer};
+use hg_group::{GroupList, OpenTx, Receipt, RidList, Submitted};
+use hg_rule::{Board, CollectorPass, SessionPass};
 use hg_store::{Author, Store};
 use std::alloc::Global;
+use std::process::Abort;
 use std::sync::Wait;
 use std::test::Fail;
-
-// Begins a transaction on all tables. The answer is its snapshot.
-fn begin(board: &Board, pass: &mut SessionPass) -> u64
-    requires own { IsSessionOf (board_id board.now) (sizes_of board.now) pass.old }
-    requires only { HasOnlySession (session_view pass.old) }
-    requires rests { (session (session_view pass.old)).phase ≡ Idle }
-    requires room { begans (session (session_view pass.old)).log < (sizes_of board.now).quota }
-    ensures own { IsSessionOf (board_id board.now) (sizes_of board.now) pass.new }
-    ensures parts { (session_view pass.new).parts ≡
-        OfSession (number (session_view pass.old))
-        (logging (Began result All) (Live result All) (session (session_view pass.old)))
-        ∷ [] }
-{
-    board.declare(pass, Scope::All);
-    let from = board.probe(pass);
-    board.enter(pass, from);
-    let at = board.fix(pass);
-    board.go_live(pass, at, Scope::All);
-    at
-}
-
-fn image(alloc: Global, value: i64) -> Result<Image, NoMemory> {
-    let row = Row::from_slice(alloc, &[value])?;
-    Ok(Image { row: Some(row) })
-}
 
 // Writes an image of a record in its bucket. The answer says who writes, and whether it was stored.
 fn write<R: Wait>(
@@ -92,7 +68,7 @@ fn put<R: Wait>(
     store: &Store,
     pass: &mut SessionPass,
     key: u64,
-) -> Result<Option<OpenTx>, NoMemory>
+) -> Option<OpenTx>
     requires board { store_board_id store.now ≡ board_id board.now }
     requires buckets { (0 < store_buckets store.now) ×
         (store_buckets store.now ≡ (sizes_of board.now).buckets) }
@@ -103,32 +79,70 @@ fn put<R: Wait>(
     requires unstamped { (session (session_view pass.old)).stamped ≡ false }
     requires room { (0 < (sizes_of board.now).tables) × (0 < (sizes_of board.now).quota) }
     ensures own { IsSessionOf (board_id board.now) (sizes_of board.now) pass.new }
-    ensures ready { IfOk result (λ r.
-        IfSome r (λ tx.
-        HasOnlySession (session_view pass.new) ×
-        (MayCommit (session (session_view pass.new)) ×
-        (IsOpenTxOf (number (session_view pass.new))
-        (session (session_view pass.new)) tx ×
-        (0 < length tx.records.list))))) }
+    ensures ready { IfSome result (λ tx.
+        HasOnlySession (session_view pass.new) × IsToCommit (session_view pass.new) tx) }
 {
-    let image = image(alloc, 10)?;
     let mut records = RidList::new(alloc);
-    records.reserve()?;
-    let at = begin(board, pass);
+    if records.reserve().is_err() {
+        return None;
+    }
+    let at = begin(board, pass, Scope::All);
     let table = TableId(0);
     let rid = Rid { table, key };
-    let (writer, stored) = write(rt, board, store, pass, (rid, image), at);
+    let row = Row::from_slice(alloc, &[10]).ok();
+    let (writer, stored) = write(rt, board, store, pass, (rid, Image { row }), at);
     if !stored {
-        return Ok(None);
+        return None;
     }
     records.push_reserved(rid);
     let scope = Scope::All;
     let snapshot = Snapshot { at, scope };
-    Ok(Some(OpenTx {
+    Some(OpenTx {
         writer,
         snapshot,
         records,
-    }))
+    })
+}
+
+// Hands a transaction over to the queue.
+fn submit<R: Abort + Wait>(
+    rt: &R,
+    board: &Board,
+    groups: &GroupList,
+    tx: OpenTx,
+    pass: &mut SessionPass,
+) -> Submitted
+    requires list { IsListOf board.now groups.now }
+    requires own { IsSessionOf (board_id board.now) (sizes_of board.now) pass.old }
+    requires only { HasOnlySession (session_view pass.old) }
+    requires tx { IsToCommit (session_view pass.old) tx }
+    ensures submitted { IsSubmittedTo groups.now result }
+    ensures own { IsAwayOf (board_id board.now) (sizes_of board.now) pass.new }
+    ensures alone { others (session_view pass.new) ≡ [] }
+    ensures may { MayCommit (session (session_view pass.new)) }
+{
+    let Ok(submitted) = groups.submit(rt, board, tx, pass) else {
+        panic!(rt; "no memory");
+    };
+    submitted
+}
+
+// Has a transaction that was handed over committed.
+fn finish<R: Wait>(
+    rt: &R,
+    board: &Board,
+    store: &Store,
+    groups: &GroupList,
+    submitted: Submitted,
+    pass: &mut SessionPass,
+) -> Option<Receipt>
+    requires engine { AreOfOne board.now store.now groups.now }
+    requires submitted { IsSubmittedTo groups.now submitted }
+    requires own { IsAwayOf (board_id board.now) (sizes_of board.now) pass.old }
+    requires alone { others (session_view pass.old) ≡ [] }
+    requires may { MayCommit (session (session_view pass.old)) }
+{
+    groups.finish(rt, board, store, submitted, pass).ok()
 }
 
 // The receipts of session 2 and of session 1; the oldest context's number and its records; and that no other is left.
@@ -146,28 +160,42 @@ fn two_sessions_commit_in_one_group(rt: HostRuntime) -> Result<(), Fail> {
     let mut sessions = seats.sessions.into_vec();
     let mut second = sessions.pop().expect(&rt, "session 2");
     let mut first = sessions.pop().expect(&rt, "session 1");
-    let tx = put(&rt, alloc, &board, &store, &mut first, 5)?.expect(&rt, "a put");
-    let other = put(&rt, alloc, &board, &store, &mut second, 6)?.expect(&rt, "a put");
-    let Ok(one) = groups.submit(&rt, &board, other, &mut second) else {
-        panic!(rt; "no memory");
-    };
-    let two = groups.submit(&rt, &board, tx, &mut first);
-    let one = groups.finish(&rt, &board, &store, one, &mut second);
-    let Ok(two) = two else {
-        panic!(rt; "no memory");
-    };
-    let two = groups.finish(&rt, &board, &store, two, &mut first);
-    let receipts = (one.ok(), two.ok());
-    let mark = board.mark(&mut collector);
-    let context = groups.take_oldest(&rt, &board, mark, &mut collector);
-    let context = context.expect(&rt, "a group");
-    let left = groups.take_oldest(&rt, &board, mark, &mut collector);
-    let found = format!(in alloc;
-        "{receipts:?} {} {:?} {}",
-        context.number,
-        context.records.as_slice(),
-        left.is_none()
-    )?;
-    assert_eq!(rt; found.as_str(), COMMITTED);
+    let tx = put(&rt, alloc, &board, &store, &mut first, 5).expect(&rt, "a put");
+    let other = put(&rt, alloc, &board, &store, &mut second, 6).expect(&rt, "a put");
+    let one = submit(&rt, &board, &groups, other, &mut second);
+    let two = submit(&rt, &board, &groups, tx, &mut first);
+    let first_done = finish(&rt, &board, &store, &groups, one, &mut second);
+    let second_done = finish(&rt, &board, &store, &groups, two, &mut first);
+    let receipts = (first_done, second_done);
+    let told = tell(&rt, alloc, &board, &groups, &mut collector, receipts);
+    assert_eq!(rt; told.as_str(), COMMITTED);
     Ok(())
+}
+
+// The receipts, the context of the oldest group, and whether no other is left. Where memory runs out the text is cut short.
+fn tell<R: Wait>(
+    rt: &R,
+    alloc: Global,
+    board: &Board,
+    groups: &GroupList,
+    pass: &mut CollectorPass,
+    receipts: (Option<Receipt>, Option<Receipt>),
+) -> String
+    requires board { groups_board_id groups.now ≡ board_id board.now }
+    requires own { IsPassOf (board_id board.now) pass.old }
+{
+    let mark = board.mark(pass);
+    let context = groups.take_oldest(rt, board, mark, pass);
+    let left = groups.take_oldest(rt, board, mark, pass);
+    let mut told = String::new(alloc);
+    if let Some(context) = context {
+        let _ = write!(
+            told,
+            "{receipts:?} {} {:?} {}",
+            context.number,
+            context.records.as_slice(),
+            left.is_none()
+        );
+    }
+    told
 }

@@ -16,6 +16,7 @@ ghost use Rattle.hg_core.specs.Words.{IsBelow};
 ghost use Rattle.hg_core.specs.Contents.{bucket_of, look};
 ghost use Rattle.hg_rule.specs.declared.view.Part.TheVariants.{OfSession};
 ghost use Rattle.hg_rule.specs.Facts.{record_of};
+ghost use Rattle.hg_rule.specs.New.{IsNewSession, IsNewBucket, IsNewPass, IsNewCommit};
 ghost use Rattle.hg_rule.specs.Views.{number, pass as own_pass};
 ghost use Rattle.hg_rule.specs.Steps.{logging};
 ghost use Rattle.hg_rule.specs.Holding.{writer, tables};
@@ -24,16 +25,16 @@ ghost use Rattle.hg_rule.specs.Seats.{board_id, sizes_of, session_view, pass_vie
 ghost use Rattle.hg_tracker.specs.Gathers.{tables_in};
 ghost use Rattle.hg_trials.specs.Between.{own_session, own_bucket, own_commit, IsAlone, Rests, IsFreeFrom};
 
-use hg_base::{Image, NoMemory, Rid, Scope, TableId};
+use hg_base::{Image, Rid, Scope, TableId};
 use hg_core::Register;
 use hg_rule::{Board, BucketSeat, CollectorPass, CommitSeat, SessionPass};
 use hg_tracker::{Gathered, Trackers};
 use std::alloc::Global;
+use std::process::Abort;
 use std::snapshot::Snapshot;
-use std::test::Fail;
 
 // Takes a snapshot.
-fn begin(board: &Board, pass: &mut SessionPass, scope: Scope) -> u64
+pub(crate) fn begin(board: &Board, pass: &mut SessionPass, scope: Scope) -> u64
     requires own { IsAlone (board_id board.now) (sizes_of board.now) pass.old }
     requires rests { Rests pass.old }
     requires tables { IsBelow (sizes_of board.now).tables scope }
@@ -159,39 +160,64 @@ fn commit_one(
     seats
 }
 
+// A board of two sessions and one bucket; and the seats of session 1, of session 2, of the bucket, of the committer and of a collector.
+fn opened<R: Abort>(
+    rt: &R,
+    alloc: Global,
+    tables: u32,
+    quota: u64,
+) -> (
+    Board,
+    (SessionPass, SessionPass),
+    (BucketSeat, CommitSeat),
+    CollectorPass,
+)
+    requires room { (tables < 10) × (quota < 10) }
+    ensures sizes { sizes_of result.0 ≡
+        record { sessions = 2; tables = tables; buckets = 1; quota = quota } }
+    ensures first { IsNewSession (board_id result.0) 1 result.1.0 }
+    ensures second { IsNewSession (board_id result.0) 2 result.1.1 }
+    ensures bucket { IsNewBucket (board_id result.0) 0 result.2.0 }
+    ensures commit { IsNewCommit (board_id result.0) result.2.1 }
+    ensures pass { IsNewPass (board_id result.0) 0 result.3 }
+{
+    let Ok((board, seats)) = Board::new(alloc, 2, tables, 1, quota) else {
+        panic!(rt; "no memory");
+    };
+    let mut passes = seats.sessions.into_vec();
+    let mut buckets = seats.buckets.into_vec();
+    let (Some(second), Some(first), Some(bucket)) = (passes.pop(), passes.pop(), buckets.pop())
+    else {
+        panic!(rt; "no seats");
+    };
+    (board, (first, second), (bucket, seats.commit), seats.group)
+}
+
 // Session 1 enters at the mark 1, and session 2 commits and begins at 2, with table 0 declared. A gather finds session 1 entering, so
 // nothing above 1 may go, and only session 2 has an entry. Then session 1 goes live at 2.
 #[test]
-fn a_session_enters_while_others_commit(rt: HostRuntime) -> Result<(), Fail> {
-    let (board, seats) = Board::new(rt.alloc(), 2, 1, 1, 4)?;
-    let mut gathered = Gathered::new(rt.alloc(), 2, 1)?;
-    let mut passes = seats.sessions.into_vec();
-    let mut buckets = seats.buckets.into_vec();
-    let (Some(mut second), Some(mut first), Some(bucket)) = (
-        passes.pop(),
-        passes.pop(),
-        buckets.pop(),
-    ) else {
-        unreachable!()
+fn a_session_enters_while_others_commit(rt: HostRuntime) {
+    let mut found = String::new(rt.alloc());
+    let Ok(mut gathered) = Gathered::new(rt.alloc(), 2, 1) else {
+        panic!(rt; "no memory");
     };
-    let mut collector = seats.group;
+    let (board, passes, seats, mut collector) = opened(&rt, rt.alloc(), 1, 4);
+    let (mut first, mut second) = passes;
     let trackers = Trackers::new(board);
     let board = trackers.board();
-    let (bucket, commit) = commit_one(board, &mut second, bucket, seats.commit, 0);
+    let (bucket, commit) = commit_one(board, &mut second, seats.0, seats.1, 0);
     board.declare(&mut first, Scope::All);
     let from = board.probe(&mut first);
     board.enter(&mut first, from);
     commit_one(board, &mut second, bucket, commit, 1);
     begin(board, &mut second, Scope::Declared(1));
     trackers.gather(&mut collector, &mut gathered);
-    let before = told(rt.alloc(), &gathered)?;
+    tell(&mut found, from, &gathered);
     let at = board.fix(&mut first);
     board.go_live(&mut first, at, Scope::All);
     trackers.gather(&mut collector, &mut gathered);
-    let after = told(rt.alloc(), &gathered)?;
-    let found = format!(in rt.alloc(); "{from}: {before}{at}: {after}")?;
+    tell(&mut found, at, &gathered);
     assert_eq!(rt; found.as_str(), ENTERED);
-    Ok(())
 }
 
 // Where session 1 enters, and where it goes live; and after each the mark, the horizon, the least snapshot, the bound of table 0, and
@@ -201,25 +227,26 @@ const ENTERED: &str = "\
 2: 2 2 2 2; 1 at 2, All, moved: false; 2 at 2, Declared(1), moved: false
 ";
 
-fn told(alloc: Global, gathered: &Gathered) -> Result<String, NoMemory>
+// Adds a number and what was gathered. Where memory runs out the text is cut short, and isn't the one that is wanted.
+fn tell(told: &mut String, at: u64, gathered: &Gathered)
     requires { 0 < tables_in gathered.now }
 {
-    let mut told = format!(in alloc;
-        "{} {} {} {}",
+    let _ = write!(
+        told,
+        "{at}: {} {} {} {}",
         gathered.mark(),
         gathered.horizon(),
         gathered.least(),
         gathered.bound(TableId(0))
-    )?;
+    );
     for entry in gathered.entries() {
-        write!(
+        let _ = write!(
             told,
             "; {} at {}, {:?}, moved: {}",
             entry.session, entry.number, entry.scope, entry.moved
-        )?;
+        );
     }
-    told.push_str("\n")?;
-    Ok(told)
+    let _ = told.push('\n');
 }
 
 // Loads the mask of session 1. The pass has loaded its register alone, after the mark 2: it reads at 1, with declared tables.
@@ -244,19 +271,10 @@ fn load_mask(board: &Board, pass: &mut CollectorPass) -> u64
 // the session begins anew at 2, with table 1 declared. So the pass finds the newer mask beside the older number, and its move
 // finds that the register shows another.
 #[test]
-fn a_session_begins_anew_between_two_loads(rt: HostRuntime) -> Result<(), Fail> {
-    let (board, seats) = Board::new(rt.alloc(), 2, 2, 1, 2)?;
-    let mut passes = seats.sessions.into_vec();
-    let mut buckets = seats.buckets.into_vec();
-    let (Some(mut second), Some(mut first), Some(bucket)) = (
-        passes.pop(),
-        passes.pop(),
-        buckets.pop(),
-    ) else {
-        unreachable!()
-    };
-    let mut collector = seats.group;
-    let (bucket, commit) = commit_one(&board, &mut second, bucket, seats.commit, 0);
+fn a_session_begins_anew_between_two_loads(rt: HostRuntime) {
+    let (board, passes, seats, mut collector) = opened(&rt, rt.alloc(), 2, 2);
+    let (mut first, mut second) = passes;
+    let (bucket, commit) = commit_one(&board, &mut second, seats.0, seats.1, 0);
     let early = begin(&board, &mut first, Scope::Declared(1));
     commit_one(&board, &mut second, bucket, commit, 1);
     let mark = board.mark(&mut collector);
@@ -268,13 +286,11 @@ fn a_session_begins_anew_between_two_loads(rt: HostRuntime) -> Result<(), Fail> 
         moved: false,
     } = register
     else {
-        assert!(rt; false, "at {mark}");
-        return Ok(());
+        panic!(rt; "at {mark}");
     };
     board.end(&mut first);
     let late = begin(&board, &mut first, Scope::Declared(2));
     let mask = load_mask(&board, &mut collector);
     let moves = board.move_one(&mut collector, 1, register);
     assert_eq!(rt; [early, late, mask, u64::from(moves)], [1, 2, 2, 0]);
-    Ok(())
 }

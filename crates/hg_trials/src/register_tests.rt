@@ -1,4 +1,3 @@
-use hg_base::NoMemory;
 use hg_core::Register;
 use std::alloc::Global;
 use std::test::Fail;
@@ -17,7 +16,8 @@ const WORDS: &str = "\
 0xfffffffffff0000e = Live { number: 17592186044415, declared: true, moved: true } = 0xfffffffffff0000e
 ";
 
-fn registers_told(alloc: Global) -> Result<String, NoMemory> {
+// Where memory runs out the text is cut short, and isn't the one that is wanted.
+fn registers_told(alloc: Global) -> String {
     let mut told = String::new(alloc);
     for word in [
         0,
@@ -32,13 +32,13 @@ fn registers_told(alloc: Global) -> Result<String, NoMemory> {
     ] {
         let register = Register::from_word(word);
         let again = register.word();
-        write!(told, "{word:#x} = {register:?} = {again:#x}\n")?;
+        let _ = write!(told, "{word:#x} = {register:?} = {again:#x}\n");
     }
-    Ok(told)
+    told
 }
 
 #[test]
 fn words_of_registers(rt: HostRuntime) -> Result<(), Fail> {
-    assert_eq!(rt; registers_told(rt.alloc())?.as_str(), WORDS);
+    assert_eq!(rt; registers_told(rt.alloc()).as_str(), WORDS);
     Ok(())
 }
