@@ -98,7 +98,8 @@ returns-then-not-is_within c =
     let now = said_of c.args.now.now in
     subst (λ s. Decides c.is_undeclared.result (IsAnswer mode (seen h (own_writes earlier now) now.at) (is_written (own_writes earlier now))
     (option_map rest_of c.args.now.now.rest) now s)) (sym c.in-Get.is)
-    (decided_without (has now.scope c.in-Get.rid.table) c.is_undeclared.result (IsGot (seen h (own_writes earlier now) now.at c.in-Get.rid) now.reply.answer) (IsUndeclared c.in-Get.rid.table now.reply.answer)
+    (decided_without (has now.scope c.in-Get.rid.table) c.is_undeclared.result
+    (IsGot (seen h (own_writes earlier now) now.at c.in-Get.rid) now.reply.answer) (IsUndeclared c.in-Get.rid.table now.reply.answer)
     (sym (c.is_within.ensures (ap table_of c.in-Get.is)) ∙ c.if-not-is_within.true) c.is_undeclared.ensures)
 
 pub returns-then-not-is_within-2 : goal.returns-then-not-is_within-2
@@ -116,7 +117,8 @@ returns-then-not-is_within-3 c =
     let now = said_of c.args.now.now in
     subst (λ s. Decides c.is_undeclared-then-not-is_within-3.result (IsAnswer mode (seen h (own_writes earlier now) now.at) (is_written (own_writes earlier now))
     (option_map rest_of c.args.now.now.rest) now s)) (sym c.in-Del.is)
-    (decided_without (has now.scope c.in-Del.rid.table) c.is_undeclared-then-not-is_within-3.result (IsDeleted (seen h (own_writes earlier now) now.at c.in-Del.rid) now.reply.answer) (IsUndeclared c.in-Del.rid.table now.reply.answer)
+    (decided_without (has now.scope c.in-Del.rid.table) c.is_undeclared-then-not-is_within-3.result
+    (IsDeleted (seen h (own_writes earlier now) now.at c.in-Del.rid) now.reply.answer) (IsUndeclared c.in-Del.rid.table now.reply.answer)
     (sym (c.is_within-in-Del.ensures (ap table_of c.in-Del.is)) ∙ c.if-not-is_within-3.true) c.is_undeclared-then-not-is_within-3.ensures)
 
 pub returns-then-not-is_within-4 : goal.returns-then-not-is_within-4
@@ -125,7 +127,8 @@ returns-then-not-is_within-4 c =
     let now = said_of c.args.now.now in
     subst (λ s. Decides c.is_undeclared-then-not-is_within-4.result (IsAnswer mode (seen h (own_writes earlier now) now.at) (is_written (own_writes earlier now))
     (option_map rest_of c.args.now.now.rest) now s)) (sym c.in-Scan.is)
-    (decided_without (has now.scope c.in-Scan.table) c.is_undeclared-then-not-is_within-4.result (IsScanned (look h earlier now c.in-Scan.table) c.in-Scan.low c.in-Scan.high now.reply.answer) (IsUndeclared c.in-Scan.table now.reply.answer)
+    (decided_without (has now.scope c.in-Scan.table) c.is_undeclared-then-not-is_within-4.result
+    (IsScanned (look h earlier now c.in-Scan.table) c.in-Scan.low c.in-Scan.high now.reply.answer) (IsUndeclared c.in-Scan.table now.reply.answer)
     (sym (c.is_within-in-Scan.ensures (ap table_of c.in-Scan.is)) ∙ c.if-not-is_within-4.true) c.is_undeclared-then-not-is_within-4.ensures)
 
 pub returns-else-not-is_within-2 : goal.returns-else-not-is_within-2
