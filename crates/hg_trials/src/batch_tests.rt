@@ -1,12 +1,13 @@
 //! Two sessions commit through the queue.
 
-ghost use Rattle.std.specs.Prelude.{◌≡◌, ◌∷◌, [], ◌<◌, true, false, IfSome};
+ghost use Rattle.std.specs.Prelude.{◌≡◌, ◌∷◌, [], ◌<◌, true, false, IfOk, IfSome};
 ghost use Rattle.hg_core.specs.declared.log.LogEntry.TheVariants.{Wrote};
 ghost use Rattle.hg_core.specs.declared.phase.Phase.TheVariants.{Idle};
 ghost use Rattle.hg_rule.specs.declared.view.Part.TheVariants.{OfSession};
 ghost use Rattle.hg_rule.specs.Seats.{board_id, sizes_of, session_view, IsSessionOf, IsAwayOf, IsPassOf};
 ghost use Rattle.hg_rule.specs.Holding.{writer};
 ghost use Rattle.hg_rule.specs.Writes.{with_entry};
+ghost use Rattle.hg_rule.specs.New.{IsNewSession, IsNewPass};
 ghost use Rattle.hg_rule.specs.Views.{number, session, others, HasOnlySession};
 ghost use Rattle.hg_group.specs.Frames.{AreOfOne, IsListOf, IsToCommit};
 ghost use Rattle.hg_group.specs.Lists.{groups_board_id, IsSubmittedTo};
@@ -15,7 +16,7 @@ ghost use Rattle.hg_queue.specs.Handing.{MayCommit};
 ghost use Rattle.hg_trials.specs.Between.{HasBegun};
 
 use crate::entering_tests::begin;
-use hg_base::{Image, Rid, Row, Scope, Snapshot, TableId, Writer};
+use hg_base::{Image, NoMemory, Rid, Row, Scope, Snapshot, TableId, Writer};
 use hg_group::{GroupList, OpenTx, Receipt, RidList, Submitted};
 use hg_rule::{Board, CollectorPass, SessionPass};
 use hg_store::{Author, Store};
@@ -145,6 +146,37 @@ fn finish<R: Wait>(
     groups.finish(rt, board, store, submitted, pass).ok()
 }
 
+// A board of two sessions, its store and its groups; and the seats of session 1, of session 2 and of a collector.
+fn opened<R: Abort>(
+    rt: &R,
+    alloc: Global,
+) -> Result<
+    (
+        Board,
+        Store,
+        GroupList,
+        (SessionPass, SessionPass),
+        CollectorPass,
+    ),
+    NoMemory,
+>
+    ensures sizes { IfOk result (λ r.
+        sizes_of r.0 ≡ record { sessions = 2; tables = 1; buckets = 2; quota = 4 }) }
+    ensures engine { IfOk result (λ r. AreOfOne r.0 r.1 r.2) }
+    ensures first { IfOk result (λ r. IsNewSession (board_id r.0) 1 r.3.0) }
+    ensures second { IfOk result (λ r. IsNewSession (board_id r.0) 2 r.3.1) }
+    ensures pass { IfOk result (λ r. IsNewPass (board_id r.0) 0 r.4) }
+{
+    let (board, seats) = Board::new(alloc, 2, 1, 2, 4)?;
+    let store = Store::new(alloc, seats.buckets)?;
+    let groups = GroupList::new(alloc, seats.commit, 2)?;
+    let mut sessions = seats.sessions.into_vec();
+    let (Some(second), Some(first)) = (sessions.pop(), sessions.pop()) else {
+        panic!(rt; "no seats");
+    };
+    Ok((board, store, groups, (first, second), seats.group))
+}
+
 // The receipts of session 2 and of session 1; the oldest context's number and its records; and that no other is left.
 const COMMITTED: &str =
     "(Some(Receipt { number: 1, place: 0 }), Some(Receipt { number: 1, place: 1 })) 1 [Rid { table: TableId(0), key: 6 }, Rid { table: TableId(0), key: 5 }] true";
@@ -153,13 +185,8 @@ const COMMITTED: &str =
 #[test]
 fn two_sessions_commit_in_one_group(rt: HostRuntime) -> Result<(), Fail> {
     let alloc = rt.alloc();
-    let (board, seats) = Board::new(alloc, 2, 1, 2, 4)?;
-    let store = Store::new(alloc, seats.buckets)?;
-    let groups = GroupList::new(alloc, seats.commit, 2)?;
-    let mut collector = seats.group;
-    let mut sessions = seats.sessions.into_vec();
-    let mut second = sessions.pop().expect(&rt, "session 2");
-    let mut first = sessions.pop().expect(&rt, "session 1");
+    let (board, store, groups, passes, mut collector) = opened(&rt, alloc)?;
+    let (mut first, mut second) = passes;
     let tx = put(&rt, alloc, &board, &store, &mut first, 5).expect(&rt, "a put");
     let other = put(&rt, alloc, &board, &store, &mut second, 6).expect(&rt, "a put");
     let one = submit(&rt, &board, &groups, other, &mut second);

@@ -41,8 +41,31 @@ fn store_one<R: Abort + Wait>(
     Ok(())
 }
 
+// Reads a row outside of a transaction, so at the newest snapshot, and then by a cursor.
+fn read_one<R: Abort + Wait>(
+    rt: &R,
+    engine: &Engine,
+    session: &mut Session,
+    rid: Rid,
+) -> Result<(), Fail>
+    requires ready { MayRun engine.now 3 session.old }
+    requires cursor { cursor_of session.old ≡ None }
+    requires table { rid.table.0 < (engine_sizes engine.now).tables }
+{
+    let read = session.get(rt, engine, rid)?;
+    assert_eq!(rt; read.at, 1);
+    assert_eq!(rt; read.row.is_some(), true);
+    // a range in parts, at one snapshot
+    assert_eq!(rt; session.open_cursor(engine, rid.table, 0, 9), 1);
+    let rows = session.fetch(rt, engine, 2)?;
+    assert_eq!(rt; rows.as_slice().len(), 1);
+    session.close_cursor(engine);
+    Ok(())
+}
+
 #[test]
 fn a_row_is_stored_and_read(rt: HostRuntime) -> Result<(), Fail> {
+    let row = Row::from_slice(rt.alloc(), &[7])?;
     let tables = [TableDecl { columns: 1 }];
     let (engine, sessions, _) = Engine::open(rt.alloc(), 1, &tables[..], 4, 10)?;
     let mut sessions = sessions.into_vec();
@@ -53,16 +76,6 @@ fn a_row_is_stored_and_read(rt: HostRuntime) -> Result<(), Fail> {
         table: TableId(0),
         key: 5,
     };
-    let row = Row::from_slice(rt.alloc(), &[7])?;
     store_one(&rt, &engine, &mut session, rid, row)?;
-    // outside of a transaction, so at the newest snapshot
-    let read = session.get(&rt, &engine, rid)?;
-    assert_eq!(rt; read.at, 1);
-    assert_eq!(rt; read.row.is_some(), true);
-    // a range in parts, at one snapshot
-    assert_eq!(rt; session.open_cursor(&engine, TableId(0), 0, 9), 1);
-    let rows = session.fetch(&rt, &engine, 2)?;
-    assert_eq!(rt; rows.as_slice().len(), 1);
-    session.close_cursor(&engine);
-    Ok(())
+    read_one(&rt, &engine, &mut session, rid)
 }

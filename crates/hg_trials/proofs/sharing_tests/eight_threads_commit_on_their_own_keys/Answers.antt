@@ -1,4 +1,4 @@
-use Rattle.std.proofs.Common.{◌≡◌, ap, ◌∙◌, sym, subst, rules, arith}
+use Rattle.std.proofs.Common.{rules, arith}
 use Rattle.hg_rule.specs.New.{EachFrom}
 use Rattle.hg_session.specs.Opened.{IsNewOf}
 use Rattle.hg_session.proofs.Rested.{may_run}
