@@ -83,6 +83,10 @@ fn put<R: Wait>(
     ensures ready { IfSome result (λ tx.
         HasOnlySession (session_view pass.new) × IsToCommit (session_view pass.new) tx) }
 {
+    let row = Row::from_slice(alloc, &[10]).ok();
+    if row.is_none() {
+        return None;
+    }
     let mut records = RidList::new(alloc);
     if records.reserve().is_err() {
         return None;
@@ -90,7 +94,6 @@ fn put<R: Wait>(
     let at = begin(board, pass, Scope::All);
     let table = TableId(0);
     let rid = Rid { table, key };
-    let row = Row::from_slice(alloc, &[10]).ok();
     let (writer, stored) = write(rt, board, store, pass, (rid, Image { row }), at);
     if !stored {
         return None;
