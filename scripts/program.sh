@@ -1,5 +1,16 @@
-# What ./hybridgc, ./dist and examples/check share. A script sets $root, the top of the repository, and reads this file by `.`.
+# What ./hybridgc, scripts/build-crate, ./dist and examples/check share. A script sets $root, the top of the repository, and reads this
+# file by `.`.
 program=$root/crates/hybridgc/out/hybridgc
+
+# The library of a crate, as scripts/build-crate builds it.
+library_of() {
+    echo "$root/crates/$1/out/library/$1.rlib"
+}
+
+# The libraries that a crate names: the toolchain's, and those of this repository.
+named_by() {
+    awk -v name="$1" '{ sub(/#.*/, "") } $1 == name ":" { $1 = ""; print }' "$root/crates.txt"
+}
 
 # Prints the crates of the program, a line each: its name and the crates of this repository that it depends on, which come
 # before it. Test crates are not among them, since nothing depends on one.

@@ -1,9 +1,11 @@
--- What callers see of an arena.
-use Rattle.std.proofs.Common.{◌≡◌, ◌≢◌, ℕ, zero, suc, ◌-◌, ◌<◌, ◌≤◌, List, [], ◌∷◌, length, take, drop, Bool, true, false, ◌&&◌, cond, Some, None, refl, sym, ap, ◌∙◌, subst, arith, inl, inr}
-use Rattle.std.specs.Prelude.{IsSome, ◌⊎◌, ◌==◌, option_map, option_and_then, find, if◌then◌else◌}
+-- What callers see of an arena, how many versions there are, and what holds after a call.
+use Rattle.std.proofs.Common.{◌≡◌, ◌≢◌, ℕ, zero, suc, ◌+◌, ◌-◌, ◌<◌, ◌≤◌, ◌^◌, List, [], ◌∷◌, ◌++◌, length, take, drop, get_or, Bool, true, false, not, cond, Some, None, refl, sym, ap, ◌∙◌, subst, arith, inl, inr}
+use Rattle.std.specs.Prelude.{IsSome, IsTrue, ◌⊎◌, option_map, option_and_then, filter, find, sum_by, nat_le, vec_len, vec_capacity, ◌==◌, if◌then◌else◌}
 use Rattle.std.specs.List.{slice_get}
 use Rattle.std.proofs.lemmas.Bool.{cases_eq}
+use Rattle.std.proofs.lemmas.Bool.Decides.{Decides-eqb, nat_tests}
 use Rattle.std.proofs.lemmas.List.{take_all}
+use Rattle.std.proofs.lemmas.List.Sums.{length-filter, sum_by-cons}
 use Rattle.std.proofs.lemmas.Option.{slice_get-get_or}
 use Rattle.hg_base.specs.declared.writer.Writer.{Writer}
 use Rattle.hg_base.specs.declared.image.Image.{Image}
@@ -12,49 +14,145 @@ use Rattle.hg_base.proofs.ListFacts.{false_true}
 use Rattle.hg_chain.specs.declared.version.Stamp.{Stamp}
 use Rattle.hg_chain.specs.declared.version.Stamp.TheVariants.{Written, Numbered}
 use Rattle.hg_chain.specs.declared.version.Version.{Version}
-use Rattle.hg_chain.specs.declared.node.Node.{Node}
+use Rattle.hg_chain.specs.declared.head.State.{State}
+use Rattle.hg_chain.specs.declared.head.State.TheVariants.{Empty, Open, Stamped}
+use Rattle.hg_chain.specs.declared.head.Head.{Head}
 use Rattle.hg_chain.specs.declared.cursor.Cursor.{Cursor}
 use Rattle.hg_chain.specs.declared.arena.Arena.{Arena}
-use Rattle.hg_chain.specs.Versions.{IsChain, IsBelow, NoOther, HasNoOther, has_at_most, is_at_most, number_in, is_open_by, newest, image_by, is_written_by, has_writer, installed, stamped}
+use Rattle.hg_chain.specs.Versions.{IsChain, IsBelow, NoOther, HasNoOther, begins_at_most, is_at_most, number_in, is_open_by, is_written_by, newest, image_at, image_by, open_write, has_writer, installed, stamped}
 use Rattle.hg_chain.specs.Versions.{left_by, numbered_image, oldest_at, others_at}
-use Rattle.hg_chain.specs.Places.{Places, list_at, nodes_of, OthersStay}
+use Rattle.hg_chain.specs.Places.{Places, list_at, OthersStay}
 use Rattle.hg_chain.specs.declared.node.Strand.{Strand}
-use Rattle.hg_chain.specs.Strands.{blank, node_at, head_at, stamp_in, version_in, versions, versions_of, IsStrand, strand_of, AreStrands}
-use Rattle.hg_chain.specs.Arenas.{IsArena, IsAt, OthersStayIn, head_in, list_in, places_in}
-use Rattle.hg_chain.specs.Landmarks.{Holds, HasLandmarks, landmarks_at, landmarks_of}
+use Rattle.hg_chain.specs.Strands.{blank, node_at, head_at, first_writer, front_by, front_of, version_in, versions, versions_of, lists_in, IsStrand, strand_of, AreStrands, NoneBehind}
+use Rattle.hg_chain.specs.Arenas.{IsArena, IsAt, HasRoom, OthersStayIn, head_in, front_in, tail_in, list_in}
+use Rattle.hg_chain.specs.Landmarks.{Holds, HasLandmarks, landmarks_at, landmarks_of, places_in}
 use Rattle.hg_chain.specs.declared.landmarks.Landmarks.{Landmarks}
-use Rattle.hg_chain.proofs.Cuts.{all_numbered, kept_first, kept_left, kept_sum}
-use Rattle.hg_chain.proofs.Strands.{list_read, lists_many}
-use Rattle.hg_chain.proofs.Walks.{version_here, list_many}
+use Rattle.hg_chain.proofs.Cuts.{all_numbered, falls_at_most, none_left, kept_first, kept_left, kept_sum}
+use Rattle.hg_chain.proofs.Strands.{list_read, lists_least}
+use Rattle.hg_chain.proofs.Heads.{Single, single, none_first}
+use Rattle.hg_chain.proofs.Walks.{version_here, tail_many}
 use Rattle.hg_chain.proofs.LandmarkFacts.{landmarks_after, no_landmarks}
 
-pub list_seen : (a : Arena) (p : ℕ) → list_at (places_in a) p ≡ list_in a p
-list_seen a p = list_read a.heads.items a.nodes.items p
+pub list_seen : (a : Arena) (free p : ℕ) → list_at (places_in a free) p ≡ list_in a p
+list_seen a free p = list_read a.heads.items a.nodes.items p
 
-pub list_was : (a : Arena) (w : Places) (p : ℕ) → places_in a ≡ w → list_at w p ≡ list_in a p
-list_was a w p e = sym (ap (λ x. list_at x p) e) ∙ list_seen a p
+pub list_was : (a : Arena) (free : ℕ) (w : Places) (p : ℕ) → places_in a free ≡ w → list_at w p ≡ list_in a p
+list_was a free w p e = sym (ap (λ x. list_at x p) e) ∙ list_seen a free p
 
-pub nodes_seen : (a : Arena) → IsArena a → nodes_of (places_in a) ≡ length a.nodes.items
-nodes_seen a s = let m = lists_many a.heads.items a.nodes.items in let all = s.all in omega (arith, m, all)
+pub others_seen : (a b : Arena) (free free' : ℕ) (w : Places) (place : ℕ) → places_in a free ≡ w → OthersStayIn place a b → OthersStay place w (places_in b free')
+others_seen a b free free' w place e others q apart = list_seen b free' q ∙ ap (λ x. x.0) (others q apart) ∙ sym (list_was a free w q e)
 
-pub nodes_were : (a : Arena) (w : Places) → places_in a ≡ w → IsArena a → nodes_of w ≡ length a.nodes.items
-nodes_were a w e s = sym (ap nodes_of e) ∙ nodes_seen a s
+-- ---- how many versions there are
 
-pub others_seen : (a b : Arena) (w : Places) (place : ℕ) → places_in a ≡ w → OthersStayIn place a b → OthersStay place w (places_in b)
-others_seen a b w place e others q apart = list_seen b q ∙ ap (λ x. x.0) (others q apart) ∙ sym (list_was a w q e)
+-- where only one list changes
+sum_others : (xs ys : List (List Version)) (p : ℕ) → ((q : ℕ) → q ≢ p → get_or ys q [] ≡ get_or xs q []) →
+    sum_by length ys + length (get_or xs p []) ≡ sum_by length xs + length (get_or ys p [])
+sum_others [] [] p f = refl
+sum_others [] (y ∷ ys) zero f =
+    let k = sum_others [] ys 0 (λ q apart. f (suc q) (λ e. omega (arith, e))) in
+    let z = ap length (f 1 (λ e. omega (arith, e))) in
+    let s = sum_by-cons length y ys in
+    omega (arith, k, z, s)
+sum_others [] (y ∷ ys) (suc p) f =
+    let k = sum_others [] ys p (λ q apart. f (suc q) (λ e. apart (let l : q ≡ p = omega (arith, e) in l))) in
+    let z = ap length (f 0 (λ e. omega (arith, e))) in
+    let s = sum_by-cons length y ys in
+    omega (arith, k, z, s)
+sum_others (x ∷ xs) [] zero f =
+    let k = sum_others xs [] 0 (λ q apart. f (suc q) (λ e. omega (arith, e))) in
+    let z = ap length (f 1 (λ e. omega (arith, e))) in
+    let s = sum_by-cons length x xs in
+    omega (arith, k, z, s)
+sum_others (x ∷ xs) [] (suc p) f =
+    let k = sum_others xs [] p (λ q apart. f (suc q) (λ e. apart (let l : q ≡ p = omega (arith, e) in l))) in
+    let z = ap length (f 0 (λ e. omega (arith, e))) in
+    let s = sum_by-cons length x xs in
+    omega (arith, k, z, s)
+sum_others (x ∷ xs) (y ∷ ys) zero f =
+    let k = sum_others xs ys 0 (λ q apart. f (suc q) (λ e. omega (arith, e))) in
+    let z = ap length (f 1 (λ e. omega (arith, e))) in
+    let s = sum_by-cons length x xs in
+    let t = sum_by-cons length y ys in
+    omega (arith, k, z, s, t)
+sum_others (x ∷ xs) (y ∷ ys) (suc p) f =
+    let k = sum_others xs ys p (λ q apart. f (suc q) (λ e. apart (let l : q ≡ p = omega (arith, e) in l))) in
+    let z = ap length (f 0 (λ e. omega (arith, e))) in
+    let s = sum_by-cons length x xs in
+    let t = sum_by-cons length y ys in
+    omega (arith, k, z, s, t)
 
-pub holds_after : (a b : Arena) (old new : Landmarks) (place : ℕ) → Holds a old → IsArena b → IsChain (list_in b place) → OthersStayIn place a b →
-    ((q : ℕ) → q ≢ place → landmarks_of new q ≡ landmarks_of old q) → HasLandmarks b place (landmarks_of new place) → Holds b new
-holds_after a b old new place h s chain others same landmarks =
+-- how many versions there are in an arena
+abbrev pub many_in : Arena → ℕ
+many_in a = sum_by length (lists_in a.heads.items a.nodes.items)
+
+pub recounted : (a b : Arena) (place : ℕ) → OthersStayIn place a b → many_in b + length (list_in a place) ≡ many_in a + length (list_in b place)
+recounted a b place others =
+    let k = sum_others (lists_in a.heads.items a.nodes.items) (lists_in b.heads.items b.nodes.items) place
+    (λ q apart. list_read b.heads.items b.nodes.items q ∙ ap (λ x. x.0) (others q apart) ∙ sym (list_read a.heads.items a.nodes.items q)) in
+    let x = ap length (list_read a.heads.items a.nodes.items place) in
+    let y = ap length (list_read b.heads.items b.nodes.items place) in
+    omega (arith, k, x, y)
+
+-- a place has no more than all have
+pub counted : (a : Arena) (place : ℕ) → length (list_in a place) ≤ many_in a
+counted a place =
+    let e = ap length (list_read a.heads.items a.nodes.items place) in
+    let k = some_of (lists_in a.heads.items a.nodes.items) place in
+    omega (arith, e, k)
+  where
+    some_of : (xs : List (List Version)) (p : ℕ) → length (get_or xs p []) ≤ sum_by length xs
+    some_of [] p = omega arith
+    some_of (x ∷ xs) zero = let s = sum_by-cons length x xs in omega (arith, s)
+    some_of (x ∷ xs) (suc p) = let s = sum_by-cons length x xs in let k = some_of xs p in omega (arith, s, k)
+
+-- there is room for a version
+pub has_room : (a : Arena) (place all free : ℕ) → IsArena a → place < length a.heads.items → all ≡ free + many_in a → all ≤ vec_capacity a.nodes → all < 2 ^ 32 →
+    (free ≡ 0 → (all + 1 ≤ vec_capacity a.nodes) × (all + 1 < 2 ^ 32)) → HasRoom a place
+has_room a place all free s head sum room few more =
     record {
-      strands = s;
+      head = head;
+      node = λ none. let l = lists_least a.heads.items a.nodes.items in let e = s.strands.all in go free refl (omega (arith, none, l, e));
+    }
+  where
+    go : (n : ℕ) → free ≡ n → vec_len a.nodes ≤ many_in a → (vec_len a.nodes < vec_capacity a.nodes) × (vec_len a.nodes + 1 < 2 ^ 32)
+    go zero e l = let m = more e in let c : all + 1 ≤ vec_capacity a.nodes = m.0 in let f : all + 1 < 2 ^ 32 = m.1 in (omega (arith, e, l, sum, c), omega (arith, e, l, sum, f))
+    go (suc n) e l = (omega (arith, e, l, sum, room), omega (arith, e, l, sum, few))
+
+-- ---- what holds after a call
+
+pub holds_after : (a b : Arena) (old new : Landmarks) (place all free all' free' : ℕ) → Holds a old all free → IsArena b → IsChain (list_in b place) → OthersStayIn place a b →
+    ((q : ℕ) → q ≢ place → landmarks_of new q ≡ landmarks_of old q) → HasLandmarks b place (landmarks_of new place) → all' + length (list_in a place) + free ≡ all + length (list_in b place) + free' →
+    all' ≤ vec_capacity b.nodes → all' < 2 ^ 32 → Holds b new all' free'
+holds_after a b old new place all free all' free' h s chain others same landmarks counts room few =
+    record {
+      arena = s;
       chains = λ p. go p (cases_eq p place);
       landmarks = landmarks_after a b old new place h.landmarks others same landmarks;
+      sum = (let k = recounted a b place others in let was = h.sum in omega (arith, k, was, counts));
+      room = room;
+      few = few;
     }
   where
     go : (p : ℕ) → (p ≡ place) ⊎ (p ≡ place → ⊥) → IsChain (list_in b p)
     go p (inl e) = subst (λ q. IsChain (list_in b q)) (sym e) chain
     go p (inr apart) = subst IsChain (sym (ap (λ x. x.0) (others p apart))) (h.chains p)
+
+-- ---- how many there are after a write
+
+pub some_open : (by : Writer) (vs : List Version) → IsTrue (is_open_by by vs) → 0 < length vs
+some_open by [] h = absurd (false_true h)
+some_open by (v ∷ vs) h = omega arith
+
+pub stamped_many : (by : Writer) (number : ℕ) (vs : List Version) → length (stamped by number vs) ≡ length vs
+stamped_many by number [] = refl
+stamped_many by number (v ∷ vs) = refl
+
+pub free_fits : (a : Arena) (ms : Landmarks) (all free : ℕ) → Holds a ms all free → free + many_in a < 2 ^ 32
+free_fits a ms all free h = let s = h.sum in let f = h.few in omega (arith, s, f)
+
+pub installed_many : (by : Writer) (image : Image) (vs : List Version) → is_open_by by vs ≡ true → length (installed by image vs) ≡ length vs
+installed_many by image [] e = absurd (false_true e)
+installed_many by image (v ∷ vs) e = ap (λ b. length (open_write by image ∷ (if b then vs else v ∷ vs))) e
 
 -- ---- chains stay chains
 
@@ -78,65 +176,6 @@ chain_installed by image (v ∷ vs) h other = go (has_writer by v.stamp) refl
     go true e = subst (λ b. IsChain (record { stamp = Written by; image = image } ∷ (if b then vs else v ∷ vs))) (sym e) (all_numbered v.stamp vs h.0, h.1)
     go false e = subst (λ b. IsChain (record { stamp = Written by; image = image } ∷ (if b then vs else v ∷ vs))) (sym e) ((numbered_first by v.stamp other.0 e, all_numbered v.stamp vs h.0), h)
 
--- ---- the first version
-
-pub newest_of : (nodes : List Node) (begins : Bool) (n i : ℕ) → (n ≡ 0 → ⊥) → newest (versions nodes begins n i) ≡ Some (stamp_in begins (node_at nodes i))
-newest_of nodes begins zero i some = absurd (some refl)
-newest_of nodes begins (suc n) i some = refl
-
-pub own_of : (by : Writer) (nodes : List Node) (begins : Bool) (n i : ℕ) → is_open_by by (versions nodes begins n i) ≡ true → image_by by (versions nodes begins n i) ≡ Some (node_at nodes i).image
-own_of by nodes begins zero i e = absurd (false_true e)
-own_of by nodes begins (suc n) i e = ap (λ b. option_map (λ (v : Version). v.image)
-    (cond b (Some (version_in begins (node_at nodes i))) (find (is_written_by by) (versions nodes false n (node_at nodes i).next)))) e
-
--- ---- the first version at a bound
-
-pub got_none : (vs : List Version) (k : ℕ) → k ≡ length vs → slice_get vs k ≡ None
-got_none [] k e = refl
-got_none (v ∷ vs) zero e = absurd (omega (arith, e))
-got_none (v ∷ vs) (suc k) e = got_none vs k (let l : k ≡ length vs = omega (arith, e) in l)
-
--- where a walk has passed all versions over the bound, none is left or the first is at hand
-pub none_found : (a : Arena) (place bound : ℕ) (cursor : Cursor) → IsChain (list_in a place) → cursor.kept ≡ length (left_by bound (list_in a place)) →
-    cursor.kept ≡ (head_in a place).strand.count → find (is_at_most bound) (list_in a place) ≡ None
-none_found a place bound cursor chain kept all =
-    sym (kept_first bound (list_in a place) chain) ∙ ap (slice_get (list_in a place)) (sym kept) ∙ got_none (list_in a place) cursor.kept (let m = list_many a place in
-    let e : cursor.kept ≡ length (list_in a place) = omega (arith, m, all) in e)
-
-pub one_found : (a : Arena) (place bound : ℕ) (cursor : Cursor) → IsChain (list_in a place) → IsAt a place cursor → cursor.kept ≡ length (left_by bound (list_in a place)) →
-    cursor.kept < (head_in a place).strand.count → find (is_at_most bound) (list_in a place) ≡ Some (version_in ((head_in a place).is_open && (cursor.kept == 0)) (node_at a.nodes.items cursor.at))
-one_found a place bound cursor chain at kept less =
-    let d = version_in false blank in
-    sym (kept_first bound (list_in a place) chain) ∙ ap (slice_get (list_in a place)) (sym kept) ∙ slice_get-get_or (list_in a place) cursor.kept d (let m = list_many a place in
-    omega (arith, m, less)) ∙ ap (λ (v : Version). Some v) (version_here a place cursor d at less)
-
--- fewer are left, or none is at the bound
-pub kept_less : (bound : ℕ) (vs : List Version) → IsChain vs → length (left_by bound vs) ≤ length vs
-kept_less bound vs chain = let e = kept_sum bound vs chain in omega (arith, e)
-
-found_passes : {X : Type 0} (p : X → Bool) (xs : List X) (x : X) → find p xs ≡ Some x → p x ≡ true
-found_passes p [] x e = absurd cc
-found_passes p (y ∷ xs) x e = go (p y) refl e (found_passes p xs x)
-  where
-    go : (b : Bool) → p y ≡ b → cond b (Some y) (find p xs) ≡ Some x → (find p xs ≡ Some x → p x ≡ true) → p x ≡ true
-    go true k e f = let same : y ≡ x = cc in sym (ap p same) ∙ k
-    go false k e f = f e
-
-numbered_out : (bound : ℕ) (begins : Bool) (n : Node) → has_at_most bound (stamp_in begins n) ≡ true → numbered_image (version_in begins n) ≡ Some (n.number, n.image)
-numbered_out bound true n e = absurd (false_true e)
-numbered_out bound false n e = refl
-
-pub handed_out : (a : Arena) (place bound : ℕ) (cursor : Cursor) → IsChain (list_in a place) → IsAt a place cursor → cursor.kept ≡ length (left_by bound (list_in a place)) →
-    cursor.kept < (head_in a place).strand.count → oldest_at bound (list_in a place) ≡ Some ((node_at a.nodes.items cursor.at).number, (node_at a.nodes.items cursor.at).image)
-handed_out a place bound cursor chain at kept less =
-    let f = one_found a place bound cursor chain at kept less in
-    let begins = (head_in a place).is_open && (cursor.kept == 0) in
-    ap (option_and_then numbered_image) f ∙ numbered_out bound begins (node_at a.nodes.items cursor.at)
-    (found_passes (is_at_most bound) (list_in a place) (version_in begins (node_at a.nodes.items cursor.at)) f)
-
-pub nothing_out : (bound : ℕ) (vs : List Version) → find (is_at_most bound) vs ≡ None → oldest_at bound vs ≡ None
-nothing_out bound vs e = ap (option_and_then numbered_image) e
-
 -- ---- nothing yet
 
 none_yet : AreStrands [] [] (record { first = 0; count = 0 })
@@ -154,33 +193,18 @@ none_yet =
     strands zero = tt
     strands (suc p) = tt
 
-pub holds_none : (a : Arena) (ms : Landmarks) (none : Strand) → none ≡ record { first = 0; count = 0 } → a.heads.items ≡ [] → a.nodes.items ≡ [] → a.free ≡ none → ms.lists.items ≡ [] → Holds a ms
+pub holds_none : (a : Arena) (ms : Landmarks) (none : Strand) → none ≡ record { first = 0; count = 0 } → a.heads.items ≡ [] → a.nodes.items ≡ [] → a.free ≡ none → ms.lists.items ≡ [] →
+    Holds a ms 0 0
 holds_none a ms none z h n f e =
     record {
-      strands = subst (λ s. AreStrands a.heads.items a.nodes.items s) (sym (f ∙ z)) (subst (λ ns. AreStrands a.heads.items ns (record { first = 0; count = 0 })) (sym n)
-          (subst (λ hs. AreStrands hs [] (record { first = 0; count = 0 })) (sym h) none_yet));
+      arena = record {
+        strands = subst (λ s. AreStrands a.heads.items a.nodes.items s) (sym (f ∙ z)) (subst (λ ns. AreStrands a.heads.items ns (record { first = 0; count = 0 })) (sym n)
+            (subst (λ hs. AreStrands hs [] (record { first = 0; count = 0 })) (sym h) none_yet));
+        behind = subst NoneBehind (sym h) (λ p same. refl);
+      };
       chains = λ p. subst (λ hs. IsChain (versions_of a.nodes.items (head_at hs p))) (sym h) tt;
       landmarks = λ p. no_landmarks a p (landmarks_of ms p) (ap (λ ls. landmarks_at ls p) e);
+      sum = (let e : 0 ≡ many_in a = ap (λ hs. sum_by length (lists_in hs a.nodes.items)) (sym h) in omega (arith, e));
+      room = omega arith;
+      few = omega arith;
     }
-
--- ---- what a walk over the bound has passed
-
-pub walk_less : (a : Arena) (place bound kept : ℕ) → IsChain (list_in a place) → kept ≡ length (left_by bound (list_in a place)) → (kept ≡ (head_in a place).strand.count → ⊥) →
-    kept < (head_in a place).strand.count
-walk_less a place bound kept chain e apart = let m = list_many a place in let l = kept_less bound (list_in a place) chain in omega (arith, e, apart, m, l)
-
-pub walk_left : (a : Arena) (place bound kept : ℕ) → IsChain (list_in a place) → kept ≡ length (left_by bound (list_in a place)) → take kept (list_in a place) ≡ left_by bound (list_in a place)
-walk_left a place bound kept chain e = ap (λ n. take n (list_in a place)) e ∙ kept_left bound (list_in a place) chain
-
-pub walk_others : (a : Arena) (place bound kept : ℕ) → IsChain (list_in a place) → kept ≡ length (left_by bound (list_in a place)) →
-    (head_in a place).strand.count - kept - 1 ≡ others_at bound (list_in a place)
-walk_others a place bound kept chain e = let m = list_many a place in let s = kept_sum bound (list_in a place) chain in omega (arith, e, m, s)
-
--- nothing was at the bound
-pub all_left : (a : Arena) (place bound kept : ℕ) → IsChain (list_in a place) → kept ≡ length (left_by bound (list_in a place)) → kept ≡ (head_in a place).strand.count →
-    list_in a place ≡ left_by bound (list_in a place)
-all_left a place bound kept chain e all = sym (take_all kept (list_in a place) (let m = list_many a place in omega (arith, m, all))) ∙ walk_left a place bound kept chain e
-
-pub none_gone : (a : Arena) (place bound kept : ℕ) → IsChain (list_in a place) → kept ≡ length (left_by bound (list_in a place)) → kept ≡ (head_in a place).strand.count →
-    0 ≡ others_at bound (list_in a place)
-none_gone a place bound kept chain e all = (let o = walk_others a place bound kept chain e in omega (arith, o, all))

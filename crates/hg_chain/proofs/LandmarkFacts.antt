@@ -1,10 +1,10 @@
 -- Landmarks: which of them a change of a chain leaves, and where a read starts from one.
-use Rattle.std.proofs.Common.{◌≡◌, ◌≢◌, ℕ, zero, suc, ◌+◌, ◌-◌, ◌<◌, ◌≤◌, List, [], ◌∷◌, ◌++◌, length, take, drop, get_or, Result, Ok, Err, Bool, true, false, ◌&&◌, Some, refl, sym, ap}
+use Rattle.std.proofs.Common.{◌≡◌, ◌≢◌, ℕ, zero, suc, ◌+◌, ◌-◌, ◌<◌, ◌≤◌, List, [], ◌∷◌, ◌++◌, length, take, drop, get_or, Result, Ok, Err, true, false, Some, refl, sym, ap}
 use Rattle.std.proofs.Common.{◌∙◌, subst, arith, inl, inr}
-use Rattle.std.specs.Prelude.{IsTrue, IsSome, OnOk, OnErr, ◌⊎◌, ◌==◌, nat_le}
+use Rattle.std.specs.Prelude.{IsTrue, IsSome, OnOk, OnErr, ◌⊎◌, nat_le}
 use Rattle.std.proofs.lemmas.List.{length-drop, get_or-drop}
 use Rattle.std.proofs.lemmas.Bool.{cases_eq}
-use Rattle.std.proofs.lemmas.Bool.Decides.{Decides-eqb, nat_tests}
+use Rattle.std.proofs.lemmas.Bool.Decides.{nat_tests}
 use Rattle.hg_base.specs.declared.writer.Writer.{Writer}
 use Rattle.hg_base.specs.Lists.{Each}
 use Rattle.hg_base.proofs.ListFacts.{cases, false_true, each_keeps, each_snoc}
@@ -17,46 +17,38 @@ use Rattle.hg_chain.specs.declared.landmarks.Landmark.{Landmark}
 use Rattle.hg_chain.specs.declared.landmarks.Landmarks.{Landmarks}
 use Rattle.hg_chain.specs.Versions.{IsChain, is_at_most, is_open_by, has_writer, number_in}
 use Rattle.hg_chain.specs.Strands.{blank, node_at, version_in, nodes_along, node_behind}
-use Rattle.hg_chain.specs.Arenas.{IsArena, OthersStayIn, PushesIn, PopsIn, head_in, list_in, nodes_in}
+use Rattle.hg_chain.specs.Arenas.{IsArena, OthersStayIn, PushesIn, PopsIn, head_in, list_in, nodes_in, tail_in}
 use Rattle.hg_chain.specs.Landmarks.{landmarks_of, movable_by, movable, IsLandmark, IsLandmarkIn, HasLandmarks, AreLandmarks}
 use Rattle.hg_chain.proofs.Cuts.{falls_at_most, others_numbered}
 use Rattle.hg_chain.proofs.Strands.{nodes_many}
 use Rattle.hg_chain.proofs.Unlinks.{walk_within}
-use Rattle.hg_chain.proofs.Walks.{version_read, list_many}
+use Rattle.hg_chain.proofs.Walks.{version_read, tail_many}
 
 -- ---- how many have no landmark
 
-least_by : (s : Stamp) → 1 ≤ movable_by (Some s)
-least_by (Written w) = omega arith
-least_by (Numbered number by) = omega arith
-
-pub least : (vs : List Version) → 1 ≤ movable vs
-least [] = omega arith
-least (v ∷ vs) = least_by v.stamp
-
-most_by : (s : Stamp) → movable_by (Some s) ≤ 2
+most_by : (s : Stamp) → movable_by (Some s) ≤ 1
 most_by (Written w) = omega arith
 most_by (Numbered number by) = omega arith
 
-pub most : (vs : List Version) → movable vs ≤ 2
+pub most : (vs : List Version) → movable vs ≤ 1
 most [] = omega arith
 most (v ∷ vs) = most_by v.stamp
 
-open_by : (by : Writer) (s : Stamp) → has_writer by s ≡ true → 2 ≤ movable_by (Some s)
+open_by : (by : Writer) (s : Stamp) → has_writer by s ≡ true → 1 ≤ movable_by (Some s)
 open_by by (Written w) h = omega arith
 open_by by (Numbered number other) h = absurd (false_true h)
 
-pub open_two : (by : Writer) (vs : List Version) → IsTrue (is_open_by by vs) → 2 ≤ movable vs
-open_two by [] h = absurd (false_true h)
-open_two by (v ∷ vs) h = open_by by v.stamp h
+pub open_one : (by : Writer) (vs : List Version) → IsTrue (is_open_by by vs) → 1 ≤ movable vs
+open_one by [] h = absurd (false_true h)
+open_one by (v ∷ vs) h = open_by by v.stamp h
 
-numbered_by : (s : Stamp) → IsSome (number_in s) → movable_by (Some s) ≤ 1
+numbered_by : (s : Stamp) → IsSome (number_in s) → movable_by (Some s) ≤ 0
 numbered_by (Written w) h = absurd (false_true h)
 numbered_by (Numbered number by) h = omega arith
 
-pub numbered_one : (vs : List Version) → Each (λ v. IsSome (number_in v.stamp)) vs → movable vs ≤ 1
-numbered_one [] h = omega arith
-numbered_one (v ∷ vs) h = numbered_by v.stamp h.0
+pub numbered_none : (vs : List Version) → Each (λ v. IsSome (number_in v.stamp)) vs → movable vs ≤ 0
+numbered_none [] h = omega arith
+numbered_none (v ∷ vs) h = numbered_by v.stamp h.0
 
 -- ---- after a change
 
@@ -88,18 +80,18 @@ moved_all : (vs ws : List Version) (ns ms : List ℕ) (k j : ℕ) (ls : List Lan
 moved_all vs ws ns ms k j ls e low high = each_keeps (IsLandmark vs ns) (IsLandmark ws ms) (λ m. moved vs ws ns ms k j m e low high) ls
 
 pub pushed_landmarks : (a b : Arena) (place : ℕ) (ls : List Landmark) → PushesIn place a b → HasLandmarks a place ls → HasLandmarks b place ls
-pushed_landmarks a b place ls e = moved_all (list_in a place) (list_in b place) (nodes_in a place) (nodes_in b place) 1 2 ls e (least (list_in a place)) (most (list_in b place))
+pushed_landmarks a b place ls e = moved_all (list_in a place) (list_in b place) (nodes_in a place) (nodes_in b place) 0 1 ls e (omega arith) (most (list_in b place))
 
 -- the open write at the front gets another image, or its number
 pub written_landmarks : (a b : Arena) (place : ℕ) (by : Writer) (ls : List Landmark) → IsTrue (is_open_by by (list_in a place)) → nodes_in b place ≡ nodes_in a place → HasLandmarks a place ls →
     HasLandmarks b place ls
-written_landmarks a b place by ls is_open e = moved_all (list_in a place) (list_in b place) (nodes_in a place) (nodes_in b place) 2 2 ls (ap (drop 2) e)
-    (open_two by (list_in a place) is_open) (most (list_in b place))
+written_landmarks a b place by ls is_open e = moved_all (list_in a place) (list_in b place) (nodes_in a place) (nodes_in b place) 1 1 ls (ap (drop 1) e)
+    (open_one by (list_in a place) is_open) (most (list_in b place))
 
 pub undone_landmarks : (a b : Arena) (place : ℕ) (by : Writer) (ls : List Landmark) → IsTrue (is_open_by by (list_in a place)) → IsChain (list_in a place) →
     list_in b place ≡ drop 1 (list_in a place) → PopsIn place a b → HasLandmarks a place ls → HasLandmarks b place ls
-undone_landmarks a b place by ls is_open chain here e = moved_all (list_in a place) (list_in b place) (nodes_in a place) (nodes_in b place) 2 1 ls e
-    (open_two by (list_in a place) is_open) (subst (λ vs. movable vs ≤ 1) (sym here) (numbered_one (drop 1 (list_in a place)) (others_numbered (list_in a place) chain)))
+undone_landmarks a b place by ls is_open chain here e = moved_all (list_in a place) (list_in b place) (nodes_in a place) (nodes_in b place) 1 0 ls e
+    (open_one by (list_in a place) is_open) (subst (λ vs. movable vs ≤ 0) (sym here) (numbered_none (drop 1 (list_in a place)) (others_numbered (list_in a place) chain)))
 
 pub no_landmarks : (a : Arena) (place : ℕ) (ls : List Landmark) → ls ≡ [] → HasLandmarks a place ls
 no_landmarks a place ls e = subst (HasLandmarks a place) (sym e) tt
@@ -129,17 +121,17 @@ node_read nodes zero i k less = absurd (omega (arith, less))
 node_read nodes (suc n) i zero less = refl
 node_read nodes (suc n) i (suc k) less = node_read nodes n (node_at nodes i).next k (omega (arith, less))
 
--- the third version
-pub third_landmark : (a : Arena) (place : ℕ) (m : Landmark) → 2 < (head_in a place).strand.count → m.height ≡ (head_in a place).strand.count - 2 →
-    m.node ≡ node_behind a.nodes.items 2 (head_in a place).strand.first → IsLandmarkIn a place m
+-- the third version, which is the second that has a node
+pub third_landmark : (a : Arena) (place : ℕ) (m : Landmark) → 1 < (head_in a place).strand.count → m.height ≡ (head_in a place).strand.count - 1 →
+    m.node ≡ node_behind a.nodes.items 1 (head_in a place).strand.first → IsLandmarkIn a place m
 third_landmark a place m long h e =
     let many = nodes_many a.nodes.items (head_in a place).strand.count (head_in a place).strand.first in
     let l = most (list_in a place) in
-    let two : length (nodes_in a place) - m.height ≡ 2 = omega (arith, many, long, h) in
+    let one : length (nodes_in a place) - m.height ≡ 1 = omega (arith, many, long, h) in
     record {
       some = omega (arith, long, h);
       behind = omega (arith, many, long, h, l);
-      node = ap (λ n. get_or (nodes_in a place) n 0) two ∙ node_read a.nodes.items (head_in a place).strand.count (head_in a place).strand.first 2 long ∙ sym e;
+      node = ap (λ n. get_or (nodes_in a place) n 0) one ∙ node_read a.nodes.items (head_in a place).strand.count (head_in a place).strand.first 1 long ∙ sym e;
     }
 
 pub landmark_low : (a : Arena) (place : ℕ) (m : Landmark) → IsLandmarkIn a place m → m.height ≤ (head_in a place).strand.count
@@ -147,7 +139,6 @@ landmark_low a place m h = let many = nodes_many a.nodes.items (head_in a place)
 
 -- where a landmark stands
 pub record LandmarkStands (a : Arena) (place kept node : ℕ) : Type 0 where
-  pub first : 0 < kept
   pub less : kept < (head_in a place).strand.count
   pub at : node_behind a.nodes.items kept (head_in a place).strand.first ≡ node
 
@@ -156,17 +147,15 @@ landmark_stands a place m h =
     let many = nodes_many a.nodes.items (head_in a place).strand.count (head_in a place).strand.first in
     let some = h.some in
     let behind = h.behind in
-    let l = least (list_in a place) in
-    let less : (head_in a place).strand.count - m.height < (head_in a place).strand.count = omega (arith, many, some, behind, l) in
+    let less : (head_in a place).strand.count - m.height < (head_in a place).strand.count = omega (arith, many, some, behind) in
     record {
-      first = omega (arith, many, behind, l);
       less = less;
       at = sym (node_read a.nodes.items (head_in a place).strand.count (head_in a place).strand.first ((head_in a place).strand.count - m.height) less) ∙
           ap (λ n. get_or (nodes_in a place) (n - m.height) 0) (sym many) ∙ h.node;
     }
 
 pub landmark_within : (a : Arena) (place : ℕ) (m : Landmark) → IsArena a → IsLandmarkIn a place m → m.node < length a.nodes.items
-landmark_within a place m s h = let k = landmark_stands a place m h in walk_within a.heads.items a.nodes.items a.free s place ((head_in a place).strand.count - m.height) m.node k.less k.at
+landmark_within a place m s h = let k = landmark_stands a place m h in walk_within a.heads.items a.nodes.items a.free s.strands place ((head_in a place).strand.count - m.height) m.node k.less k.at
 
 got : {X : Type 0} (P : X → Type 0) (xs : List X) (k : ℕ) (d : X) → Each P xs → k < length xs → P (get_or xs k d)
 got P [] k d h less = absurd (omega (arith, less))
@@ -186,21 +175,14 @@ newer_front bound (v ∷ vs) (suc k) d h less e =
       newer_front bound vs k d h.1 there e,
     )
 
-over : (begins : Bool) (k : ℕ) (n : Node) (bound : ℕ) → 0 < k → bound < n.number → is_at_most bound (version_in (begins && (k == 0)) n) ≡ false
-over false k n bound some h = grind (arith, nat_tests)
-over true k n bound some h =
-    let later : nat_le n.number bound ≡ false = grind (arith, nat_tests) in
-    cases (k == 0) (λ same. absurd (let z : k ≡ 0 = (Decides-eqb k 0).0 same in omega (arith, z, some))) (λ other. ap (λ b. is_at_most bound (version_in b n)) other ∙ later)
-
-pub landmark_newer : (a : Arena) (place bound kept node : ℕ) → IsChain (list_in a place) → LandmarkStands a place kept node → bound < (node_at a.nodes.items node).number →
-    Each (λ v. is_at_most bound v ≡ false) (take (kept + 1) (list_in a place))
+pub landmark_newer : (a : Arena) (place bound kept node : ℕ) → IsChain (tail_in a place) → LandmarkStands a place kept node → bound < (node_at a.nodes.items node).number →
+    Each (λ v. is_at_most bound v ≡ false) (take (kept + 1) (tail_in a place))
 landmark_newer a place bound kept node chain h later =
-    let d = version_in false blank in
+    let d = version_in blank in
     let less = h.less in
-    let first = h.first in
-    let many = list_many a place in
+    let many = tail_many a place in
     let one : suc kept ≡ kept + 1 = omega arith in
-    subst (λ k. Each (λ v. is_at_most bound v ≡ false) (take k (list_in a place))) one (newer_front bound (list_in a place) kept d chain (omega (arith, less, many))
-    (ap (is_at_most bound) (version_read a.nodes.items (head_in a place).is_open (head_in a place).strand.count (head_in a place).strand.first kept d less) ∙
-    ap (λ i. is_at_most bound (version_in ((head_in a place).is_open && (kept == 0)) (node_at a.nodes.items i))) h.at ∙
-    over (head_in a place).is_open kept (node_at a.nodes.items node) bound first later))
+    let over : nat_le (node_at a.nodes.items node).number bound ≡ false = grind (arith, nat_tests) in
+    subst (λ k. Each (λ v. is_at_most bound v ≡ false) (take k (tail_in a place))) one (newer_front bound (tail_in a place) kept d chain (omega (arith, less, many))
+    (ap (is_at_most bound) (version_read a.nodes.items (head_in a place).strand.count (head_in a place).strand.first kept d less) ∙
+    ap (λ i. is_at_most bound (version_in (node_at a.nodes.items i))) h.at ∙ over))

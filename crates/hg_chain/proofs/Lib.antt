@@ -9,15 +9,18 @@ pub mod Readers
 pub mod Strands
 pub mod Rooms
 pub mod Writes
-pub mod Rewrites
-pub mod Covers
+pub mod Heads
+pub mod Fronts
 pub mod Removals
 pub mod Unlinks
 -- A walk along a chain, and a sweep along it.
 pub mod Walks
 pub mod Settling
+pub mod Tops
 -- Where a read may start.
 pub mod LandmarkFacts
 pub mod LandmarkLists
 -- What callers see.
 pub mod Held
+pub mod Newest
+pub mod Bounds

@@ -1,10 +1,10 @@
 -- A version is taken out of a place's chain, and its node is free.
-use Rattle.std.proofs.Common.{◌≡◌, ◌≢◌, ℕ, zero, suc, ◌+◌, ◌-◌, ◌<◌, List, length, drop, set, false, refl, sym, ap, ◌∙◌, subst, arith, get_or-set_same, get_or-set_other}
+use Rattle.std.proofs.Common.{◌≡◌, ◌≢◌, ℕ, zero, suc, ◌+◌, ◌-◌, ◌<◌, List, length, drop, set, refl, sym, ap, ◌∙◌, subst, arith, get_or-set_same, get_or-set_other}
 use Rattle.std.proofs.lemmas.List.{length-set}
 use Rattle.hg_chain.specs.declared.node.Node.{Node}
 use Rattle.hg_chain.specs.declared.node.Strand.{Strand}
-use Rattle.hg_chain.specs.declared.node.Head.{Head}
-use Rattle.hg_chain.specs.Strands.{blank, node_at, freed, head_at, versions, versions_of, nodes_along, nodes_of, chain_of, IsStrand, AreStrands}
+use Rattle.hg_chain.specs.declared.head.Head.{Head}
+use Rattle.hg_chain.specs.Strands.{blank, node_at, freed, head_at, versions, tail_of, nodes_along, nodes_of, chain_of, IsStrand, AreStrands}
 use Rattle.hg_chain.proofs.Strands.{frame, frame_versions, frame_nodes, Given, put, put_apart, gave, gave_others, has_head, head_here}
 
 -- ---- the first version
@@ -29,7 +29,7 @@ first heads nodes free a p c e =
     }
 
 abbrev pub behind_first : List Head → List Node → ℕ → ℕ → Head
-behind_first heads nodes p c = record { strand = record { first = (node_at nodes (head_at heads p).strand.first).next; count = c }; is_open = false }
+behind_first heads nodes p c = record (head_at heads p) { strand = record { first = (node_at nodes (head_at heads p).strand.first).next; count = c } }
 
 abbrev pub without : List Node → ℕ → ℕ → List Node
 without nodes i next = set nodes i (freed next (node_at nodes i))
@@ -76,30 +76,30 @@ popped_others heads nodes free a p some =
     gave_others heads nodes free a p _ _ g.others
 
 pub popped_here : (heads : List Head) (nodes : List Node) (free : Strand) → AreStrands heads nodes free → (p : ℕ) → 0 < (head_at heads p).strand.count →
-    versions_of (without nodes (head_at heads p).strand.first free.first) (head_at (set heads p (behind_first heads nodes p ((head_at heads p).strand.count - 1))) p) ≡ drop 1
-    (versions_of nodes (head_at heads p))
+    tail_of (without nodes (head_at heads p).strand.first free.first) (head_at (set heads p (behind_first heads nodes p ((head_at heads p).strand.count - 1))) p) ≡ drop 1
+    (tail_of nodes (head_at heads p))
 popped_here heads nodes free a p some =
     let i = (head_at heads p).strand.first in
     let c = (head_at heads p).strand.count - 1 in
     let e : (head_at heads p).strand.count ≡ suc c = omega (arith, some) in
     let f = first heads nodes free a p c e in
-    ap (versions_of (without nodes i free.first)) (head_here heads p _ (has_head heads p some))
-    ∙ frame_versions nodes a.owner a.rank (without nodes i free.first) false (suc p) (a.rank i) c (node_at nodes i).next
+    ap (tail_of (without nodes i free.first)) (head_here heads p _ (has_head heads p some))
+    ∙ frame_versions nodes a.owner a.rank (without nodes i free.first) (suc p) (a.rank i) c (node_at nodes i).next
     (λ j x y z. without_apart nodes i free.first j (λ k. absurd (let l : a.rank j ≡ a.rank i = ap a.rank k in let m : a.rank j < a.rank i = z in omega (arith, l, m)))) f.rest
-    ∙ sym (ap (λ n. drop 1 (versions nodes (head_at heads p).is_open n i)) e)
+    ∙ sym (ap (λ n. drop 1 (versions nodes n i)) e)
 
 pub popped_nodes : (heads : List Head) (nodes : List Node) (free : Strand) → AreStrands heads nodes free → (p : ℕ) → 0 < (head_at heads p).strand.count →
-    drop 1 (nodes_of (without nodes (head_at heads p).strand.first free.first) (head_at (set heads p (behind_first heads nodes p ((head_at heads p).strand.count - 1))) p)) ≡ drop 2
+    nodes_of (without nodes (head_at heads p).strand.first free.first) (head_at (set heads p (behind_first heads nodes p ((head_at heads p).strand.count - 1))) p) ≡ drop 1
     (nodes_of nodes (head_at heads p))
 popped_nodes heads nodes free a p some =
     let i = (head_at heads p).strand.first in
     let c = (head_at heads p).strand.count - 1 in
     let e : (head_at heads p).strand.count ≡ suc c = omega (arith, some) in
     let f = first heads nodes free a p c e in
-    ap (λ (h : Head). drop 1 (nodes_of (without nodes i free.first) h)) (head_here heads p _ (has_head heads p some))
-    ∙ ap (drop 1) (frame_nodes nodes a.owner a.rank (without nodes i free.first) (suc p) (a.rank i) c (node_at nodes i).next
-    (λ j x y z. without_apart nodes i free.first j (λ k. absurd (let l : a.rank j ≡ a.rank i = ap a.rank k in let m : a.rank j < a.rank i = z in omega (arith, l, m)))) f.rest)
-    ∙ sym (ap (λ n. drop 2 (nodes_along nodes n i)) e)
+    ap (nodes_of (without nodes i free.first)) (head_here heads p _ (has_head heads p some))
+    ∙ frame_nodes nodes a.owner a.rank (without nodes i free.first) (suc p) (a.rank i) c (node_at nodes i).next
+    (λ j x y z. without_apart nodes i free.first j (λ k. absurd (let l : a.rank j ≡ a.rank i = ap a.rank k in let m : a.rank j < a.rank i = z in omega (arith, l, m)))) f.rest
+    ∙ sym (ap (λ n. drop 1 (nodes_along nodes n i)) e)
 
 -- the node of a place's first version is there
 pub first_within : (heads : List Head) (nodes : List Node) (free : Strand) → AreStrands heads nodes free → (p : ℕ) → 0 < (head_at heads p).strand.count → (head_at heads p).strand.first < length nodes

@@ -1,21 +1,22 @@
 -- Strands and the versions in them, where nodes change.
-use Rattle.std.proofs.Common.{◌≡◌, ◌≢◌, ℕ, zero, suc, ◌+◌, ◌<◌, ◌≤◌, List, [], ◌∷◌, length, set, get_or, Bool, false, cond, refl, sym, ap, ◌∙◌, subst, arith, get_or-set_same}
+use Rattle.std.proofs.Common.{◌≡◌, ◌≢◌, ℕ, zero, suc, ◌+◌, ◌<◌, ◌≤◌, List, [], ◌∷◌, ◌++◌, length, set, get_or, cond, refl, sym, ap, ◌∙◌, subst, arith, get_or-set_same}
 use Rattle.std.proofs.Common.{get_or-set_other, inl, inr}
 use Rattle.std.specs.Prelude.{sum_by, ◌==◌, ◌⊎◌}
+use Rattle.std.proofs.lemmas.List.{length-append}
 use Rattle.std.proofs.lemmas.List.Sums.{sum_by-set, sum_by-cons}
 use Rattle.std.proofs.lemmas.Bool.Decides.{Decides-eqb}
 use Rattle.std.proofs.lemmas.Bool.{cases_eq}
 use Rattle.hg_base.proofs.ListFacts.{cases}
 use Rattle.hg_chain.specs.declared.node.Node.{Node}
 use Rattle.hg_chain.specs.declared.node.Strand.{Strand}
-use Rattle.hg_chain.specs.declared.node.Head.{Head}
-use Rattle.hg_chain.specs.Strands.{node_at, no_head, head_at, version_in, versions, versions_of, nodes_along, chain_of, lists_in, IsStrand, strand_of, AreStrands}
+use Rattle.hg_chain.specs.declared.head.Head.{Head}
+use Rattle.hg_chain.specs.Strands.{node_at, no_head, head_at, front_of, tail_of, version_in, versions, versions_of, nodes_along, chain_of, lists_in, IsStrand, strand_of, AreStrands}
 
 -- ---- reads
 
-pub versions_many : (nodes : List Node) (begins : Bool) (n i : ℕ) → length (versions nodes begins n i) ≡ n
-versions_many nodes begins zero i = refl
-versions_many nodes begins (suc n) i = ap suc (versions_many nodes false n (node_at nodes i).next)
+pub versions_many : (nodes : List Node) (n i : ℕ) → length (versions nodes n i) ≡ n
+versions_many nodes zero i = refl
+versions_many nodes (suc n) i = ap suc (versions_many nodes n (node_at nodes i).next)
 
 pub nodes_many : (nodes : List Node) (n i : ℕ) → length (nodes_along nodes n i) ≡ n
 nodes_many nodes zero i = refl
@@ -26,15 +27,16 @@ list_read [] nodes p = refl
 list_read (h ∷ heads) nodes zero = refl
 list_read (h ∷ heads) nodes (suc p) = list_read heads nodes p
 
--- as many versions as the strands of the places have nodes
-pub lists_many : (heads : List Head) (nodes : List Node) → sum_by length (lists_in heads nodes) ≡ sum_by (λ h. h.strand.count) heads
-lists_many [] nodes = refl
-lists_many (h ∷ heads) nodes =
-    let e : length (versions_of nodes h) ≡ h.strand.count = versions_many nodes h.is_open h.strand.count h.strand.first in
-    let more : sum_by length (lists_in heads nodes) ≡ sum_by (λ h. h.strand.count) heads = lists_many heads nodes in
+-- the strands of the places have no more nodes than there are versions
+pub lists_least : (heads : List Head) (nodes : List Node) → sum_by (λ h. h.strand.count) heads ≤ sum_by length (lists_in heads nodes)
+lists_least [] nodes = omega arith
+lists_least (h ∷ heads) nodes =
+    let a = length-append (front_of h) (tail_of nodes h) in
+    let e : length (tail_of nodes h) ≡ h.strand.count = versions_many nodes h.strand.count h.strand.first in
+    let more : sum_by (λ h. h.strand.count) heads ≤ sum_by length (lists_in heads nodes) = lists_least heads nodes in
     let l = sum_by-cons length (versions_of nodes h) (lists_in heads nodes) in
     let r = sum_by-cons (λ (h : Head). h.strand.count) h heads in
-    omega (arith, e, more, l, r)
+    omega (arith, a, e, more, l, r)
 
 -- a place with versions has a head
 pub has_head : (heads : List Head) (p : ℕ) → 0 < (head_at heads p).strand.count → p < length heads
@@ -78,15 +80,15 @@ frame nodes owner rank nodes' owner' rank' more who bound (suc n) i f h =
       subst (λ b. IsStrand nodes' owner' rank' who b n (node_at nodes' i).next) (sym s.ranked) (subst (IsStrand nodes' owner' rank' who (rank i) n) (sym s.next) rest),
     )
 
-pub frame_versions : (nodes : List Node) (owner rank : ℕ → ℕ) (nodes' : List Node) (begins : Bool) (who bound n i : ℕ) →
+pub frame_versions : (nodes : List Node) (owner rank : ℕ → ℕ) (nodes' : List Node) (who bound n i : ℕ) →
     ((j : ℕ) → j < length nodes → owner j ≡ who → rank j < bound → node_at nodes' j ≡ node_at nodes j) → IsStrand nodes owner rank who bound n i →
-    versions nodes' begins n i ≡ versions nodes begins n i
-frame_versions nodes owner rank nodes' begins who bound zero i f h = refl
-frame_versions nodes owner rank nodes' begins who bound (suc n) i f h =
+    versions nodes' n i ≡ versions nodes n i
+frame_versions nodes owner rank nodes' who bound zero i f h = refl
+frame_versions nodes owner rank nodes' who bound (suc n) i f h =
     let s = f i h.0 h.1 h.2 in
     let low : rank i < bound = h.2 in
-    let rest = frame_versions nodes owner rank nodes' false who (rank i) n (node_at nodes i).next (λ j a b c. f j a b (let k : rank j < rank i = c in omega (arith, k, low))) h.3 in
-    (λ k. version_in begins (s k) ∷ versions nodes' false n (s k).next) ∙ ap (λ vs. version_in begins (node_at nodes i) ∷ vs) rest
+    let rest = frame_versions nodes owner rank nodes' who (rank i) n (node_at nodes i).next (λ j a b c. f j a b (let k : rank j < rank i = c in omega (arith, k, low))) h.3 in
+    (λ k. version_in (s k) ∷ versions nodes' n (s k).next) ∙ ap (λ vs. version_in (node_at nodes i) ∷ vs) rest
 
 pub frame_nodes : (nodes : List Node) (owner rank : ℕ → ℕ) (nodes' : List Node) (who bound n i : ℕ) →
     ((j : ℕ) → j < length nodes → owner j ≡ who → rank j < bound → node_at nodes' j ≡ node_at nodes j) → IsStrand nodes owner rank who bound n i → nodes_along nodes' n i ≡ nodes_along nodes n i
@@ -101,7 +103,7 @@ pub frame_chain : (nodes : List Node) (owner rank : ℕ → ℕ) (nodes' : List 
     ((j : ℕ) → j < length nodes → owner j ≡ who → rank j < bound → node_at nodes' j ≡ node_at nodes j) → IsStrand nodes owner rank who bound h.strand.count h.strand.first →
     chain_of nodes' h ≡ chain_of nodes h
 frame_chain nodes owner rank nodes' h who bound f s =
-    (λ k. (frame_versions nodes owner rank nodes' h.is_open who bound h.strand.count h.strand.first f s k, frame_nodes nodes owner rank nodes' who bound h.strand.count h.strand.first f s k))
+    (λ k. (front_of h ++ frame_versions nodes owner rank nodes' who bound h.strand.count h.strand.first f s k, frame_nodes nodes owner rank nodes' who bound h.strand.count h.strand.first f s k))
 
 pub weaken : (nodes : List Node) (owner rank : ℕ → ℕ) (who bound bound' n i : ℕ) → bound ≤ bound' → IsStrand nodes owner rank who bound n i → IsStrand nodes owner rank who bound' n i
 weaken nodes owner rank who bound bound' zero i le h = tt

@@ -1,13 +1,13 @@
 -- A version behind another is taken out of a place's chain.
-use Rattle.std.proofs.Common.{◌≡◌, ◌≢◌, ℕ, zero, suc, ◌+◌, ◌-◌, ◌<◌, ◌≤◌, List, ◌∷◌, ◌++◌, length, take, drop, set, Bool, true, false, refl, sym, ap, ◌∙◌, subst, arith, get_or-set_same}
+use Rattle.std.proofs.Common.{◌≡◌, ◌≢◌, ℕ, zero, suc, ◌+◌, ◌-◌, ◌<◌, ◌≤◌, List, ◌∷◌, ◌++◌, length, take, drop, set, refl, sym, ap, ◌∙◌, subst, arith, get_or-set_same}
 use Rattle.std.proofs.Common.{get_or-set_other}
 use Rattle.std.proofs.lemmas.List.{length-set}
 use Rattle.hg_chain.specs.declared.node.Node.{Node}
 use Rattle.hg_chain.specs.declared.node.Strand.{Strand}
-use Rattle.hg_chain.specs.declared.node.Head.{Head}
-use Rattle.hg_chain.specs.Strands.{blank, node_at, head_at, version_in, versions, versions_of, nodes_along, nodes_of, chain_of, node_behind, IsStrand, AreStrands}
+use Rattle.hg_chain.specs.declared.head.Head.{Head}
+use Rattle.hg_chain.specs.Strands.{blank, node_at, head_at, version_in, versions, tail_of, chain_of, node_behind, IsStrand, AreStrands}
 use Rattle.hg_chain.specs.Arenas.{IsLast}
-use Rattle.hg_chain.proofs.Strands.{frame, frame_versions, frame_nodes, weaken, Given, put, put_apart, gave, gave_others, has_head, head_here}
+use Rattle.hg_chain.proofs.Strands.{frame, frame_versions, weaken, Given, put, put_apart, gave, gave_others, has_head, head_here}
 use Rattle.hg_chain.proofs.Removals.{without, without_apart, without_link}
 
 -- ---- along a strand
@@ -60,16 +60,11 @@ pub unlinked_link : (nodes : List Node) (last at free : ℕ) → at < length nod
 unlinked_link nodes last at free within = without_link (relinked nodes last (node_at nodes at).next) at free
     (let e = length-set nodes last (record (node_at nodes last) { next = (node_at nodes at).next }) in omega (arith, e, within))
 
-same_version : (begins : Bool) (n : Node) (next : ℕ) → version_in begins (record n { next = next }) ≡ version_in begins n
-same_version true n next = refl
-same_version false n next = refl
-
 -- ---- the strand
 
 pub record Shorter (nodes : List Node) (own rk : ℕ → ℕ) (who bound n i k at free t : ℕ) (nodes' : List Node) : Type 0 where
   pub strand : IsStrand nodes' (put own at 0) (put rk at t) who bound n i
-  pub left : (begins : Bool) → versions nodes' begins n i ≡ take (suc k) (versions nodes begins (suc n) i) ++ drop (suc (suc k)) (versions nodes begins (suc n) i)
-  pub others : nodes_along nodes' n i ≡ take (suc k) (nodes_along nodes (suc n) i) ++ drop (suc (suc k)) (nodes_along nodes (suc n) i)
+  pub left : versions nodes' n i ≡ take (suc k) (versions nodes (suc n) i) ++ drop (suc (suc k)) (versions nodes (suc n) i)
   pub here : node_behind nodes' k i ≡ node_behind nodes k i
   pub next : node_behind nodes' (suc k) i ≡ (node_at nodes at).next
 
@@ -123,13 +118,8 @@ shorter nodes own rk who bound (suc n) i zero last at free t less e f h = subst 
                 (weaken (unlinked nodes i (node_at nodes i).next free) (put own (node_at nodes i).next 0) (put rk (node_at nodes i).next t) who (rk (node_at nodes i).next) (rk i) n
                 (node_at nodes (node_at nodes i).next).next (let a : rk (node_at nodes i).next < rk i = h.3.2 in omega (arith, a)) rest)),
           );
-          left = λ begins.
-              (λ x. version_in begins (now x) ∷ versions (unlinked nodes i (node_at nodes i).next free) false n (now x).next)
-              ∙ (λ x. same_version begins (node_at nodes i) (node_at nodes (node_at nodes i).next).next x ∷ frame_versions nodes own rk
-              (unlinked nodes i (node_at nodes i).next free) false who (rk (node_at nodes i).next) n (node_at nodes (node_at nodes i).next).next others h.3.3 x);
-          others = (λ x. i ∷ nodes_along (unlinked nodes i (node_at nodes i).next free) n (now x).next)
-              ∙ ap (λ js. i ∷ js) (frame_nodes nodes own rk (unlinked nodes i (node_at nodes i).next free) who (rk (node_at nodes i).next) n
-              (node_at nodes (node_at nodes i).next).next others h.3.3);
+          left = (λ x. version_in (now x) ∷ versions (unlinked nodes i (node_at nodes i).next free) n (now x).next) ∙ ap (λ vs. version_in (node_at nodes i) ∷ vs)
+              (frame_versions nodes own rk (unlinked nodes i (node_at nodes i).next free) who (rk (node_at nodes i).next) n (node_at nodes (node_at nodes i).next).next others h.3.3);
           here = refl;
           next = ap (λ (m : Node). m.next) now;
         }
@@ -158,8 +148,7 @@ shorter nodes own rk who bound (suc n) i (suc k) last at free t less e f h = mad
             subst (λ b. IsStrand (unlinked nodes last at free) (put own at 0) (put rk at t) who b n (node_at (unlinked nodes last at free) i).next) (sym (put_apart rk at t i apart))
                 (subst (λ (m : Node). IsStrand (unlinked nodes last at free) (put own at 0) (put rk at t) who (rk i) n m.next) (sym now) s.strand),
           );
-          left = λ begins. (λ x. version_in begins (now x) ∷ versions (unlinked nodes last at free) false n (now x).next) ∙ ap (λ vs. version_in begins (node_at nodes i) ∷ vs) (s.left false);
-          others = (λ x. i ∷ nodes_along (unlinked nodes last at free) n (now x).next) ∙ ap (λ js. i ∷ js) s.others;
+          left = (λ x. version_in (now x) ∷ versions (unlinked nodes last at free) n (now x).next) ∙ ap (λ vs. version_in (node_at nodes i) ∷ vs) s.left;
           here = ap (λ (m : Node). node_behind (unlinked nodes last at free) k m.next) now ∙ s.here;
           next = ap (λ (m : Node). node_behind (unlinked nodes last at free) (suc k) m.next) now ∙ s.next;
         }
@@ -167,16 +156,14 @@ shorter nodes own rk who bound (suc n) i (suc k) last at free t less e f h = mad
 -- ---- all of it
 
 abbrev pub one_less : List Head → ℕ → Head
-one_less heads p = record { strand = record { first = (head_at heads p).strand.first; count = (head_at heads p).strand.count - 1 }; is_open = (head_at heads p).is_open }
+one_less heads p = record (head_at heads p) { strand = record { first = (head_at heads p).strand.first; count = (head_at heads p).strand.count - 1 } }
 
 pub record Unlinked (heads : List Head) (nodes : List Node) (free : Strand) (p kept last at : ℕ) : Type 0 where
   pub last_within : last < length nodes
   pub at_within : at < length nodes
   pub arena : AreStrands (set heads p (one_less heads p)) (unlinked nodes last at free.first) (record { first = at; count = free.count + 1 })
-  pub left : chain_of (unlinked nodes last at free.first) (head_at (set heads p (one_less heads p)) p) ≡ (
-    take kept (versions_of nodes (head_at heads p)) ++ drop (kept + 1) (versions_of nodes (head_at heads p)),
-    take kept (nodes_of nodes (head_at heads p)) ++ drop (kept + 1) (nodes_of nodes (head_at heads p)),
-  )
+  pub left : tail_of (unlinked nodes last at free.first) (head_at (set heads p (one_less heads p)) p) ≡
+      take kept (tail_of nodes (head_at heads p)) ++ drop (kept + 1) (tail_of nodes (head_at heads p))
   pub walk : node_behind (unlinked nodes last at free.first) kept (head_at (set heads p (one_less heads p)) p).strand.first ≡ (node_at nodes at).next
   pub behind : IsLast (unlinked nodes last at free.first) (head_at (set heads p (one_less heads p)) p).strand.first kept last
   pub others : (q : ℕ) → q ≢ p → chain_of (unlinked nodes last at free.first) (head_at (set heads p (one_less heads p)) q) ≡ chain_of nodes (head_at heads q)
@@ -189,12 +176,8 @@ unlink heads nodes free a p (suc k) last at some less e f =
       last_within = last_stands.within;
       at_within = at_stands.within;
       arena = gave heads nodes free a p at (unlinked nodes last at free.first) (one_less heads p) (a.top (suc p)) given;
-      left = ap (chain_of (unlinked nodes last at free.first)) same_head ∙ (λ i. (short.left (head_at heads p).is_open i, short.others i)) ∙
-          (λ i. (
-            take (suc k) (versions nodes (head_at heads p).is_open (sym many i) (head_at heads p).strand.first) ++ drop (next_kept i)
-                (versions nodes (head_at heads p).is_open (sym many i) (head_at heads p).strand.first),
-            take (suc k) (nodes_along nodes (sym many i) (head_at heads p).strand.first) ++ drop (next_kept i) (nodes_along nodes (sym many i) (head_at heads p).strand.first),
-          ));
+      left = ap (tail_of (unlinked nodes last at free.first)) same_head ∙ short.left ∙
+          (λ i. take (suc k) (versions nodes (sym many i) (head_at heads p).strand.first) ++ drop (next_kept i) (versions nodes (sym many i) (head_at heads p).strand.first));
       walk = ap (λ (h : Head). node_behind (unlinked nodes last at free.first) (suc k) h.strand.first) same_head ∙ short.next;
       behind = ap (λ (h : Head). node_behind (unlinked nodes last at free.first) k h.strand.first) same_head ∙ short.here ∙ f;
       others = gave_others heads nodes free a p (unlinked nodes last at free.first) (one_less heads p) apart;

@@ -1,15 +1,12 @@
--- A version is put in front of a place's chain.
-use Rattle.std.proofs.Common.{◌≡◌, ◌≢◌, ℕ, zero, suc, ◌+◌, ◌<◌, ◌≤◌, ◌^◌, List, ◌∷◌, length, drop, set, Bool, true, false, refl, sym, ap, ◌∙◌, subst, arith}
+-- A version is put before those of a place that stand in nodes.
+use Rattle.std.proofs.Common.{◌≡◌, ◌≢◌, ℕ, zero, suc, ◌+◌, ◌<◌, ◌≤◌, ◌^◌, List, ◌∷◌, length, drop, set, refl, sym, ap, ◌∙◌, subst, arith}
 use Rattle.std.proofs.Common.{inl, inr}
 use Rattle.std.specs.Prelude.{◌⊎◌}
 use Rattle.std.proofs.lemmas.Bool.{cases_eq}
-use Rattle.hg_base.specs.declared.writer.Writer.{Writer}
 use Rattle.hg_chain.specs.declared.node.Node.{Node}
 use Rattle.hg_chain.specs.declared.node.Strand.{Strand}
-use Rattle.hg_chain.specs.declared.node.Head.{Head}
-use Rattle.hg_chain.specs.Versions.{NoOther, is_open_by, has_writer}
-use Rattle.hg_chain.specs.declared.version.Stamp.TheVariants.{Written}
-use Rattle.hg_chain.specs.Strands.{node_at, head_at, writer_in, version_in, versions, versions_of, nodes_along, nodes_of, chain_of, IsStrand, strand_of, AreStrands}
+use Rattle.hg_chain.specs.declared.head.Head.{Head}
+use Rattle.hg_chain.specs.Strands.{node_at, head_at, version_in, versions, tail_of, nodes_along, nodes_of, chain_of, IsStrand, strand_of, AreStrands}
 use Rattle.hg_chain.proofs.Strands.{Stays, frame, frame_versions, frame_nodes, frame_chain, put, put_here, put_apart, head_here, head_apart, recount, tops}
 
 pub record Took (nodes : List Node) (free : Strand) (x : Node) (i : ℕ) (nodes' : List Node) (free' : Strand) : Type 0 where
@@ -70,12 +67,12 @@ loose heads nodes free a i nodes' free' grown reused room = go free.count refl
         }
 
 abbrev pub with_front : List Head → ℕ → ℕ → Head
-with_front heads p i = record { strand = record { first = i; count = (head_at heads p).strand.count + 1 }; is_open = true }
+with_front heads p i = record (head_at heads p) { strand = record { first = i; count = (head_at heads p).strand.count + 1 } }
 
 pub record Pushed (heads : List Head) (nodes : List Node) (p : ℕ) (x : Node) (i : ℕ) (nodes' : List Node) (free' : Strand) : Type 0 where
   pub arena : AreStrands (set heads p (with_front heads p i)) nodes' free'
-  pub here : versions_of nodes' (head_at (set heads p (with_front heads p i)) p) ≡ version_in true x ∷ versions nodes false (head_at heads p).strand.count (head_at heads p).strand.first
-  pub behind : drop 2 (nodes_of nodes' (head_at (set heads p (with_front heads p i)) p)) ≡ drop 1 (nodes_of nodes (head_at heads p))
+  pub here : tail_of nodes' (head_at (set heads p (with_front heads p i)) p) ≡ version_in x ∷ tail_of nodes (head_at heads p)
+  pub behind : drop 1 (nodes_of nodes' (head_at (set heads p (with_front heads p i)) p)) ≡ nodes_of nodes (head_at heads p)
   pub others : (q : ℕ) → q ≢ p → chain_of nodes' (head_at (set heads p (with_front heads p i)) q) ≡ chain_of nodes (head_at heads q)
 
 pub pushed : (heads : List Head) (nodes : List Node) (free : Strand) (a : AreStrands heads nodes free) (p : ℕ) (x : Node) (i : ℕ) (nodes' : List Node) (free' : Strand) →
@@ -90,14 +87,15 @@ pushed heads nodes free a p x i nodes' free' within link t l =
         all = (let e = recount heads p (with_front heads p i) within in let c = l.count in let all = a.all in omega (arith, e, c, all));
         fits = l.fits;
       };
-      here = ap (versions_of nodes') (head_here heads p (with_front heads p i) within) ∙ ap (λ n. versions nodes' true n i) next_count ∙
-          (λ k. version_in true (t.here k) ∷ versions nodes' false (head_at heads p).strand.count (t.here k).next) ∙
-          ap (λ j. version_in true x ∷ versions nodes' false (head_at heads p).strand.count j) link ∙
-          ap (λ vs. version_in true x ∷ vs) (same_versions (suc p) (suc_zero p) (a.top (suc p)) false (head_at heads p).strand.count (head_at heads p).strand.first (a.strands (suc p)));
-      behind = ap (λ (h : Head). drop 2 (nodes_of nodes' h)) (head_here heads p (with_front heads p i) within) ∙ ap (λ n. drop 2 (nodes_along nodes' n i)) next_count ∙
-          (λ k. drop 1 (nodes_along nodes' (head_at heads p).strand.count (t.here k).next)) ∙ ap (λ j. drop 1 (nodes_along nodes' (head_at heads p).strand.count j)) link ∙
-          ap (drop 1) (frame_nodes nodes a.owner a.rank nodes' (suc p) (a.top (suc p)) (head_at heads p).strand.count (head_at heads p).strand.first
+      here = ap (tail_of nodes') (head_here heads p (with_front heads p i) within) ∙ ap (λ n. versions nodes' n i) next_count ∙
+          (λ k. version_in (t.here k) ∷ versions nodes' (head_at heads p).strand.count (t.here k).next) ∙
+          ap (λ j. version_in x ∷ versions nodes' (head_at heads p).strand.count j) link ∙
+          ap (λ vs. version_in x ∷ vs) (frame_versions nodes a.owner a.rank nodes' (suc p) (a.top (suc p)) (head_at heads p).strand.count (head_at heads p).strand.first
           (λ k x y z. t.others k x (apart_from (suc p) (suc_zero p) k x y)) (a.strands (suc p)));
+      behind = ap (λ (h : Head). drop 1 (nodes_of nodes' h)) (head_here heads p (with_front heads p i) within) ∙ ap (λ n. drop 1 (nodes_along nodes' n i)) next_count ∙
+          (λ k. nodes_along nodes' (head_at heads p).strand.count (t.here k).next) ∙ ap (λ j. nodes_along nodes' (head_at heads p).strand.count j) link ∙
+          frame_nodes nodes a.owner a.rank nodes' (suc p) (a.top (suc p)) (head_at heads p).strand.count (head_at heads p).strand.first
+          (λ k x y z. t.others k x (apart_from (suc p) (suc_zero p) k x y)) (a.strands (suc p));
       others = λ q apart. ap (chain_of nodes') (head_apart heads p q (with_front heads p i) apart) ∙
           frame_chain nodes a.owner a.rank nodes' (head_at heads q) (suc q) (a.top (suc q)) (λ k x y z. t.others k x (apart_from (suc q) (suc_zero q) k x y)) (a.strands (suc q));
     }
@@ -110,9 +108,6 @@ pushed heads nodes free a p x i nodes' free' within link t l =
 
     apart_from : (who : ℕ) → who ≢ 0 → (j : ℕ) → j < length nodes → a.owner j ≡ who → j ≢ i
     apart_from who some j x e k = some (sym e ∙ ap a.owner k ∙ l.owned (subst (λ m. m < length nodes) k x))
-
-    same_versions : (who : ℕ) → who ≢ 0 → (bound : ℕ) (begins : Bool) (n j : ℕ) → IsStrand nodes a.owner a.rank who bound n j → versions nodes' begins n j ≡ versions nodes begins n j
-    same_versions who some bound begins n j s = frame_versions nodes a.owner a.rank nodes' begins who bound n j (λ k x y z. t.others k x (apart_from who some k x y)) s
 
     stays : (j : ℕ) → j < length nodes → j ≢ i → Stays nodes a.owner a.rank nodes' (put a.owner i (suc p)) (put a.rank i (a.top (suc p))) j
     stays j within apart =
@@ -163,10 +158,3 @@ pushed heads nodes free a p x i nodes' free' within link t l =
             (subst (λ b. IsStrand nodes' (put a.owner i (suc p)) (put a.rank i (a.top (suc p))) (suc q) b (head_at heads q).strand.count (head_at heads q).strand.first)
             (sym (put_apart (λ q. a.top (suc q)) p (suc (a.top (suc p))) q apart))
             (kept (suc q) (suc_zero q) (a.top (suc q)) (head_at heads q).strand.count (head_at heads q).strand.first (a.strands (suc q))))
-
--- where no version is an open write, the first isn't one
-pub unopened : (by : Writer) (nodes : List Node) (begins : Bool) (n i : ℕ) → NoOther by (versions nodes begins n i) → is_open_by by (versions nodes begins n i) ≡ false →
-    versions nodes false n i ≡ versions nodes begins n i
-unopened by nodes begins zero i h e = refl
-unopened by nodes false (suc n) i h e = refl
-unopened by nodes true (suc n) i h e = absurd (let k = h.0 in let l = e in let m : has_writer by (Written (writer_in (node_at nodes i))) ≡ true = k in cc)

@@ -1,5 +1,5 @@
 -- Landmarks of chains, and what the chains of all places are, with their landmarks.
-use Rattle.std.specs.Prelude.{◌≡◌, ℕ, ◌+◌, ◌-◌, ◌<◌, ◌≤◌, List, [], length, map, slice_index_or, Option, Some, None, Vec}
+use Rattle.std.specs.Prelude.{◌≡◌, ℕ, ◌+◌, ◌-◌, ◌<◌, ◌≤◌, ◌^◌, vec_capacity, List, [], length, map, slice_index_or, Option, Some, None, Vec}
 use Rattle.std.specs.declared.alloc.Global.{Global}
 use Rattle.hg_base.specs.Lists.{Each}
 use Rattle.hg_chain.specs.declared.version.Stamp.{Stamp}
@@ -9,6 +9,8 @@ use Rattle.hg_chain.specs.declared.landmarks.Landmark.{Landmark}
 use Rattle.hg_chain.specs.declared.landmarks.Landmarks.{Landmarks}
 use Rattle.hg_chain.specs.declared.arena.Arena.{Arena}
 use Rattle.hg_chain.specs.Versions.{IsChain, newest}
+use Rattle.hg_chain.specs.Places.{Places, nodes_of}
+use Rattle.hg_chain.specs.Strands.{lists_in}
 use Rattle.hg_chain.specs.Arenas.{IsArena, list_in, nodes_in}
 
 -- the landmarks of a place: none past the end
@@ -19,13 +21,13 @@ landmarks_at lists p = slice_index_or (map (λ v. v.items) lists) p []
 abbrev pub landmarks_of : Landmarks → ℕ → List Landmark
 landmarks_of ms p = landmarks_at ms.lists.items p
 
--- how many versions in front may leave their nodes, so that they have no landmark: the first one, and the next if the first may be undone
+-- how many versions may leave their nodes, so that they have no landmark: the second one, if the newest may be undone
 abbrev pub movable_by : Option Stamp → ℕ
-movable_by None = 1
-movable_by (Some (Written w)) = 2
-movable_by (Some (Numbered number by)) = 1
+movable_by None = 0
+movable_by (Some (Written w)) = 1
+movable_by (Some (Numbered number by)) = 0
 
--- how many versions in front of a chain may leave their nodes: the stamp of the first one tells it
+-- how many versions of a chain may leave their nodes: the stamp of the newest tells it
 abbrev pub movable : List Version → ℕ
 movable vs = movable_by (newest vs)
 
@@ -47,8 +49,16 @@ HasLandmarks a p ms = Each (IsLandmarkIn a p) ms
 abbrev pub AreLandmarks : Arena → Landmarks → Type 0
 AreLandmarks a ms = (p : ℕ) → HasLandmarks a p (landmarks_of ms p)
 
--- each place's versions are a chain
-pub record Holds (a : Arena) (ms : Landmarks) : Type 0 where
-  pub strands : IsArena a
+-- what callers see of an arena, with so many free nodes
+abbrev pub places_in : Arena → ℕ → Places
+places_in a free = record { lists = lists_in a.heads.items a.nodes.items; free = free }
+
+-- each place's versions are a chain. There is room for so many versions, of which so many are free, and each version but the newest of its
+-- place needs a node
+pub record Holds (a : Arena) (ms : Landmarks) (all : ℕ) (free : ℕ) : Type 0 where
+  pub arena : IsArena a
   pub chains : (p : ℕ) → IsChain (list_in a p)
   pub landmarks : AreLandmarks a ms
+  pub sum : all ≡ nodes_of (places_in a free)
+  pub room : all ≤ vec_capacity a.nodes
+  pub few : all < 2 ^ 32

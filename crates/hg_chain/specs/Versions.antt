@@ -76,6 +76,11 @@ abbrev pub is_open_by : Writer → List Version → Bool
 is_open_by by [] = false
 is_open_by by (v ∷ vs) = is_written_by by v
 
+-- whether the first version is numbered at or below the bound
+abbrev pub begins_at_most : ℕ → List Version → Bool
+begins_at_most bound [] = false
+begins_at_most bound (v ∷ vs) = is_at_most bound v
+
 -- the stamp of the newest version
 abbrev pub newest : List Version → Option Stamp
 newest [] = None

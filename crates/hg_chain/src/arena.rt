@@ -1,13 +1,16 @@
-//! The nodes of all chains, and the free ones: what is read of them, and walks along a chain.
+//! The newest versions of all places, the nodes of the others, and the free ones: what is read of them, and walks along the others.
 
-ghost use Rattle.std.specs.Prelude.{◌≡◌, ◌+◌, ◌<◌, ◌≤◌, ◌^◌, ◌==◌, ◌&&◌, [], false, length, not, nat_lt, slice_set, take};
+ghost use Rattle.std.specs.Prelude.{◌≡◌, ◌+◌, ◌<◌, ◌≤◌, ◌^◌, ◌==◌, ◌&&◌, [], false, length, not, nat_lt, slice_set, take, vec_len, vec_capacity};
 ghost use Rattle.hg_base.specs.Lists.{Each};
-ghost use Rattle.hg_chain.specs.Versions.{IsChain, is_at_most, left_by, number_in};
-ghost use Rattle.hg_chain.specs.Strands.{node_at, stamp_in, version_in, writer_in};
-ghost use Rattle.hg_chain.specs.Arenas.{IsArena, IsAt, head_in, list_in};
+ghost use Rattle.hg_base.specs.declared.image.Image.{Image};
+ghost use Rattle.hg_chain.specs.Versions.{IsChain, begins_at_most, is_at_most, is_open_by, left_by, newest};
+ghost use Rattle.hg_chain.specs.Strands.{first_number, node_at, version_in, writer_in};
+ghost use Rattle.hg_chain.specs.Arenas.{IsArena, IsAt, NodesStay, front_in, head_in, tail_in};
 
 use crate::cursor::Cursor;
-use crate::node::{Head, Node, Strand};
+use crate::head::{Head, State};
+use crate::node::{Node, Strand};
+use crate::version::Stamp;
 use hg_base::{Image, Writer};
 use std::alloc::Global;
 
@@ -32,12 +35,70 @@ impl Arena {
         }
     }
 
-    pub fn head(&self, place: u64) -> Head
-        ensures { result ≡ head_in self.now place }
+    // ---- the newest version of a place
+
+    /// When it came about.
+    pub fn newest(&self, place: u64) -> Option<Stamp>
+        ensures { result ≡ newest (front_in self.now place) }
     {
         match self.heads.get(place as usize) {
-            Some(head) => *head,
-            None => Head::EMPTY,
+            Some(head) => head.stamp(),
+            None => None,
+        }
+    }
+
+    /// Its number, if it has one.
+    pub fn first_number(&self, place: u64) -> Option<u64>
+        ensures { result ≡ first_number (head_in self.now place) }
+    {
+        match self.heads.get(place as usize) {
+            Some(head) => head.number(),
+            None => None,
+        }
+    }
+
+    /// Whether it has a number, and that is at or below the bound.
+    pub fn begins_at_most(&self, place: u64, bound: u64) -> bool
+        ensures { result ≡ begins_at_most bound (front_in self.now place) }
+    {
+        match self.heads.get(place as usize) {
+            Some(head) => head.is_at_most(bound),
+            None => false,
+        }
+    }
+
+    /// Whether it is an open write of that transaction.
+    pub fn is_open_by(&self, place: u64, by: Writer) -> bool
+        ensures { result ≡ is_open_by by (front_in self.now place) }
+    {
+        match self.heads.get(place as usize) {
+            Some(head) => head.is_open_by(by),
+            None => false,
+        }
+    }
+
+    /// Whether there is none.
+    pub fn is_empty(&self, place: u64) -> bool
+        ensures { result ≡ (length (front_in self.now place) == 0) }
+    {
+        match self.heads.get(place as usize) {
+            Some(head) => match head.state {
+                State::Empty => true,
+                State::Open | State::Stamped => false,
+            },
+            None => true,
+        }
+    }
+
+    // ---- the others
+
+    /// The strand of the others.
+    pub fn strand(&self, place: u64) -> Strand
+        ensures { result ≡ (head_in self.now place).strand }
+    {
+        match self.heads.get(place as usize) {
+            Some(head) => head.strand,
+            None => Strand::EMPTY,
         }
     }
 
@@ -67,39 +128,31 @@ impl Arena {
         ensures nodes { self.new.nodes.items ≡
             slice_set self.old.nodes.items at
             (record (node_at self.old.nodes.items at) { next = next }) }
+        ensures capacity { vec_capacity self.new.nodes ≡ vec_capacity self.old.nodes }
         ensures free { self.new.free ≡ self.old.free }
     {
         self.nodes[at as usize].next = next;
     }
 
-    pub fn set_image_in(&mut self, at: u32, image: Image)
-        requires { at < length self.old.nodes.items }
-        ensures heads { self.new.heads.items ≡ self.old.heads.items }
-        ensures nodes { self.new.nodes.items ≡
-            slice_set self.old.nodes.items at
-            (record (node_at self.old.nodes.items at) { image = image }) }
-        ensures free { self.new.free ≡ self.old.free }
-    {
-        self.nodes[at as usize].image = image;
-    }
-
-    pub fn set_head(&mut self, place: u64, head: Head)
+    pub fn set_strand(&mut self, place: u64, strand: Strand)
         requires { place < length self.old.heads.items }
-        ensures heads { self.new.heads.items ≡ slice_set self.old.heads.items place head }
-        ensures nodes { self.new.nodes.items ≡ self.old.nodes.items }
+        ensures heads { self.new.heads.items ≡
+            slice_set self.old.heads.items place
+            (record (head_in self.old place) { strand = strand }) }
+        ensures nodes { self.new.nodes ≡ self.old.nodes }
         ensures free { self.new.free ≡ self.old.free }
     {
-        self.heads[place as usize] = head;
+        self.heads[place as usize].strand = strand;
     }
 
-    // ---- walks along a chain
+    // ---- walks along the others
 
-    /// Before the first version of a place.
+    /// Before the first of the others.
     pub fn start(&self, place: u64) -> Cursor
         ensures at { IsAt self.now place result }
         ensures kept { result.kept ≡ 0 }
     {
-        let first = self.head(place).strand.first;
+        let first = self.strand(place).first;
         Cursor {
             kept: 0,
             last: first,
@@ -107,17 +160,12 @@ impl Arena {
         }
     }
 
-    /// The number of the version before which the walk stands, if it has one.
-    pub fn number(&self, head: Head, cursor: Cursor) -> Option<u64>
-        requires { cursor.at < length self.now.nodes.items }
-        ensures { result ≡
-            number_in (stamp_in (head.is_open && (cursor.kept == 0))
-            (node_at self.now.nodes.items cursor.at)) }
+    /// The number of the version in a node.
+    pub fn number(&self, at: u32) -> u64
+        requires { at < length self.now.nodes.items }
+        ensures { result ≡ (node_at self.now.nodes.items at).number }
     {
-        if head.is_open && cursor.kept == 0 {
-            return None;
-        }
-        Some(self.nodes[cursor.at as usize].number)
+        self.nodes[at as usize].number
     }
 
     /// Passes a version.
@@ -135,36 +183,29 @@ impl Arena {
     }
 
     /// Whether the walk stands before a version that isn't at the bound.
-    pub fn is_newer(&self, head: Head, cursor: Cursor, bound: u64) -> bool
-        requires { cursor.kept < head.strand.count → cursor.at < length self.now.nodes.items }
+    pub fn is_newer(&self, strand: Strand, cursor: Cursor, bound: u64) -> bool
+        requires { cursor.kept < strand.count → cursor.at < length self.now.nodes.items }
         ensures { result ≡
-            (nat_lt cursor.kept head.strand.count && not (is_at_most bound (version_in
-            (head.is_open && (cursor.kept == 0))
+            (nat_lt cursor.kept strand.count && not (is_at_most bound (version_in
             (node_at self.now.nodes.items cursor.at)))) }
     {
-        if cursor.kept >= head.strand.count {
-            return false;
-        }
-        match self.number(head, cursor) {
-            Some(number) => number > bound,
-            None => true,
-        }
+        cursor.kept < strand.count && self.number(cursor.at) > bound
     }
 
     /// Passes the versions that aren't at the bound: since numbers fall, they stand in front of the others. The walk has passed some.
     pub fn passed(&self, place: u64, bound: u64, start: Cursor) -> Cursor
         requires arena { IsArena self.now }
-        requires chain { IsChain (list_in self.now place) }
+        requires chain { IsChain (tail_in self.now place) }
         requires at { IsAt self.now place start }
         requires within { start.kept ≤ (head_in self.now place).strand.count }
         requires newer { Each (λ v. is_at_most bound v ≡ false)
-            (take start.kept (list_in self.now place)) }
+            (take start.kept (tail_in self.now place)) }
         ensures at { IsAt self.now place result }
-        ensures kept { result.kept ≡ length (left_by bound (list_in self.now place)) }
+        ensures kept { result.kept ≡ length (left_by bound (tail_in self.now place)) }
     {
-        let head = self.head(place);
+        let strand = self.strand(place);
         let mut cursor = start;
-        while self.is_newer(head, cursor, bound) {
+        while self.is_newer(strand, cursor, bound) {
             cursor = self.pass(cursor);
         }
         cursor

@@ -12,19 +12,21 @@ ghost use Rattle.hg_chain.specs.Places.{OthersStay, TakesNode, list_at, nodes_of
 use crate::arena::Arena;
 use crate::chain::{Cut, Swept};
 use crate::landmarks::Landmarks;
-use crate::node::Head;
 use crate::version::Stamp;
-use crate::walk::{remove_behind, sweep_all};
+use crate::walk::{remove_all, remove_behind, sweep_all};
 use hg_base::{Image, NoMemory, Steps, Writer};
 use std::alloc::Global;
 use std::marker::Model;
 use std::sync::ledger::Ledger;
 
-/// A chain of versions for each place.
+/// A chain of versions for each place. There is room for so many versions, as many as there were at the same time at most, and for so many
+/// more than there are.
 #[derive(Drop)]
 pub struct Chains {
     arena: Arena,
     landmarks: Landmarks,
+    all: u64,
+    free: u64,
 }
 
 impl Model for Chains {
@@ -32,12 +34,11 @@ impl Model for Chains {
 
     ghost Value = { Places };
 
-    ghost use Rattle.hg_chain.specs.Arenas.{places_in};
-    ghost use Rattle.hg_chain.specs.Landmarks.{Holds};
+    ghost use Rattle.hg_chain.specs.Landmarks.{Holds, places_in};
 
-    ghost view = { λ a. places_in a.arena };
+    ghost view = { λ a. places_in a.arena a.free };
 
-    ghost invariant = { λ a. Holds a.arena a.landmarks };
+    ghost invariant = { λ a. Holds a.arena a.landmarks a.all a.free };
 }
 
 impl Chains {
@@ -48,35 +49,40 @@ impl Chains {
         Chains {
             arena: Arena::new(alloc),
             landmarks: Landmarks::new(alloc),
+            all: 0,
+            free: 0,
         }
     }
 
-    /// How many nodes there are, the free ones included.
+    /// How many versions there is room for.
     pub fn nodes(&self) -> u64
         ensures { result ≡ nodes_of self.now }
     {
-        self.arena.nodes.len() as u64
+        self.all
     }
 
-    /// How many nodes are free.
+    /// How many more than there are.
     pub fn free(&self) -> u64
         ensures { result ≡ self.now.free }
     {
-        u64::from(self.arena.free.count)
+        self.free
     }
 
     /// Whether a place has no version.
     pub fn is_empty(&self, place: u64) -> bool
         ensures { result ≡ (length (list_at self.now place) == 0) }
     {
-        self.arena.head(place).strand.count == 0
+        self.arena.is_empty(place)
     }
 
     /// How many versions a place has.
     pub fn count(&self, place: u64) -> u32
         ensures { result ≡ length (list_at self.now place) }
     {
-        self.arena.head(place).strand.count
+        if self.arena.is_empty(place) {
+            return 0;
+        }
+        self.arena.strand(place).count + 1
     }
 
     /// Who wrote the newest version, and its number if it has one. All others have one.
@@ -84,19 +90,18 @@ impl Chains {
         ensures newest { result ≡ newest (list_at self.now place) }
         ensures others { Each (λ v. IsSome (number_in v.stamp)) (drop 1 (list_at self.now place)) }
     {
-        let Head { strand, is_open } = self.arena.head(place);
-        if strand.count == 0 {
-            return None;
-        }
-        Some(self.arena.nodes[strand.first as usize].stamp(is_open))
+        self.arena.newest(place)
     }
 
     /// What a reader at the snapshot sees.
     pub fn visible(&self, place: u64, at: u64) -> Option<&Image>
         ensures { option_copied result ≡ image_at at (list_at self.now place) }
     {
+        if self.arena.begins_at_most(place, at) {
+            return Some(&self.arena.heads[place as usize].image);
+        }
         let cursor = self.landmarks.passed(&self.arena, place, at);
-        if cursor.kept == self.arena.head(place).strand.count {
+        if cursor.kept == self.arena.strand(place).count {
             return None;
         }
         Some(&self.arena.nodes[cursor.at as usize].image)
@@ -105,27 +110,17 @@ impl Chains {
     fn is_open_by(&self, place: u64, by: Writer) -> bool
         ensures { result ≡ is_open_by by (list_at self.now place) }
     {
-        // Most first versions are not open, which the head tells without their node.
-        if !self.arena.head(place).is_open {
-            return false;
-        }
-        match self.newest(place) {
-            Some(Stamp::Written(writer)) => {
-                writer.session == by.session && writer.transaction == by.transaction
-            }
-            _ => false,
-        }
+        self.arena.is_open_by(place, by)
     }
 
     /// What the transaction wrote itself.
     pub fn own(&self, place: u64, by: Writer) -> Option<&Image>
         ensures { option_copied result ≡ image_by by (list_at self.now place) }
     {
-        let at = self.arena.head(place).strand.first;
-        if !self.is_open_by(place, by) {
+        if !self.arena.is_open_by(place, by) {
             return None;
         }
-        Some(&self.arena.nodes[at as usize].image)
+        Some(&self.arena.heads[place as usize].image)
     }
 
     /// Writes an image. The answer says whether a version was added: the transaction's open write, if it has one, is
@@ -154,10 +149,12 @@ impl Chains {
             self.arena.set_image(place, image);
             return Ok(false);
         }
-        match self.arena.make_room(place) {
+        match self.arena.make_room(place, self.all, self.free) {
             Ok(()) => {
-                self.arena.push(place, by, image);
+                self.arena.write(place, by, image);
                 self.landmarks.note(&self.arena, place);
+                self.all += u64::from(self.free == 0);
+                self.free = self.free.saturating_sub(1);
                 Ok(true)
             }
             Err(refused) => Err((image, refused)),
@@ -174,6 +171,7 @@ impl Chains {
     {
         let _ = by;
         self.arena.undo(place);
+        self.free += 1;
     }
 
     /// Gives the transaction's open write its number.
@@ -197,19 +195,30 @@ impl Chains {
         ensures others { OthersStay place self.old self.new }
         ensures nodes { nodes_of self.new ≡ nodes_of self.old }
     {
+        let others = self.arena.strand(place).count;
+        if self.arena.begins_at_most(place, bound) {
+            let gone = u64::from(others);
+            self.landmarks.clear(place);
+            self.free += gone + 1;
+            return Cut {
+                image: Some(remove_all(&mut self.arena, place)),
+                gone,
+            };
+        }
         let cursor = self.landmarks.passed(&self.arena, place, bound);
-        let all = self.arena.head(place).strand.count;
-        if cursor.kept == all {
+        if cursor.kept == others {
             return Cut {
                 image: None,
                 gone: 0,
             };
         }
-        let others = all - cursor.kept - 1;
+        let more = others - cursor.kept - 1;
+        let gone = u64::from(more);
         self.landmarks.clear(place);
+        self.free += gone + 1;
         Cut {
-            image: Some(remove_behind(&mut self.arena, place, cursor, others)),
-            gone: u64::from(others),
+            image: Some(remove_behind(&mut self.arena, place, cursor, more)),
+            gone,
         }
     }
 
@@ -244,6 +253,7 @@ impl Chains {
     {
         let swept = sweep_all(&mut self.arena, place, base, horizon, snapshots, steps);
         self.landmarks.lose(place, swept.gone);
+        self.free += swept.gone;
         swept
     }
 }

@@ -4,7 +4,7 @@ ghost use Rattle.std.specs.Prelude.{◌≡◌, ◌≢◌, ℕ, ◌+◌, ◌<◌,
 ghost use Rattle.hg_base.specs.Lists.{Each};
 ghost use Rattle.hg_chain.specs.Versions.{IsChain, is_at_most, left_by};
 ghost use Rattle.hg_chain.specs.Strands.{node_at};
-ghost use Rattle.hg_chain.specs.Arenas.{IsArena, IsAt, head_in, list_in};
+ghost use Rattle.hg_chain.specs.Arenas.{IsArena, IsAt, head_in, tail_in};
 ghost use Rattle.hg_chain.specs.Landmarks.{AreLandmarks, HasLandmarks, IsLandmarkIn, landmarks_of};
 
 use crate::arena::Arena;
@@ -73,23 +73,23 @@ impl Landmarks {
         }
     }
 
-    /// Puts a landmark at the third version of a place, if it is as far from the end of its chain as landmarks are, and has none. If
-    /// memory has run out there is no landmark, and reads walk farther.
+    /// Puts a landmark at the third version of a place, which stands in the second node of its strand, if it is as far from the end of its
+    /// chain as landmarks are, and has none. If memory has run out there is no landmark, and reads walk farther.
     pub fn note(&mut self, arena: &Arena, place: u64)
         requires arena { IsArena arena.now }
         requires landmarks { AreLandmarks arena.now self.old }
         ensures landmarks { AreLandmarks arena.now self.new }
     {
-        let Strand { first, count } = arena.head(place).strand;
-        if count <= STRIDE || (count - 2) % STRIDE != 0 || self.height(place) >= count - 2 {
+        let Strand { first, count } = arena.strand(place);
+        if count <= STRIDE || (count - 1) % STRIDE != 0 || self.height(place) >= count - 1 {
             return;
         }
-        let node = arena.next(arena.next(first));
+        let node = arena.next(first);
         let _ = self.add(
             place,
             Landmark {
                 node,
-                height: count - 2,
+                height: count - 1,
             },
         );
     }
@@ -140,41 +140,42 @@ impl Landmarks {
         nearest
     }
 
-    // Where a walk to the versions at the bound starts: before the first version, or after a landmark that is over the bound.
+    // Where a walk to the versions at the bound starts: before the second version, or after a landmark that is over the bound.
     fn start(&self, arena: &Arena, place: u64, bound: u64) -> Cursor
         requires arena { IsArena arena.now }
-        requires chain { IsChain (list_in arena.now place) }
+        requires chain { IsChain (tail_in arena.now place) }
         requires landmarks { HasLandmarks arena.now place (landmarks_of self.now place) }
         ensures at { IsAt arena.now place result }
         ensures within { result.kept ≤ (head_in arena.now place).strand.count }
         ensures newer { Each (λ v. is_at_most bound v ≡ false)
-            (take result.kept (list_in arena.now place)) }
+            (take result.kept (tail_in arena.now place)) }
     {
-        let head = arena.head(place);
+        let count = arena.strand(place).count;
         let start = arena.start(place);
-        if head.strand.count <= STRIDE {
+        if count <= STRIDE {
             return start;
         }
         match self.nearest(arena, place, bound) {
             Some(landmark) => arena.pass(Cursor {
-                kept: head.strand.count - landmark.height,
+                kept: count - landmark.height,
                 last: landmark.node,
                 at: landmark.node,
             }),
             None => start,
         }
     }
-    /// Passes the versions of a place that aren't at the bound. Most readers want the first version, so it is tested before any landmark
-    /// is looked for.
+
+    /// Passes the versions behind the newest that aren't at the bound. Most readers want the first of them, so it is tested before any
+    /// landmark is looked for.
     pub fn passed(&self, arena: &Arena, place: u64, bound: u64) -> Cursor
         requires arena { IsArena arena.now }
-        requires chain { IsChain (list_in arena.now place) }
+        requires chain { IsChain (tail_in arena.now place) }
         requires landmarks { HasLandmarks arena.now place (landmarks_of self.now place) }
         ensures at { IsAt arena.now place result }
-        ensures kept { result.kept ≡ length (left_by bound (list_in arena.now place)) }
+        ensures kept { result.kept ≡ length (left_by bound (tail_in arena.now place)) }
     {
         let first = arena.start(place);
-        if !arena.is_newer(arena.head(place), first, bound) {
+        if !arena.is_newer(arena.strand(place), first, bound) {
             return first;
         }
         arena.passed(place, bound, self.start(arena, place, bound))

@@ -31,25 +31,23 @@
 //!
 //! # Chains
 //!
-//! A bucket has the chains of all its records in one array of nodes (`Chains`), by their places. A head says where the chain of its
-//! place begins, how long it is, and whether the first version is an open write; a node has a version and the number of the next node,
-//! which is older. The free nodes are one more chain, linked the same way. Here place 0 has the versions 9 and 5, place 1 has none,
-//! place 2 has an open write over a 3, and two nodes are free:
+//! A bucket has the chains of all its records in two arrays (`Chains`). The first has a head for each place: its newest version, whether that
+//! is an open write, and where the others are, if there are any. Most reads want the newest version, so they look at the head alone. The
+//! second array has nodes for all other versions. A node has a version, and the number of the next node, which is older. The free nodes are
+//! one more chain, linked the same way. Here place 0 has the versions 9 and 5, place 1 has none, place 2 has an open write over a 3 and a 2,
+//! and two nodes are free:
 //!
-//!     place   first node   length   open          node   0      1         2      3      4         5
-//!     0       2            2                           [ 5 ]  ( free )  [ 9 ]  [ 3 ]  ( free )  [ 3/7 ]
-//!     1       -            0                      next   -      4         0      -      -         3
-//!     2       5            2        yes
-//!     free    1            2
+//!     place   newest     others   first node          node   0      1         2      3      4
+//!     0       [ 9 ]      1        0                          [ 5 ]  ( free )  [ 2 ]  [ 3 ]  ( free )
+//!     1                  0        -                   next   -      4         -      2      -
+//!     2       [ 3/7 ]    2        3
+//!     free               2        1
 //!
-//! Only a write takes a node, and it allocates only if none is free: reads, cuts and sweeps allocate nothing. A node that they remove
-//! from a chain becomes the first free one, and no other node moves. No node is in two chains, since each has one owner, a place or the
-//! free list, and along a chain each ranks below the node before it. Each call does to the list of its place what `Chain`'s call of the
-//! same name does to a single record's, and leaves the others alone.
-//!
-//! A write leaves a place its first node: the version that was there moves to the new node, which is linked after the first (`cover`),
-//! and an undo moves it back (`uncover`). Most reads want the newest version, so the nodes that they read lie close together, in the
-//! order in which the records began, however many versions were written since.
+//! A write puts its version into the head, and the one that was there into a node, before the others; an undo takes it back. Only a write
+//! takes a node, and it allocates only if there were never so many versions at the same time: reads, cuts and sweeps allocate nothing. A
+//! node whose version they remove becomes the first free one, and no other node moves. No node is in two chains, since each has one owner, a
+//! place or the free list, and along a chain each ranks below the node before it. Each call does to the list of its place what `Chain`'s
+//! call of the same name does to a single record's, and leaves the others alone.
 //!
 //! # Landmarks
 //!
@@ -65,8 +63,8 @@
 //! version 517. All versions before it are newer too, so the walk starts there, and ends at most 32 versions on. Chains of up to 32
 //! versions have no landmarks, and a read of the first version looks for none.
 //!
-//! A write puts a landmark at the third version of a chain (`note`): the first two may leave their nodes (`movable`), the others stay in
-//! theirs as long as they are in the chain. An undo leaves all landmarks. A cut or a sweep that removes versions changes heights, so it
+//! A write puts a landmark at the third version of a chain (`note`): the first has no node, and the second may leave its own (`movable`);
+//! the others stay in theirs as long as they are in the chain. An undo leaves all landmarks. A cut or a sweep that removes versions changes heights, so it
 //! removes the place's landmarks, and allocates nothing. A landmark only says where a walk may start: if there is no memory for one, reads
 //! walk farther, and return the same.
 #![tactic(auto)]
@@ -75,6 +73,7 @@ mod arena;
 mod chain;
 mod chains;
 mod cursor;
+mod head;
 mod landmarks;
 mod merge;
 mod node;

@@ -1,13 +1,14 @@
 //! Removals of versions: a version leaves its chain, and its node is free.
 
-ghost use Rattle.std.specs.Prelude.{◌≡◌, ◌+◌, ◌<◌, ◌^◌, ◌∷◌, ◌++◌, false, length, take, drop, if◌then◌else◌, slice_set};
-ghost use Rattle.hg_chain.specs.declared.version.Stamp.TheVariants.{Numbered};
-ghost use Rattle.hg_chain.specs.Strands.{node_at, freed};
-ghost use Rattle.hg_chain.specs.Arenas.{IsArena, IsAt, FreesNode, OthersStayIn, PopsIn, head_in, list_in, nodes_in, chain_in};
+ghost use Rattle.std.specs.Prelude.{◌≡◌, ◌+◌, ◌<◌, ◌^◌, ◌++◌, [], false, length, take, drop, if◌then◌else◌, slice_set, vec_capacity};
+ghost use Rattle.hg_base.specs.declared.image.Image.{Image};
+ghost use Rattle.hg_chain.specs.Strands.{node_at, freed, with_number};
+ghost use Rattle.hg_chain.specs.Arenas.{IsArena, IsAt, FrontsStay, NodesStay, OthersStayIn, PopsIn, head_in, list_in, nodes_in, tail_in};
 
 use crate::arena::Arena;
 use crate::cursor::Cursor;
-use crate::node::{Head, Node, Strand};
+use crate::head::State;
+use crate::node::Strand;
 use hg_base::{Image, Writer};
 use std::mem;
 
@@ -20,6 +21,7 @@ impl Arena {
         ensures nodes { self.new.nodes.items ≡
             slice_set self.old.nodes.items at
             (freed self.old.free.first (node_at self.old.nodes.items at)) }
+        ensures capacity { vec_capacity self.new.nodes ≡ vec_capacity self.old.nodes }
         ensures free { self.new.free ≡ record { first = at; count = self.old.free.count + 1 } }
         ensures held { result ≡
             ((node_at self.old.nodes.items at).number, (node_at self.old.nodes.items at).image) }
@@ -35,31 +37,29 @@ impl Arena {
         (number, image)
     }
 
-    /// Removes the first version of a place.
-    pub fn pop(&mut self, place: u64) -> (u64, Image)
+    // Removes the first of the versions behind the newest.
+    fn pop(&mut self, place: u64) -> (u64, Image)
         requires arena { IsArena self.old }
         requires some { 0 < (head_in self.old place).strand.count }
         ensures arena { IsArena self.new }
-        ensures here { list_in self.new place ≡ drop 1 (list_in self.old place) }
-        ensures behind { PopsIn place self.old self.new }
+        ensures here { tail_in self.new place ≡ drop 1 (tail_in self.old place) }
+        ensures nodes { nodes_in self.new place ≡ drop 1 (nodes_in self.old place) }
+        ensures fronts { FrontsStay self.old self.new }
         ensures first { (head_in self.new place).strand.first ≡
             (node_at self.old.nodes.items (head_in self.old place).strand.first).next }
         ensures others { OthersStayIn place self.old self.new }
-        ensures freed { FreesNode self.old self.new }
+        ensures freed { NodesStay self.old self.new }
         ensures held { result ≡ (
           (node_at self.old.nodes.items (head_in self.old place).strand.first).number,
           (node_at self.old.nodes.items (head_in self.old place).strand.first).image,
         ) }
     {
-        let strand = self.head(place).strand;
-        let head = Head {
-            strand: Strand {
-                first: self.next(strand.first),
-                count: strand.count - 1,
-            },
-            is_open: false,
+        let strand = self.strand(place);
+        let left = Strand {
+            first: self.next(strand.first),
+            count: strand.count - 1,
         };
-        self.set_head(place, head);
+        self.set_strand(place, left);
         self.give(strand.first)
     }
 
@@ -70,94 +70,84 @@ impl Arena {
         requires behind { 0 < cursor.kept }
         requires some { cursor.kept < (head_in self.old place).strand.count }
         ensures arena { IsArena self.new }
-        ensures here { chain_in self.new place ≡ (
-          take cursor.kept (list_in self.old place) ++
-              drop (cursor.kept + 1) (list_in self.old place),
-          take cursor.kept (nodes_in self.old place) ++
-              drop (cursor.kept + 1) (nodes_in self.old place),
-        ) }
+        ensures here { tail_in self.new place ≡
+            take cursor.kept (tail_in self.old place) ++
+            drop (cursor.kept + 1) (tail_in self.old place) }
+        ensures fronts { FrontsStay self.old self.new }
         ensures at { IsAt self.new place
             (record cursor { at = (node_at self.old.nodes.items cursor.at).next }) }
         ensures others { OthersStayIn place self.old self.new }
-        ensures freed { FreesNode self.old self.new }
+        ensures freed { NodesStay self.old self.new }
         ensures held { result ≡ (
           (node_at self.old.nodes.items cursor.at).number,
           (node_at self.old.nodes.items cursor.at).image,
         ) }
     {
-        let Head { strand, is_open } = self.head(place);
-        let head = Head {
-            strand: Strand {
-                first: strand.first,
-                count: strand.count - 1,
-            },
-            is_open,
+        let strand = self.strand(place);
+        let left = Strand {
+            first: strand.first,
+            count: strand.count - 1,
         };
-        self.set_head(place, head);
+        self.set_strand(place, left);
         let next = self.next(cursor.at);
         self.set_next(cursor.last, next);
         self.give(cursor.at)
     }
 
-    // Writes a version that has a number over the first one of a place.
+    // Puts a version that has a number into a head.
     fn set_first(&mut self, place: u64, by: Writer, number: u64, image: Image)
-        requires arena { IsArena self.old }
-        requires some { 0 < (head_in self.old place).strand.count }
-        ensures arena { IsArena self.new }
-        ensures here { list_in self.new place ≡
-            record { stamp = Numbered number by; image = image } ∷ drop 1 (list_in self.old place) }
-        ensures stay { nodes_in self.new place ≡ nodes_in self.old place }
-        ensures others { OthersStayIn place self.old self.new }
-        ensures nodes { length self.new.nodes.items ≡ length self.old.nodes.items }
+        requires { place < length self.old.heads.items }
+        ensures heads { self.new.heads.items ≡ slice_set self.old.heads.items place
+            (with_number by number image (head_in self.old place)) }
+        ensures nodes { self.new.nodes ≡ self.old.nodes }
         ensures free { self.new.free ≡ self.old.free }
     {
-        let strand = self.head(place).strand;
-        let next = self.next(strand.first);
-        self.nodes[strand.first as usize] = Node {
-            next,
-            session: by.session,
-            transaction: by.transaction,
-            number,
-            image,
-        };
-        let head = Head {
-            strand,
-            is_open: false,
-        };
-        self.set_head(place, head);
+        let head = &mut self.heads[place as usize];
+        head.session = by.session;
+        head.state = State::Stamped;
+        head.transaction = by.transaction;
+        head.number = number;
+        head.image = image;
     }
 
-    // Removes the first of two versions or more. The second one comes to its node.
-    fn uncover(&mut self, place: u64)
+    /// Empties a head behind which there are no versions, and hands out the number and the image that were there.
+    pub fn empty(&mut self, place: u64) -> (u64, Image)
         requires arena { IsArena self.old }
-        requires some { 1 < (head_in self.old place).strand.count }
+        requires head { place < length self.old.heads.items }
+        requires alone { (head_in self.old place).strand.count ≡ 0 }
         ensures arena { IsArena self.new }
-        ensures here { list_in self.new place ≡ drop 1 (list_in self.old place) }
-        ensures behind { PopsIn place self.old self.new }
+        ensures here { list_in self.new place ≡ [] }
+        ensures nodes { nodes_in self.new place ≡ [] }
         ensures others { OthersStayIn place self.old self.new }
-        ensures freed { FreesNode self.old self.new }
+        ensures freed { NodesStay self.old self.new }
+        ensures held { result ≡
+            ((head_in self.old place).number, (head_in self.old place).image) }
     {
-        let first = self.start(place);
-        let second = self.pass(first);
-        let by = self.writer(second.at);
-        let (number, image) = self.unlink(place, second);
-        self.set_first(place, by, number, image);
+        let head = &mut self.heads[place as usize];
+        head.state = State::Empty;
+        (
+            head.number,
+            mem::replace(&mut head.image, Image { row: None }),
+        )
     }
 
-    /// Removes the first version of a place, which keeps its first node as long as it has another.
+    /// Removes the newest version of a place. The second one, if there is one, comes to the head, and its node is free.
     pub fn undo(&mut self, place: u64)
         requires arena { IsArena self.old }
-        requires some { 0 < (head_in self.old place).strand.count }
+        requires some { 0 < length (list_in self.old place) }
         ensures arena { IsArena self.new }
         ensures here { list_in self.new place ≡ drop 1 (list_in self.old place) }
         ensures behind { PopsIn place self.old self.new }
         ensures others { OthersStayIn place self.old self.new }
-        ensures freed { FreesNode self.old self.new }
+        ensures freed { NodesStay self.old self.new }
     {
-        if self.head(place).strand.count == 1 {
-            let _ = self.pop(place);
+        let strand = self.strand(place);
+        if strand.count == 0 {
+            let _ = self.empty(place);
         } else {
-            self.uncover(place);
+            let by = self.writer(strand.first);
+            let (number, image) = self.pop(place);
+            self.set_first(place, by, number, image);
         }
     }
 
@@ -167,13 +157,14 @@ impl Arena {
         requires at { IsAt self.old place cursor.old }
         requires some { cursor.old.kept < (head_in self.old place).strand.count }
         ensures arena { IsArena self.new }
-        ensures here { list_in self.new place ≡
-            take cursor.old.kept (list_in self.old place) ++
-            drop (cursor.old.kept + 1) (list_in self.old place) }
+        ensures here { tail_in self.new place ≡
+            take cursor.old.kept (tail_in self.old place) ++
+            drop (cursor.old.kept + 1) (tail_in self.old place) }
+        ensures fronts { FrontsStay self.old self.new }
         ensures at { IsAt self.new place cursor.new }
         ensures kept { cursor.new.kept ≡ cursor.old.kept }
         ensures others { OthersStayIn place self.old self.new }
-        ensures nodes { length self.new.nodes.items ≡ length self.old.nodes.items }
+        ensures nodes { NodesStay self.old self.new }
         ensures held { result ≡ (
           (node_at self.old.nodes.items cursor.old.at).number,
           (node_at self.old.nodes.items cursor.old.at).image,
@@ -194,14 +185,15 @@ impl Arena {
         requires at { IsAt self.old place cursor.old }
         requires some { cursor.old.kept < (head_in self.old place).strand.count }
         ensures arena { IsArena self.new }
-        ensures here { list_in self.new place ≡
-            (if goes then take cursor.old.kept (list_in self.old place) ++
-            drop (cursor.old.kept + 1) (list_in self.old place) else list_in self.old
+        ensures here { tail_in self.new place ≡
+            (if goes then take cursor.old.kept (tail_in self.old place) ++
+            drop (cursor.old.kept + 1) (tail_in self.old place) else tail_in self.old
             place) }
+        ensures fronts { FrontsStay self.old self.new }
         ensures at { IsAt self.new place cursor.new }
         ensures kept { cursor.new.kept ≡ cursor.old.kept + (if goes then 0 else 1) }
         ensures others { OthersStayIn place self.old self.new }
-        ensures nodes { length self.new.nodes.items ≡ length self.old.nodes.items }
+        ensures nodes { NodesStay self.old self.new }
         ensures same { goes ≡ false → self.new ≡ self.old }
     {
         if goes {

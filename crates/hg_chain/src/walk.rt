@@ -1,11 +1,12 @@
 //! Walks along a chain that remove what they meet: all of it, or what no snapshot sees.
 
-ghost use Rattle.std.specs.Prelude.{◌≡◌, ◌+◌, ◌≤◌, length, take, option_to_list};
+ghost use Rattle.std.specs.Prelude.{◌≡◌, ◌≢◌, ◌+◌, ◌≤◌, [], length, take, option_to_list};
 ghost use Rattle.hg_base.specs.Lifetimes.{goes};
 ghost use Rattle.hg_chain.specs.Versions.{IsChain};
 ghost use Rattle.hg_chain.specs.Sweeps.{Rises, swept, swept_away, last_number};
+ghost use Rattle.hg_chain.specs.declared.head.State.TheVariants.{Empty};
 ghost use Rattle.hg_chain.specs.Strands.{node_at};
-ghost use Rattle.hg_chain.specs.Arenas.{IsArena, IsAt, OthersStayIn, RemovesIn, head_in, list_in};
+ghost use Rattle.hg_chain.specs.Arenas.{IsArena, IsAt, FrontsStay, NodesStay, OthersStayIn, RemovesIn, head_in, list_in, tail_in};
 
 use crate::arena::Arena;
 use crate::chain::Swept;
@@ -14,7 +15,24 @@ use crate::merge::Merge;
 use hg_base::{Image, Steps};
 use std::sync::ledger::Ledger;
 
-/// Removes the version before which the walk stands, and so many others behind it, and hands out the first.
+// Removes so many versions: all from that one on before which the walk stands.
+fn remove_rest(arena: &mut Arena, place: u64, cursor: Cursor, many: u32)
+    requires arena { IsArena arena.old }
+    requires at { IsAt arena.old place cursor }
+    requires many { cursor.kept + many ≡ (head_in arena.old place).strand.count }
+    ensures arena { IsArena arena.new }
+    ensures left { tail_in arena.new place ≡ take cursor.kept (tail_in arena.old place) }
+    ensures fronts { FrontsStay arena.old arena.new }
+    ensures others { OthersStayIn place arena.old arena.new }
+    ensures nodes { NodesStay arena.old arena.new }
+{
+    let mut cursor = cursor;
+    for _version in 0..many {
+        let _ = arena.remove(place, &mut cursor);
+    }
+}
+
+/// Removes the version before which the walk stands, and so many others behind it, which are all, and hands out the first.
 pub(crate) fn remove_behind(
     arena: &mut Arena,
     place: u64,
@@ -25,9 +43,10 @@ pub(crate) fn remove_behind(
     requires at { IsAt arena.old place cursor }
     requires others { cursor.kept + others + 1 ≡ (head_in arena.old place).strand.count }
     ensures arena { IsArena arena.new }
-    ensures left { list_in arena.new place ≡ take cursor.kept (list_in arena.old place) }
+    ensures left { tail_in arena.new place ≡ take cursor.kept (tail_in arena.old place) }
+    ensures fronts { FrontsStay arena.old arena.new }
     ensures others { OthersStayIn place arena.old arena.new }
-    ensures nodes { length arena.new.nodes.items ≡ length arena.old.nodes.items }
+    ensures nodes { NodesStay arena.old arena.new }
     ensures held { result ≡ (
       (node_at arena.old.nodes.items cursor.at).number,
       (node_at arena.old.nodes.items cursor.at).image,
@@ -35,13 +54,28 @@ pub(crate) fn remove_behind(
 {
     let mut cursor = cursor;
     let first = arena.remove(place, &mut cursor);
-    for _other in 0..others {
-        let _ = arena.remove(place, &mut cursor);
-    }
+    remove_rest(arena, place, cursor, others);
     first
 }
 
-/// The walk passes each version that stays, and removes the others.
+/// Removes all versions of a place, and hands out the newest.
+pub(crate) fn remove_all(arena: &mut Arena, place: u64) -> (u64, Image)
+    requires arena { IsArena arena.old }
+    requires some { (head_in arena.old place).state ≢ Empty }
+    ensures arena { IsArena arena.new }
+    ensures left { list_in arena.new place ≡ [] }
+    ensures others { OthersStayIn place arena.old arena.new }
+    ensures nodes { NodesStay arena.old arena.new }
+    ensures held { result ≡
+        ((head_in arena.old place).number, (head_in arena.old place).image) }
+{
+    let start = arena.start(place);
+    let others = arena.strand(place).count;
+    remove_rest(arena, place, start, others);
+    arena.empty(place)
+}
+
+/// The walk passes each version that stays, and removes the others. The newest stays: it has no successor.
 pub(crate) fn sweep_all<L: Ledger>(
     arena: &mut Arena,
     place: u64,
@@ -64,15 +98,15 @@ pub(crate) fn sweep_all<L: Ledger>(
         steps.old + length (list_in arena.old place) + length (option_to_list base) +
         length snapshots.now }
 {
-    let all = arena.head(place).strand.count;
+    let all = arena.strand(place).count;
     let mut merge = Merge {
         left: snapshots.len(),
-        successor: None,
+        successor: arena.first_number(place),
     };
     let mut cursor = arena.start(place);
     for _turn in 0..all {
-        let number = arena.number(arena.head(place), cursor);
-        let goes = merge.settle(horizon, snapshots, number, steps);
+        let number = arena.number(cursor.at);
+        let goes = merge.settle(horizon, snapshots, Some(number), steps);
         arena.remove_or_pass(place, &mut cursor, goes);
     }
     Swept {

@@ -1,17 +1,20 @@
 //! Writes of versions: the room for one, an open write in front of a chain, its image and its number.
 
-ghost use Rattle.std.specs.Prelude.{◌≡◌, ◌≢◌, ℕ, ◌+◌, ◌-◌, ◌<◌, ◌^◌, ◌==◌, ◌∷◌, false, length, if◌then◌else◌, slice_set, IsTrue, OnOk, OnErr, IsOk, vec_len, vec_capacity};
+ghost use Rattle.std.specs.Prelude.{◌≡◌, ◌≢◌, ℕ, ◌+◌, ◌-◌, ◌<◌, ◌≤◌, ◌^◌, ◌∷◌, false, length, slice_set, IsTrue, OnOk, OnErr, IsOk, vec_len, vec_capacity};
 ghost use Rattle.hg_base.specs.declared.writer.Writer.{Writer};
+ghost use Rattle.hg_chain.specs.declared.head.State.TheVariants.{Empty};
 ghost use Rattle.hg_chain.specs.Versions.{NoOther, installed, is_open_by, open_write, stamped};
-ghost use Rattle.hg_chain.specs.Strands.{node_at};
-ghost use Rattle.hg_chain.specs.Arenas.{IsArena, HasRoom, OthersStayIn, PushesIn, TakesNodeIn, head_in, list_in, nodes_in, chain_in};
+ghost use Rattle.hg_chain.specs.Strands.{node_at, node_of, version_in, with_open};
+ghost use Rattle.hg_chain.specs.Arenas.{IsArena, HasRoom, FrontsStay, OthersStayIn, PushesIn, head_in, list_in, nodes_in, tail_in, chain_in};
 
 use crate::arena::Arena;
-use crate::node::{Head, Node, Strand};
+use crate::head::{Head, State};
+use crate::node::{Node, Strand};
 use hg_base::{Image, NoMemory, Writer};
 use std::mem;
 
 impl Arena {
+    // Makes sure that a place has a head.
     fn reserve_head(&mut self, place: u64) -> Result<(), NoMemory>
         requires arena { IsArena self.old }
         requires place { place < 2 ^ 40 }
@@ -23,45 +26,52 @@ impl Arena {
         ensures refused { OnErr result (self.new.heads.items ≡ self.old.heads.items) }
         ensures enough { place < length self.old.heads.items → IsOk result }
     {
-        if self.heads.len() as u64 <= place {
-            self.heads.resize(place as usize + 1, Head::EMPTY)?;
+        let many = self.heads.len();
+        if many as u64 <= place {
+            let more = place as usize + 1 - many;
+            self.heads.reserve(more)?;
+            for _head in 0..more {
+                self.heads.push_reserved(Head::empty());
+            }
         }
         Ok(())
     }
 
-    fn reserve_node(&mut self) -> Result<(), NoMemory>
+    // Makes sure that there can be so many nodes.
+    fn reserve_nodes(&mut self, many: u64) -> Result<(), NoMemory>
         ensures heads { self.new.heads ≡ self.old.heads }
         ensures nodes { self.new.nodes.items ≡ self.old.nodes.items }
         ensures free { self.new.free ≡ self.old.free }
-        ensures room { OnOk result (self.old.free.count ≡ 0 →
-            (vec_len self.new.nodes < vec_capacity self.new.nodes) ×
-            (vec_len self.new.nodes + 1 < 2 ^ 32)) }
-        ensures enough { 0 < self.old.free.count → IsOk result }
+        ensures room { OnOk result (many ≤ vec_capacity self.new.nodes) }
+        ensures kept { vec_capacity self.old.nodes ≤ vec_capacity self.new.nodes }
     {
-        if self.free.count > 0 {
-            return Ok(());
-        }
-        if self.nodes.len() >= u32::MAX as usize {
-            return Err(NoMemory);
-        }
-        self.nodes.reserve(1)?;
+        let more = (many as usize).saturating_sub(self.nodes.len());
+        self.nodes.reserve(more)?;
         Ok(())
     }
 
-    /// Makes sure that a version can be added at a place.
-    pub fn make_room(&mut self, place: u64) -> Result<(), NoMemory>
+    /// Makes sure that a version can be added at a place, where there is room for so many versions, and for so many more than there are.
+    pub fn make_room(&mut self, place: u64, all: u64, free: u64) -> Result<(), NoMemory>
         requires arena { IsArena self.old }
         requires place { place < 2 ^ 40 }
+        requires room { all ≤ vec_capacity self.old.nodes }
         ensures arena { IsArena self.new }
-        ensures room { OnOk result (HasRoom self.new place) }
+        ensures head { OnOk result (place < length self.new.heads.items) }
         ensures lists { (q : ℕ) → chain_in self.new q ≡ chain_in self.old q }
         ensures nodes { self.new.nodes.items ≡ self.old.nodes.items }
         ensures free { self.new.free ≡ self.old.free }
+        ensures room { all ≤ vec_capacity self.new.nodes }
+        ensures more { OnOk result (free ≡ 0 →
+            (all + 1 ≤ vec_capacity self.new.nodes) × (all + 1 < 2 ^ 32)) }
         ensures refused { OnErr result (self.new.heads.items ≡ self.old.heads.items) }
-        ensures enough { 0 < self.old.free.count → place < length self.old.heads.items →
-            IsOk result }
+        ensures enough { 0 < free → place < length self.old.heads.items → IsOk result }
     {
-        self.reserve_node()?;
+        if free == 0 {
+            if all >= u64::from(u32::MAX) {
+                return Err(NoMemory);
+            }
+            self.reserve_nodes(all + 1)?;
+        }
         self.reserve_head(place)
     }
 
@@ -73,6 +83,7 @@ impl Arena {
             (vec_len self.old.nodes < vec_capacity self.old.nodes) ×
             (vec_len self.old.nodes + 1 < 2 ^ 32) }
         ensures heads { self.new.heads.items ≡ self.old.heads.items }
+        ensures capacity { vec_capacity self.new.nodes ≡ vec_capacity self.old.nodes }
         ensures here { node_at self.new.nodes.items result ≡ node }
         ensures within { result < length self.new.nodes.items }
         ensures others { (j : ℕ) → j < length self.old.nodes.items → j ≢ result →
@@ -101,21 +112,58 @@ impl Arena {
         at
     }
 
-    // Puts a node in the place of another, and hands that one out.
-    fn replace(&mut self, at: u32, node: Node) -> Node
-        requires { at < length self.old.nodes.items }
-        ensures heads { self.new.heads.items ≡ self.old.heads.items }
-        ensures nodes { self.new.nodes.items ≡ slice_set self.old.nodes.items at node }
-        ensures len { vec_len self.new.nodes ≡ vec_len self.old.nodes }
+    // Puts a version before the others of a place, of which the newest stands in the head.
+    fn push(&mut self, place: u64, node: Node)
+        requires arena { IsArena self.old }
+        requires room { HasRoom self.old place }
+        requires some { (head_in self.old place).state ≢ Empty }
+        requires link { node.next ≡ (head_in self.old place).strand.first }
+        ensures arena { IsArena self.new }
+        ensures here { tail_in self.new place ≡ version_in node ∷ tail_in self.old place }
+        ensures fronts { FrontsStay self.old self.new }
+        ensures behind { PushesIn place self.old self.new }
+        ensures others { OthersStayIn place self.old self.new }
         ensures capacity { vec_capacity self.new.nodes ≡ vec_capacity self.old.nodes }
+    {
+        let Strand { first: _, count } = self.strand(place);
+        let at = self.take(node);
+        self.set_strand(
+            place,
+            Strand {
+                first: at,
+                count: count + 1,
+            },
+        );
+    }
+
+    // Puts an open write into a head, and hands out what was there.
+    fn begin(&mut self, place: u64, by: Writer, image: Image) -> (State, Node)
+        requires { place < length self.old.heads.items }
+        ensures heads { self.new.heads.items ≡ slice_set self.old.heads.items place
+            (with_open by image (head_in self.old place)) }
+        ensures nodes { self.new.nodes ≡ self.old.nodes }
         ensures free { self.new.free ≡ self.old.free }
-        ensures held { result ≡ node_at self.old.nodes.items at }
+        ensures held { result ≡ ((head_in self.old place).state, node_of (head_in self.old place)) }
     {
-        mem::replace(&mut self.nodes[at as usize], node)
+        let head = &mut self.heads[place as usize];
+        let state = head.state;
+        let covered = Node {
+            next: head.strand.first,
+            session: head.session,
+            transaction: head.transaction,
+            number: head.number,
+            image: mem::replace(&mut head.image, image),
+        };
+        head.session = by.session;
+        head.state = State::Open;
+        head.transaction = by.transaction;
+        head.number = 0;
+        (state, covered)
     }
 
-    // Puts an open write before the first node of a place.
-    fn begin(&mut self, place: u64, by: Writer, image: Image)
+    /// Puts an open write in front of the versions of a place: into its head. The version that was there goes to a node, and a node is
+    /// added only where none is free.
+    pub fn write(&mut self, place: u64, by: Writer, image: Image)
         requires arena { IsArena self.old }
         requires room { HasRoom self.old place }
         requires no_other { NoOther by (list_in self.old place) }
@@ -124,116 +172,42 @@ impl Arena {
         ensures here { list_in self.new place ≡ open_write by image ∷ list_in self.old place }
         ensures behind { PushesIn place self.old self.new }
         ensures others { OthersStayIn place self.old self.new }
-        ensures taken { TakesNodeIn self.old self.new }
+        ensures capacity { vec_capacity self.new.nodes ≡ vec_capacity self.old.nodes }
     {
-        let Strand { first, count } = self.head(place).strand;
-        let at = self.take(Node {
-            next: first,
-            session: by.session,
-            transaction: by.transaction,
-            number: 0,
-            image,
-        });
-        let strand = Strand {
-            first: at,
-            count: count + 1,
-        };
-        let head = Head {
-            strand,
-            is_open: true,
-        };
-        self.set_head(place, head);
-    }
-
-    // Puts an open write in the first node of a place. The version that was there goes to the node taken, behind it.
-    fn cover(&mut self, place: u64, by: Writer, image: Image)
-        requires arena { IsArena self.old }
-        requires room { HasRoom self.old place }
-        requires some { 0 < (head_in self.old place).strand.count }
-        requires no_other { NoOther by (list_in self.old place) }
-        requires not_open { is_open_by by (list_in self.old place) ≡ false }
-        ensures arena { IsArena self.new }
-        ensures here { list_in self.new place ≡ open_write by image ∷ list_in self.old place }
-        ensures behind { PushesIn place self.old self.new }
-        ensures others { OthersStayIn place self.old self.new }
-        ensures taken { TakesNodeIn self.old self.new }
-    {
-        let Strand { first, count } = self.head(place).strand;
-        let newest = Node {
-            next: 0,
-            session: by.session,
-            transaction: by.transaction,
-            number: 0,
-            image,
-        };
-        let covered = self.replace(first, newest);
-        let at = self.take(covered);
-        self.set_next(first, at);
-        let strand = Strand {
-            first,
-            count: count + 1,
-        };
-        let head = Head {
-            strand,
-            is_open: true,
-        };
-        self.set_head(place, head);
-    }
-
-    /// Puts an open write in front of the versions of a place. A node is added only where none is free. A place keeps its first
-    /// node as long as it has a version: so the newest versions of all records, which are read most, lie close together.
-    pub fn push(&mut self, place: u64, by: Writer, image: Image)
-        requires arena { IsArena self.old }
-        requires room { HasRoom self.old place }
-        requires no_other { NoOther by (list_in self.old place) }
-        requires not_open { is_open_by by (list_in self.old place) ≡ false }
-        ensures arena { IsArena self.new }
-        ensures here { list_in self.new place ≡ open_write by image ∷ list_in self.old place }
-        ensures behind { PushesIn place self.old self.new }
-        ensures others { OthersStayIn place self.old self.new }
-        ensures taken { TakesNodeIn self.old self.new }
-    {
-        if self.head(place).strand.count == 0 {
-            self.begin(place, by, image);
-        } else {
-            self.cover(place, by, image);
+        let (state, covered) = self.begin(place, by, image);
+        match state {
+            State::Empty => {}
+            State::Open | State::Stamped => self.push(place, covered),
         }
     }
 
-    /// Gives the first version of a place another image.
+    /// Gives the newest version of a place another image.
     pub fn set_image(&mut self, place: u64, image: Image)
         requires arena { IsArena self.old }
-        requires some { 0 < (head_in self.old place).strand.count }
+        requires head { place < length self.old.heads.items }
         ensures arena { IsArena self.new }
         ensures here { (by : Writer) → IsTrue (is_open_by by (list_in self.old place)) →
             list_in self.new place ≡ installed by image (list_in self.old place) }
         ensures stay { nodes_in self.new place ≡ nodes_in self.old place }
         ensures others { OthersStayIn place self.old self.new }
-        ensures nodes { length self.new.nodes.items ≡ length self.old.nodes.items }
-        ensures free { self.new.free ≡ self.old.free }
+        ensures nodes { self.new.nodes ≡ self.old.nodes }
     {
-        let at = self.head(place).strand.first;
-        self.set_image_in(at, image);
+        self.heads[place as usize].image = image;
     }
 
-    /// Gives the first version of a place a number.
+    /// Gives the newest version of a place a number.
     pub fn set_number(&mut self, place: u64, number: u64)
         requires arena { IsArena self.old }
-        requires some { 0 < (head_in self.old place).strand.count }
+        requires head { place < length self.old.heads.items }
         ensures arena { IsArena self.new }
         ensures here { (by : Writer) → IsTrue (is_open_by by (list_in self.old place)) →
             list_in self.new place ≡ stamped by number (list_in self.old place) }
         ensures stay { nodes_in self.new place ≡ nodes_in self.old place }
         ensures others { OthersStayIn place self.old self.new }
-        ensures nodes { length self.new.nodes.items ≡ length self.old.nodes.items }
-        ensures free { self.new.free ≡ self.old.free }
+        ensures nodes { self.new.nodes ≡ self.old.nodes }
     {
-        let strand = self.head(place).strand;
-        self.nodes[strand.first as usize].number = number;
-        let head = Head {
-            strand,
-            is_open: false,
-        };
-        self.set_head(place, head);
+        let head = &mut self.heads[place as usize];
+        head.state = State::Stamped;
+        head.number = number;
     }
 }

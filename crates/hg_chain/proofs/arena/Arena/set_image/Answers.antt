@@ -1,48 +1,36 @@
-use Rattle.std.proofs.Common.{◌≡◌, ◌∙◌, sym, ap, set, subst, arith, refl}
-use Rattle.std.proofs.lemmas.List.{set-get_or}
-use Rattle.hg_chain.specs.declared.node.Node.{Node}
-use Rattle.hg_chain.specs.declared.node.Head.{Head}
-use Rattle.hg_chain.specs.Strands.{node_at, head_at, no_head, AreStrands, versions_of, nodes_of, chain_of}
-use Rattle.hg_chain.proofs.Removals.{first_within}
-use Rattle.hg_chain.proofs.Rewrites.{Rewritten, rewritten, reimaged}
+use Rattle.std.proofs.Common.{◌≡◌, ◌∙◌, ◌++◌, ap, sym}
+use Rattle.std.proofs.lemmas.List.{get_or_read}
+use Rattle.hg_chain.specs.declared.head.Head.{Head}
+use Rattle.hg_chain.specs.Strands.{no_head, front_of}
+use Rattle.hg_chain.specs.Arenas.{head_in, tail_in}
+use Rattle.hg_chain.proofs.Heads.{opened, reimaged, Swapped, swapped}
+use Rattle.hg_chain.proofs.Newest.{none_behind}
 use Rattle.hg_chain.proofs.arena.Arena.set_image.Goals as goal
 
-pub set_image_in-requires : goal.set_image_in-requires
-set_image_in-requires c = let k = first_within c.args.self.now.heads.items c.args.self.now.nodes.items c.args.self.now.free c.requires.arena c.args.place c.requires.some in
-    let e = ap (λ (h : Head). h.strand.first) c.head-at.ensures in omega (arith, e, k)
+read : (c : goal.Joined-index_mut-image) → c.index_mut.result.now ≡ head_in c.args.self.now c.args.place
+read c = get_or_read c.args.self.now.heads.items c.args.place c.index_mut.result.now c.requires.head c.index_mut.ensures.value no_head
 
-abbrev node : goal.After-set_image_in → Node
-node c = record (node_at c.args.self.now.nodes.items (head_at c.args.self.now.heads.items c.args.place).strand.first) { image = c.args.image }
+abbrev new : goal.Joined-index_mut-image → Head
+new c = record c.index_mut.result.now { image = c.args.image }
 
-all : (c : goal.After-set_image_in) → Rewritten c.args.self.now.heads.items c.args.self.now.nodes.items c.args.self.now.free c.args.place (node c)
-    (head_at c.args.self.now.heads.items c.args.place).is_open
-all c = rewritten c.args.self.now.heads.items c.args.self.now.nodes.items c.args.self.now.free c.requires.arena c.args.place (node c)
-    (head_at c.args.self.now.heads.items c.args.place).is_open c.requires.some refl
-
-new_heads : (c : goal.After-set_image_in) → set c.args.self.now.heads.items c.args.place (head_at c.args.self.now.heads.items c.args.place) ≡ c.set_image_in.new.self.heads.items
-new_heads c = set-get_or c.args.self.now.heads.items c.args.place no_head ∙ sym c.set_image_in.ensures.heads
-
-new_nodes : (c : goal.After-set_image_in) → set c.args.self.now.nodes.items (head_at c.args.self.now.heads.items c.args.place).strand.first (node c) ≡ c.set_image_in.new.self.nodes.items
-new_nodes c = let e = ap (λ (h : Head). h.strand.first) c.head-at.ensures in
-    sym (c.set_image_in.ensures.nodes ∙ (λ i. set c.args.self.now.nodes.items (e i) (record (node_at c.args.self.now.nodes.items (e i)) { image = c.args.image })))
+all : (c : goal.Joined-index_mut-image) → Swapped c.args.self.now.heads.items c.args.self.now.nodes.items c.args.self.now.free c.args.place (new c)
+all c = swapped c.args.self.now.heads.items c.args.self.now.nodes.items c.args.self.now.free c.requires.arena.strands c.requires.arena.behind c.args.place (new c) c.requires.head
+    (ap (λ (h : Head). h.strand) (read c)) (λ e. c.requires.arena.behind c.args.place (sym (ap (λ (h : Head). h.state) (read c)) ∙ e))
 
 pub returns-clause-arena : goal.returns-clause-arena
-returns-clause-arena c =
-    let k = all c in
-    let a = subst (λ heads. AreStrands heads (set c.args.self.now.nodes.items (head_at c.args.self.now.heads.items c.args.place).strand.first (node c)) c.args.self.now.free) (new_heads c) k.arena in
-    let b = subst (λ nodes. AreStrands c.set_image_in.new.self.heads.items nodes c.args.self.now.free) (new_nodes c) a in
-    subst (AreStrands c.set_image_in.new.self.heads.items c.set_image_in.new.self.nodes.items) (sym c.set_image_in.ensures.free) b
+returns-clause-arena c = let k = all c in record { strands = k.strands; behind = k.behind }
 
 pub returns-clause-here : goal.returns-clause-here
 returns-clause-here c =
-    λ by open_write.
+    λ by is_open.
+    let a = c.args.self.now in
     let k = all c in
-    let h = head_at c.args.self.now.heads.items c.args.place in
-    (λ i. versions_of (sym (new_nodes c) i) (head_at (sym (new_heads c) i) c.args.place)) ∙ k.here ∙
-    reimaged by c.args.image c.args.self.now.nodes.items h.is_open h.strand.count h.strand.first open_write
+    let o = opened by (head_in a c.args.place) (tail_in a c.args.place) (none_behind a c.args.place c.requires.arena) is_open in
+    k.here ∙ ap (λ (h : Head). front_of (record h { image = c.args.image }) ++ tail_in a c.args.place) (read c) ∙
+    reimaged by c.args.image (head_in a c.args.place) (tail_in a c.args.place) o is_open
 
 pub returns-clause-stay : goal.returns-clause-stay
-returns-clause-stay c = let k = all c in (λ i. nodes_of (sym (new_nodes c) i) (head_at (sym (new_heads c) i) c.args.place)) ∙ k.stay
+returns-clause-stay c = let k = all c in k.stay
 
 pub returns-clause-others : goal.returns-clause-others
-returns-clause-others c = λ q apart. let k = all c in (λ i. chain_of (sym (new_nodes c) i) (head_at (sym (new_heads c) i) q)) ∙ k.others q apart
+returns-clause-others c = let k = all c in k.others

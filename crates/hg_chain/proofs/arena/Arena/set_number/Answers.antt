@@ -1,46 +1,37 @@
-use Rattle.std.proofs.Common.{◌≡◌, ◌∙◌, false, ap, set, arith, refl}
+use Rattle.std.proofs.Common.{◌≡◌, ◌∙◌, ◌++◌, ap}
 use Rattle.std.proofs.lemmas.List.{get_or_read}
-use Rattle.hg_chain.specs.declared.node.Node.{Node}
-use Rattle.hg_chain.specs.declared.node.Head.{Head}
-use Rattle.hg_chain.specs.Strands.{blank, node_at, head_at}
-use Rattle.hg_chain.proofs.Removals.{first_within}
-use Rattle.hg_chain.proofs.Rewrites.{Rewritten, rewritten, renumbered, begun}
+use Rattle.hg_chain.specs.declared.head.State.TheVariants.{Stamped}
+use Rattle.hg_chain.specs.declared.head.Head.{Head}
+use Rattle.hg_chain.specs.Strands.{no_head, front_of}
+use Rattle.hg_chain.specs.Arenas.{head_in, tail_in}
+use Rattle.hg_chain.proofs.Heads.{opened, renumbered, Swapped, swapped}
+use Rattle.hg_chain.proofs.Newest.{none_behind}
 use Rattle.hg_chain.proofs.arena.Arena.set_number.Goals as goal
 
-pub index_mut-requires : goal.index_mut-requires
-index_mut-requires c = let k = first_within c.args.self.now.heads.items c.args.self.now.nodes.items c.args.self.now.free c.requires.arena c.args.place c.requires.some in
-    let e = ap (λ (h : Head). h.strand.first) c.head.ensures in omega (arith, e, k)
+read : (c : goal.After-self-1) → c.index_mut-head.result.now ≡ head_in c.args.self.now c.args.place
+read c = get_or_read c.args.self.now.heads.items c.args.place c.index_mut-head.result.now c.requires.head c.index_mut-head.ensures.value no_head
 
-abbrev node : goal.After-set_head → Node
-node c = record (node_at c.args.self.now.nodes.items (head_at c.args.self.now.heads.items c.args.place).strand.first) { number = c.args.number }
+abbrev new : goal.After-self-1 → Head
+new c = record c.index_mut-head.result.now { state = Stamped; number = c.args.number }
 
-all : (c : goal.After-set_head) → Rewritten c.args.self.now.heads.items c.args.self.now.nodes.items c.args.self.now.free c.args.place (node c) false
-all c = rewritten c.args.self.now.heads.items c.args.self.now.nodes.items c.args.self.now.free c.requires.arena c.args.place (node c) false c.requires.some refl
-
-new_heads : (c : goal.After-set_head) → c.set_head.new.self.heads.items ≡ set c.args.self.now.heads.items c.args.place (begun c.args.self.now.heads.items c.args.place false)
-new_heads c = cc
-
-read : (c : goal.After-set_head) → c.index_mut.result.now ≡ node_at c.args.self.now.nodes.items (head_at c.args.self.now.heads.items c.args.place).strand.first
-read c =
-    let k = first_within c.args.self.now.heads.items c.args.self.now.nodes.items c.args.self.now.free c.requires.arena c.args.place c.requires.some in
-    let e = ap (λ (h : Head). h.strand.first) c.head.ensures in
-    get_or_read c.args.self.now.nodes.items c.head.result.strand.first c.index_mut.result.now (omega (arith, e, k)) c.index_mut.ensures.value blank ∙ ap (node_at c.args.self.now.nodes.items) e
-
-new_nodes : (c : goal.After-set_head) → c.set_head.new.self.nodes.items ≡ set c.args.self.now.nodes.items (head_at c.args.self.now.heads.items c.args.place).strand.first (node c)
-new_nodes c = let e = ap (λ (h : Head). h.strand.first) c.head.ensures in c.set_head.ensures.nodes ∙ (λ i. set c.args.self.now.nodes.items (e i) (record (read c i) { number = c.args.number }))
+all : (c : goal.After-self-1) → Swapped c.args.self.now.heads.items c.args.self.now.nodes.items c.args.self.now.free c.args.place (new c)
+all c = swapped c.args.self.now.heads.items c.args.self.now.nodes.items c.args.self.now.free c.requires.arena.strands c.requires.arena.behind c.args.place (new c) c.requires.head
+    (ap (λ (h : Head). h.strand) (read c)) (λ e. absurd (let k = e in cc))
 
 pub returns-clause-arena : goal.returns-clause-arena
-returns-clause-arena c = let k = all c in rw (new_heads c, new_nodes c, c.set_head.ensures.free) k.arena
+returns-clause-arena c = let k = all c in record { strands = k.strands; behind = k.behind }
 
 pub returns-clause-here : goal.returns-clause-here
 returns-clause-here c =
-    λ by open_write.
+    λ by is_open.
+    let a = c.args.self.now in
     let k = all c in
-    let h = head_at c.args.self.now.heads.items c.args.place in
-    rw (new_heads c, new_nodes c) (k.here ∙ renumbered by c.args.number c.args.self.now.nodes.items h.is_open h.strand.count h.strand.first open_write)
+    let o = opened by (head_in a c.args.place) (tail_in a c.args.place) (none_behind a c.args.place c.requires.arena) is_open in
+    k.here ∙ ap (λ (h : Head). front_of (record h { state = Stamped; number = c.args.number }) ++ tail_in a c.args.place) (read c) ∙
+    renumbered by c.args.number (head_in a c.args.place) (tail_in a c.args.place) o
 
 pub returns-clause-stay : goal.returns-clause-stay
-returns-clause-stay c = let k = all c in rw (new_heads c, new_nodes c) k.stay
+returns-clause-stay c = let k = all c in k.stay
 
 pub returns-clause-others : goal.returns-clause-others
-returns-clause-others c = λ q apart. let k = all c in rw (new_heads c, new_nodes c) (k.others q apart)
+returns-clause-others c = let k = all c in k.others
