@@ -1,37 +1,20 @@
 -- The newest version of a place, in front of the others.
-use Rattle.std.proofs.Common.{◌≡◌, ◌≢◌, ℕ, zero, suc, ◌+◌, ◌-◌, ◌<◌, ◌≤◌, ◌^◌, List, [], ◌∷◌, ◌++◌, length, take, drop, get_or, Bool, true, false, not, cond, Some, None, refl, sym, ap, ◌∙◌, subst, arith, inl, inr}
-use Rattle.std.specs.Prelude.{IsSome, IsTrue, ◌⊎◌, option_map, option_and_then, filter, find, sum_by, nat_le, vec_len, vec_capacity, ◌==◌, if◌then◌else◌}
-use Rattle.std.specs.List.{slice_get}
-use Rattle.std.proofs.lemmas.Bool.{cases_eq}
+use Rattle.std.proofs.Common.{◌≡◌, ℕ, zero, suc, ◌+◌, ◌<◌, List, [], ◌∷◌, ◌++◌, length, true, false, cond, Some, refl, sym, ap, ◌∙◌, subst, arith, inl, inr}
+use Rattle.std.specs.Prelude.{IsTrue, ◌⊎◌, option_map, find, ◌==◌}
 use Rattle.std.proofs.lemmas.Bool.Decides.{Decides-eqb, nat_tests}
-use Rattle.std.proofs.lemmas.List.{take_all}
-use Rattle.std.proofs.lemmas.List.Sums.{length-filter, sum_by-cons}
-use Rattle.std.proofs.lemmas.Option.{slice_get-get_or}
 use Rattle.hg_base.specs.declared.writer.Writer.{Writer}
 use Rattle.hg_base.specs.declared.image.Image.{Image}
-use Rattle.hg_base.specs.Lists.{Each}
 use Rattle.hg_base.proofs.ListFacts.{false_true}
-use Rattle.hg_chain.specs.declared.version.Stamp.{Stamp}
-use Rattle.hg_chain.specs.declared.version.Stamp.TheVariants.{Written, Numbered}
 use Rattle.hg_chain.specs.declared.version.Version.{Version}
 use Rattle.hg_chain.specs.declared.head.State.{State}
 use Rattle.hg_chain.specs.declared.head.State.TheVariants.{Empty, Open, Stamped}
 use Rattle.hg_chain.specs.declared.head.Head.{Head}
-use Rattle.hg_chain.specs.declared.cursor.Cursor.{Cursor}
 use Rattle.hg_chain.specs.declared.arena.Arena.{Arena}
-use Rattle.hg_chain.specs.Versions.{IsChain, IsBelow, NoOther, HasNoOther, begins_at_most, is_at_most, number_in, is_open_by, is_written_by, newest, image_at, image_by, open_write, has_writer, installed, stamped}
-use Rattle.hg_chain.specs.Versions.{left_by, numbered_image, oldest_at, others_at}
-use Rattle.hg_chain.specs.Places.{Places, list_at, OthersStay}
-use Rattle.hg_chain.specs.declared.node.Strand.{Strand}
-use Rattle.hg_chain.specs.Strands.{blank, node_at, head_at, first_writer, front_by, front_of, version_in, versions, versions_of, lists_in, IsStrand, strand_of, AreStrands, NoneBehind}
-use Rattle.hg_chain.specs.Arenas.{IsArena, IsAt, HasRoom, OthersStayIn, head_in, front_in, tail_in, list_in}
-use Rattle.hg_chain.specs.Landmarks.{Holds, HasLandmarks, landmarks_at, landmarks_of, places_in}
-use Rattle.hg_chain.specs.declared.landmarks.Landmarks.{Landmarks}
-use Rattle.hg_chain.proofs.Cuts.{all_numbered, falls_at_most, none_left, kept_first, kept_left, kept_sum}
-use Rattle.hg_chain.proofs.Strands.{list_read, lists_least}
+use Rattle.hg_chain.specs.Versions.{IsChain, begins_at_most, is_open_by, is_written_by, newest, image_by, open_write}
+use Rattle.hg_chain.specs.Strands.{head_at, first_writer, front_by, versions}
+use Rattle.hg_chain.specs.Arenas.{IsArena, head_in, front_in, tail_in, list_in}
 use Rattle.hg_chain.proofs.Heads.{Single, single, none_first}
-use Rattle.hg_chain.proofs.Walks.{version_here, tail_many}
-use Rattle.hg_chain.proofs.LandmarkFacts.{landmarks_after, no_landmarks}
+use Rattle.hg_chain.proofs.Walks.{tail_many}
 
 -- ---- the newest version
 

@@ -1,9 +1,6 @@
 use Rattle.std.proofs.Common.{◌≡◌, ℕ, ◌<◌, List, [], ◌∷◌, ◌++◌, length, drop, refl, sym, ap, ◌∙◌, arith, inl, inr}
 use Rattle.std.specs.Prelude.{◌⊎◌}
-use Rattle.hg_base.specs.declared.writer.Writer.{Writer}
-use Rattle.hg_base.specs.declared.image.Image.{Image}
-use Rattle.hg_chain.specs.declared.arena.Arena.{Arena}
-use Rattle.hg_chain.specs.declared.head.State.TheVariants.{Empty, Stamped}
+use Rattle.hg_chain.specs.declared.head.State.TheVariants.{Empty}
 use Rattle.hg_chain.specs.declared.head.Head.{Head}
 use Rattle.hg_chain.specs.declared.version.Version.{Version}
 use Rattle.hg_chain.specs.declared.version.Stamp.TheVariants.{Numbered}

@@ -1,6 +1,7 @@
 use Rattle.std.proofs.Common.{◌≡◌, ℕ, zero, suc, ◌+◌, None, refl, ap, sym, subst, length, ◌∙◌, arith}
 use Rattle.hg_chain.specs.Versions.{IsChain, image_at}
-use Rattle.hg_chain.specs.Sweeps.{IsClean, swept}
+use Rattle.hg_chain.specs.Sweeps.{IsClean, swept, swept_away, last_number}
+use Rattle.hg_base.specs.Lifetimes.{goes}
 use Rattle.hg_chain.specs.Places.{list_at, nodes_of}
 use Rattle.hg_chain.specs.Arenas.{list_in}
 use Rattle.hg_chain.specs.Landmarks.{HasLandmarks, landmarks_of, places_in}
@@ -42,6 +43,20 @@ invariant_of-self g c =
 pub returns-clause-left : goal.returns-clause-left
 returns-clause-left g c = list_seen c.sweep_all-swept.new.arena (c.self.inside.free + c.sweep_all-swept.result.gone) c.args.place ∙ c.sweep_all-swept.ensures.left ∙
     sym (ap (swept c.args.horizon c.args.snapshots.now) (list_was c.self.inside.arena c.self.inside.free c.args.self.now c.args.place c.self.view_is))
+
+pub returns-clause-gone : goal.returns-clause-gone
+returns-clause-gone g c = c.sweep_all-swept.ensures.gone ∙
+    sym (ap (swept_away c.args.horizon c.args.snapshots.now) (list_was c.self.inside.arena c.self.inside.free c.args.self.now c.args.place c.self.view_is))
+
+pub returns-clause-base_gone : goal.returns-clause-base_gone
+returns-clause-base_gone g c = c.sweep_all-swept.ensures.base_gone ∙
+    sym (ap (λ vs. goes c.args.horizon c.args.snapshots.now (last_number vs) c.args.base) (list_was c.self.inside.arena c.self.inside.free c.args.self.now c.args.place c.self.view_is))
+
+pub returns-clause-cost : goal.returns-clause-cost
+returns-clause-cost g c =
+    let w = ap length (list_was c.self.inside.arena c.self.inside.free c.args.self.now c.args.place c.self.view_is) in
+    let k = c.sweep_all-swept.ensures.cost in
+    omega (arith, w, k)
 
 pub returns-clause-clean : goal.returns-clause-clean
 returns-clause-clean g c =
