@@ -45,7 +45,8 @@ here horizon snapshots top old items kept rest up d v some e s =
       chain = subst IsChain first s.chain;
     }
 
-pub follows : (horizon : ℕ) (snapshots : List ℕ) (top : Option ℕ) (old items : List Version) (kept : ℕ) (up : Option ℕ) (v : Version) → Here horizon snapshots top old items kept up v → Follows up (number_in v.stamp)
+pub follows : (horizon : ℕ) (snapshots : List ℕ) (top : Option ℕ) (old items : List Version) (kept : ℕ) (up : Option ℕ) (v : Version) →
+    Here horizon snapshots top old items kept up v → Follows up (number_in v.stamp)
 follows horizon snapshots top old items kept up v h = under_follows up v (drop (kept + 1) items) h.under
 
 pub stays : (horizon : ℕ) (snapshots : List ℕ) (top : Option ℕ) (old items : List Version) (kept rest : ℕ) (up : Option ℕ) (d v : Version) → 0 < rest → get_or items kept d ≡ v →
@@ -88,7 +89,8 @@ pub record Ended (horizon : ℕ) (snapshots : List ℕ) (top : Option ℕ) (old 
   pub last : up ≡ last_after top old
   pub gone : kept + swept_away_from horizon snapshots top old ≡ length old
 
-pub ended : (horizon : ℕ) (snapshots : List ℕ) (top : Option ℕ) (old items : List Version) (kept : ℕ) (up : Option ℕ) → Settled horizon snapshots top old items kept 0 up → Ended horizon snapshots top old items kept up
+pub ended : (horizon : ℕ) (snapshots : List ℕ) (top : Option ℕ) (old items : List Version) (kept : ℕ) (up : Option ℕ) →
+    Settled horizon snapshots top old items kept 0 up → Ended horizon snapshots top old items kept up
 ended horizon snapshots top old items kept up s =
     let m = s.many in
     let t : take kept items ≡ items = take_all kept items (omega (arith, m)) in

@@ -23,7 +23,8 @@ give-requires-clause-there c =
     let k = unlink c.args.self.now.heads.items c.args.self.now.nodes.items c.args.self.now.free c.requires.arena.strands c.args.place c.args.cursor.kept c.args.cursor.last c.args.cursor.at
     c.requires.behind c.requires.some c.requires.at.at c.requires.at.last in
     let within = k.at_within in
-    let e : length c.set_next.new.self.nodes.items ≡ length c.args.self.now.nodes.items = ap length c.set_next.ensures.nodes ∙ length-set _ _ _ ∙ ap (λ ns. length ns.items) c.set_strand.ensures.nodes in
+    let e : length c.set_next.new.self.nodes.items ≡ length c.args.self.now.nodes.items = ap length c.set_next.ensures.nodes ∙ length-set _ _ _ ∙
+    ap (λ ns. length ns.items) c.set_strand.ensures.nodes in
     omega (arith, e, within)
 
 all : (c : goal.After-give) → Unlinked c.args.self.now.heads.items c.args.self.now.nodes.items c.args.self.now.free c.args.place c.args.cursor.kept c.args.cursor.last c.args.cursor.at

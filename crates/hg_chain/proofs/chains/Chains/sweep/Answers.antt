@@ -75,7 +75,8 @@ pub returns-clause-seen : goal.returns-clause-seen
 returns-clause-seen g c =
     λ s p.
     let a = c.self.inside.arena in
-    ap (image_at s) (list_seen c.sweep_all-swept.new.arena (c.self.inside.free + c.sweep_all-swept.result.gone) c.args.place ∙ c.sweep_all-swept.ensures.left) ∙ seen_same c.args.horizon c.args.snapshots.now (list_in a c.args.place) s p ∙
+    ap (image_at s) (list_seen c.sweep_all-swept.new.arena (c.self.inside.free + c.sweep_all-swept.result.gone) c.args.place ∙ c.sweep_all-swept.ensures.left) ∙
+    seen_same c.args.horizon c.args.snapshots.now (list_in a c.args.place) s p ∙
     sym (ap (image_at s) (list_was a c.self.inside.free c.args.self.now c.args.place c.self.view_is))
 
 pub returns-clause-others : goal.returns-clause-others

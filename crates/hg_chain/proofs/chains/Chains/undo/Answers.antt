@@ -36,7 +36,8 @@ pub invariant_of-self : goal.invariant_of-self
 invariant_of-self c = holds c
 
 pub returns-clause-here : goal.returns-clause-here
-returns-clause-here c = list_seen c.undo.new.self (c.self.inside.free + 1) c.args.place ∙ c.undo.ensures.here ∙ sym (ap (drop 1) (list_was c.self.inside.arena c.self.inside.free c.args.self.now c.args.place c.self.view_is))
+returns-clause-here c = list_seen c.undo.new.self (c.self.inside.free + 1) c.args.place ∙ c.undo.ensures.here ∙
+    sym (ap (drop 1) (list_was c.self.inside.arena c.self.inside.free c.args.self.now c.args.place c.self.view_is))
 
 pub returns-clause-others : goal.returns-clause-others
 returns-clause-others c = others_seen c.self.inside.arena c.undo.new.self c.self.inside.free (c.self.inside.free + 1) c.args.self.now c.args.place c.self.view_is c.undo.ensures.others

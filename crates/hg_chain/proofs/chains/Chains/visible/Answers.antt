@@ -59,4 +59,5 @@ returns c =
     let read : c.index-2.result.now ≡ node_at a.nodes.items c.passed-cursor.result.at = get_or_read a.nodes.items c.passed-cursor.result.at c.index-2.result.now k c.index-2.ensures blank in
     let n = none_reached c.args.at a c.args.place (sym c.begins_at_most.ensures ∙ c.if-begins_at_most.false) in
     let found = n.found ∙ one_found a c.args.place c.args.at c.passed-cursor.result chain c.passed-cursor.ensures.at c.passed-cursor.ensures.kept l in
-    sym (ap (image_at c.args.at) (list_was a c.self.inside.free c.args.self.now c.args.place c.self.view_is) ∙ ap (option_map (λ (v : Version). v.image)) found ∙ sym (ap (λ (n : Node). Some n.image) read))
+    sym (ap (image_at c.args.at) (list_was a c.self.inside.free c.args.self.now c.args.place c.self.view_is) ∙
+    ap (option_map (λ (v : Version). v.image)) found ∙ sym (ap (λ (n : Node). Some n.image) read))
