@@ -3,7 +3,7 @@ use Rattle.std.proofs.Common.{◌≡◌, ◌+◌, ◌<◌, List, [], ◌∷◌, 
 use Rattle.std.specs.Prelude.{is_some, option_map, option_to_list, ◌==◌}
 use Rattle.std.proofs.lemmas.List.{length-map}
 use Rattle.std.proofs.lemmas.Bool.Decides.{nat_tests}
-use Rattle.hg_chain.specs.declared.version.Version.{Version}
+use Rattle.hg_chains.specs.declared.version.Version.{Version}
 use Rattle.hg_space.specs.Places.{Oldest}
 use Rattle.hg_bucket.specs.Parts.{kept, oldest, whole}
 

@@ -4,10 +4,10 @@ use Rattle.std.specs.Prelude.{IsTrue, ⊤}
 use Rattle.hg_base.specs.declared.image.Image.{Image}
 use Rattle.hg_base.specs.declared.writer.Writer.{Writer}
 use Rattle.hg_base.specs.Lists.{Each}
-use Rattle.hg_chain.specs.declared.version.Stamp.{Stamp}
-use Rattle.hg_chain.specs.declared.version.Stamp.TheVariants.{Written, Numbered}
-use Rattle.hg_chain.specs.declared.version.Version.{Version}
-use Rattle.hg_chain.specs.Versions as chain
+use Rattle.hg_chains.specs.declared.version.Stamp.{Stamp}
+use Rattle.hg_chains.specs.declared.version.Stamp.TheVariants.{Written, Numbered}
+use Rattle.hg_chains.specs.declared.version.Version.{Version}
+use Rattle.hg_chains.specs.Versions as chain
 use Rattle.hg_space.specs.Places.{Oldest}
 use Rattle.hg_bucket.specs.BucketModel.{begins_open, stamped, IsBelow}
 use Rattle.hg_bucket.specs.Parts.{kept_as, whole, IsOver}

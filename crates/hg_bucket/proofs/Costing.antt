@@ -6,9 +6,9 @@ use Rattle.std.proofs.lemmas.List.Sums.{sum_by-cons}
 use Rattle.hg_base.specs.declared.rid.Rid.{Rid}
 use Rattle.hg_base.specs.declared.rid.TableId.{TableId}
 use Rattle.hg_base.specs.declared.image.Image.{Image}
-use Rattle.hg_chain.specs.declared.version.Stamp.{Stamp}
-use Rattle.hg_chain.specs.declared.version.Stamp.TheVariants.{Written, Numbered}
-use Rattle.hg_chain.specs.declared.version.Version.{Version}
+use Rattle.hg_chains.specs.declared.version.Stamp.{Stamp}
+use Rattle.hg_chains.specs.declared.version.Stamp.TheVariants.{Written, Numbered}
+use Rattle.hg_chains.specs.declared.version.Version.{Version}
 use Rattle.hg_space.specs.Places.{Oldest}
 use Rattle.hg_bucket.specs.BucketModel.{Kept}
 use Rattle.hg_bucket.specs.Parts.{kept_as, whole}

@@ -5,7 +5,7 @@ use Rattle.std.specs.Map.{remove_entry}
 use Rattle.std.proofs.lemmas.Option.{none-some, same_Some}
 use Rattle.hg_base.specs.declared.rid.Rid.{Rid}
 use Rattle.hg_base.specs.History.{same_rid}
-use Rattle.hg_chain.specs.Places.{Places, list_at}
+use Rattle.hg_chains.specs.Places.{Places, list_at}
 use Rattle.hg_space.specs.Index.{place_of, IsIndex}
 use Rattle.hg_space.specs.Places.{Seat, free, image_at, IsTaken}
 use Rattle.hg_bucket.specs.BucketModel.{versions_of, left, OthersStay}

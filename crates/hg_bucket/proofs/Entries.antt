@@ -18,7 +18,7 @@ use Rattle.hg_base.specs.Lists.{Each}
 use Rattle.hg_base.specs.RidOrder.{rid_cmp}
 use Rattle.hg_base.proofs.RidOrder.{rids_equiv, at_rid, is_same}
 use Rattle.hg_base.proofs.HistoryFacts.{same_rid_equal}
-use Rattle.hg_chain.specs.Places.{Places}
+use Rattle.hg_chains.specs.Places.{Places}
 use Rattle.hg_space.specs.Index.{place_of, IsIndex}
 use Rattle.hg_space.specs.Places.{Seat}
 use Rattle.hg_bucket.specs.BucketModel.{left}

@@ -11,8 +11,8 @@ use Rattle.hg_base.specs.History.{same_rid}
 use Rattle.hg_base.specs.declared.image.Image.{Image}
 use Rattle.hg_base.specs.declared.writer.Writer.{Writer}
 use Rattle.hg_base.proofs.HistoryFacts.{same_rid_equal}
-use Rattle.hg_chain.specs.declared.version.Version.{Version}
-use Rattle.hg_chain.specs.Places.{Places, list_at, OthersStay as ListsStay}
+use Rattle.hg_chains.specs.declared.version.Version.{Version}
+use Rattle.hg_chains.specs.Places.{Places, list_at, OthersStay as ListsStay}
 use Rattle.hg_space.specs.Index.{place_of, IsIndex}
 use Rattle.hg_space.specs.Places.{Seat}
 use Rattle.hg_space.specs.declared.roster.Listed.{Listed}
@@ -21,8 +21,8 @@ use Rattle.hg_space.proofs.RosterFacts.{get_push}
 use Rattle.hg_space.proofs.Entering.{get_more, get_last}
 use Rattle.hg_bucket.specs.BucketModel.{record_at}
 use Rattle.hg_bucket.specs.Parts.{listed, IsListed, AreListed, ListsAlike, Enters}
-use Rattle.hg_chain.specs.Versions as chain
-use Rattle.hg_chain.specs.Sweeps as sweeps
+use Rattle.hg_chains.specs.Versions as chain
+use Rattle.hg_chains.specs.Sweeps as sweeps
 use Rattle.hg_bucket.proofs.Reading.{alike}
 use Rattle.hg_bucket.proofs.Naming.{Comes, bare_free, unnamed}
 use Rattle.hg_bucket.proofs.Seating.{each_place}

@@ -4,9 +4,9 @@ use Rattle.std.specs.Prelude.{option_map, option_to_list}
 use Rattle.std.specs.Bool.{OnFalse}
 use Rattle.hg_base.specs.declared.rid.Rid.{Rid}
 use Rattle.hg_base.specs.Lifetimes.{goes, MayStay}
-use Rattle.hg_chain.specs.Places.{Places, list_at, OthersStay as ListsStay}
-use Rattle.hg_chain.specs.Sweeps as chain
-use Rattle.hg_chain.specs.Sweeps.{last_number, swept_away}
+use Rattle.hg_chains.specs.Places.{Places, list_at, OthersStay as ListsStay}
+use Rattle.hg_chains.specs.Sweeps as chain
+use Rattle.hg_chains.specs.Sweeps.{last_number, swept_away}
 use Rattle.hg_space.specs.Index.{place_of, IsIndex}
 use Rattle.hg_space.specs.Places.{Seat, taken, image_at}
 use Rattle.hg_space.specs.declared.roster.Listed.{Listed}

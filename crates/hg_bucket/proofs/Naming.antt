@@ -7,10 +7,10 @@ use Rattle.hg_base.specs.declared.rid.Rid.{Rid}
 use Rattle.hg_base.specs.History.{same_rid}
 use Rattle.hg_base.specs.Lists.{Each}
 use Rattle.hg_base.specs.RidOrder.{rid_cmp}
-use Rattle.hg_chain.specs.declared.version.Stamp.{Stamp}
-use Rattle.hg_chain.specs.declared.version.Stamp.TheVariants.{Written, Numbered}
-use Rattle.hg_chain.specs.declared.version.Version.{Version}
-use Rattle.hg_chain.specs.Places.{Places, list_at, OthersStay as ListsStay}
+use Rattle.hg_chains.specs.declared.version.Stamp.{Stamp}
+use Rattle.hg_chains.specs.declared.version.Stamp.TheVariants.{Written, Numbered}
+use Rattle.hg_chains.specs.declared.version.Version.{Version}
+use Rattle.hg_chains.specs.Places.{Places, list_at, OthersStay as ListsStay}
 use Rattle.hg_space.specs.Index.{place_of, IsIndex}
 use Rattle.hg_space.specs.Places.{Seat, free, image_at, IsTaken}
 use Rattle.hg_bucket.specs.BucketModel.{versions_of, left, OthersStay}

@@ -4,7 +4,7 @@ use Rattle.std.specs.Prelude.{IsFalse, IfSome, Result, Ok, Err}
 use Rattle.hg_base.specs.declared.rid.Rid.{Rid}
 use Rattle.hg_base.specs.declared.image.Image.{Image}
 use Rattle.hg_base.specs.declared.writer.Writer.{Writer}
-use Rattle.hg_chain.specs.Places.{Places}
+use Rattle.hg_chains.specs.Places.{Places}
 use Rattle.hg_space.specs.Index.{place_of}
 use Rattle.hg_space.specs.Places.{Seat}
 use Rattle.hg_bucket.specs.declared.refusal.WriteRefusal.{WriteRefusal}

@@ -8,11 +8,11 @@ use Rattle.hg_base.specs.declared.rid.TableId.{TableId}
 use Rattle.hg_base.specs.declared.image.Image.{Image}
 use Rattle.hg_base.specs.declared.writer.Writer.{Writer}
 use Rattle.hg_base.specs.History.{same_rid}
-use Rattle.hg_chain.specs.declared.version.Stamp.{Stamp}
-use Rattle.hg_chain.specs.declared.version.Stamp.TheVariants.{Written, Numbered}
-use Rattle.hg_chain.specs.declared.version.Version.{Version}
-use Rattle.hg_chain.specs.Versions as chain
-use Rattle.hg_chain.specs.Places.{Places, list_at}
+use Rattle.hg_chains.specs.declared.version.Stamp.{Stamp}
+use Rattle.hg_chains.specs.declared.version.Stamp.TheVariants.{Written, Numbered}
+use Rattle.hg_chains.specs.declared.version.Version.{Version}
+use Rattle.hg_chains.specs.Versions as chain
+use Rattle.hg_chains.specs.Places.{Places, list_at}
 use Rattle.hg_space.specs.Index as index
 use Rattle.hg_space.specs.Index.{place_of}
 use Rattle.hg_space.specs.Places.{Seat, Oldest, image_at}

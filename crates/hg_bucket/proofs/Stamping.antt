@@ -4,9 +4,9 @@ use Rattle.std.specs.Prelude.{IsTrue}
 use Rattle.hg_base.specs.declared.rid.Rid.{Rid}
 use Rattle.hg_base.specs.declared.writer.Writer.{Writer}
 use Rattle.hg_base.specs.Lists.{Each}
-use Rattle.hg_chain.specs.declared.version.Version.{Version}
-use Rattle.hg_chain.specs.Versions as chain
-use Rattle.hg_chain.specs.Places.{Places, list_at, OthersStay as ListsStay}
+use Rattle.hg_chains.specs.declared.version.Version.{Version}
+use Rattle.hg_chains.specs.Versions as chain
+use Rattle.hg_chains.specs.Places.{Places, list_at, OthersStay as ListsStay}
 use Rattle.hg_space.specs.Index.{place_of, IsIndex}
 use Rattle.hg_space.specs.Places.{Seat, Oldest, image_at}
 use Rattle.hg_bucket.specs.BucketModel.{Kept, versions_of, left, begins_open, stamped, IsBelow, OthersStay}

@@ -2,10 +2,10 @@
 use Rattle.std.proofs.Common.{◌≡◌, ℕ, ◌+◌, ◌<◌, ◌≤◌, List, length, Bool, true, false, Option, Some, None, sym, ap, ◌∙◌, cond, subst, set, not, arith}
 use Rattle.std.specs.Bool.{OnFalse}
 use Rattle.hg_base.specs.declared.rid.Rid.{Rid}
-use Rattle.hg_chain.specs.declared.version.Version.{Version}
-use Rattle.hg_chain.specs.Places.{Places, list_at, OthersStay as ListsStay}
-use Rattle.hg_chain.specs.Sweeps as chain
-use Rattle.hg_chain.specs.Sweeps.{last_number, swept_away}
+use Rattle.hg_chains.specs.declared.version.Version.{Version}
+use Rattle.hg_chains.specs.Places.{Places, list_at, OthersStay as ListsStay}
+use Rattle.hg_chains.specs.Sweeps as chain
+use Rattle.hg_chains.specs.Sweeps.{last_number, swept_away}
 use Rattle.hg_base.specs.Lifetimes.{goes, MayStay}
 use Rattle.hg_space.specs.Index.{place_of, IsIndex}
 use Rattle.hg_space.specs.Places.{Seat, Oldest, taken, image_at}

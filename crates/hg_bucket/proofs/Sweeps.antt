@@ -8,16 +8,16 @@ use Rattle.hg_base.specs.declared.image.Image.{Image}
 use Rattle.hg_base.specs.declared.writer.Writer.{Writer}
 use Rattle.hg_base.specs.Lists.{Each}
 use Rattle.hg_base.proofs.ListFacts.{cases}
-use Rattle.hg_chain.specs.declared.version.Stamp.{Stamp}
-use Rattle.hg_chain.specs.declared.version.Stamp.TheVariants.{Written, Numbered}
-use Rattle.hg_chain.specs.declared.version.Version.{Version}
-use Rattle.hg_chain.specs.Versions.{number_in}
-use Rattle.hg_chain.specs.Sweeps as chain
-use Rattle.hg_chain.specs.Sweeps.{last_number, swept_away}
+use Rattle.hg_chains.specs.declared.version.Stamp.{Stamp}
+use Rattle.hg_chains.specs.declared.version.Stamp.TheVariants.{Written, Numbered}
+use Rattle.hg_chains.specs.declared.version.Version.{Version}
+use Rattle.hg_chains.specs.Versions.{number_in}
+use Rattle.hg_chains.specs.Sweeps as chain
+use Rattle.hg_chains.specs.Sweeps.{last_number, swept_away}
 use Rattle.hg_base.specs.Lifetimes.{goes, MayStay, IsGuarded}
-use Rattle.hg_chain.proofs.Sweeps as runs
-use Rattle.hg_chain.proofs.Sweeps.{last_after, last_of_all, swept_sum}
-use Rattle.hg_chain.proofs.Readers.{lies, over_horizon, in_use_stays}
+use Rattle.hg_chains.proofs.Sweeps as runs
+use Rattle.hg_chains.proofs.Sweeps.{last_after, last_of_all, swept_sum}
+use Rattle.hg_chains.proofs.Readers.{lies, over_horizon, in_use_stays}
 use Rattle.hg_space.specs.Places.{Oldest}
 use Rattle.hg_bucket.specs.BucketModel.{Kept, is_at_most, is_open_by, read_at}
 use Rattle.hg_bucket.specs.Sweeping.{with_successors, goes_after, swept, IsClean}

@@ -4,10 +4,10 @@ use Rattle.std.specs.Prelude.{IsTrue, ⊤, slice_index_or}
 use Rattle.hg_base.specs.declared.rid.Rid.{Rid}
 use Rattle.hg_base.specs.declared.image.Image.{Image}
 use Rattle.hg_base.specs.Lists.{Each}
-use Rattle.hg_chain.specs.declared.version.Stamp.{Stamp}
-use Rattle.hg_chain.specs.declared.version.Stamp.TheVariants.{Written, Numbered}
-use Rattle.hg_chain.specs.declared.version.Version.{Version}
-use Rattle.hg_chain.specs.Places.{Places, list_at}
+use Rattle.hg_chains.specs.declared.version.Stamp.{Stamp}
+use Rattle.hg_chains.specs.declared.version.Stamp.TheVariants.{Written, Numbered}
+use Rattle.hg_chains.specs.declared.version.Version.{Version}
+use Rattle.hg_chains.specs.Places.{Places, list_at}
 use Rattle.hg_space.specs.Places as seat
 use Rattle.hg_space.specs.Places.{Seat, Oldest, image_at, IsTaken, free}
 use Rattle.hg_space.specs.Index.{AreTaken, place_of}

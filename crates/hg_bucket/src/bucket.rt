@@ -10,7 +10,7 @@ ghost use Rattle.hg_base.specs.declared.rid.Rid.{Rid};
 ghost use Rattle.hg_bucket.specs.declared.refusal.WriteRefusal.TheVariants.{Open, Newer};
 ghost use Rattle.hg_bucket.specs.Conflicts.{holder, newer, IsCause};
 ghost use Rattle.hg_base.specs.declared.writer.Writer.{Writer};
-ghost use Rattle.hg_chain.specs.Sweeps.{Rises};
+ghost use Rattle.hg_chains.specs.Sweeps.{Rises};
 ghost use Rattle.hg_base.specs.Lifetimes.{IsGuarded};
 ghost use Rattle.hg_bucket.specs.Sweeping.{swept, IsClean, record_steps, sweep_steps};
 ghost use Rattle.hg_bucket.specs.Long.{AreLong};

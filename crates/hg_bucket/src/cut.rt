@@ -9,7 +9,7 @@ ghost use Rattle.hg_space.specs.Index.{place_of, IsIndex};
 use crate::places::{Placed, drop_bare, leave_bare, settle};
 use crate::records::Records;
 use hg_base::{Rid, TableId};
-use hg_chain::{Chains, Cut};
+use hg_chains::{Chains, Cut};
 use hg_space::{RidIndex, Roster, TableSpace};
 
 impl Records {

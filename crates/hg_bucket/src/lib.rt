@@ -7,7 +7,7 @@
 //!                   3       [ written by 1/2 ]
 //!
 //! Each record has a place from its first write on, with its chain and its oldest image, each in an array of its own (`Chains` of
-//! `hg_chain`, `TableSpace` of `hg_space`). So a read or a write looks in the index once, and finds the rest by number; and a cut puts
+//! `hg_chains`, `TableSpace` of `hg_space`). So a read or a write looks in the index once, and finds the rest by number; and a cut puts
 //! an image at the place without allocating. A free place has neither chain nor image, and every other place has at least one of them.
 //! A record that loses its last version is dropped, and its place is free again.
 //!

@@ -3,8 +3,8 @@
 ghost use Rattle.std.specs.Prelude.{◌≡◌, ◌+◌, ◌<◌, ◌^◌, ◌==◌, List, length, is_some, slice_set, not, IsOk, IsTrue, IfOk, OnOk, OnErr, None, Some, nat_lt, if◌then◌else◌, option_map, option_and_then};
 ghost use Rattle.std.specs.Option.{option_copied, option_or};
 ghost use Rattle.std.specs.Bool.{OnTrue, OnFalse};
-ghost use Rattle.hg_chain.specs.Places.{list_at, OthersStay as ListsStay};
-ghost use Rattle.hg_chain.specs.Versions.{image_by, image_at, installed, is_open_by, NoOther};
+ghost use Rattle.hg_chains.specs.Places.{list_at, OthersStay as ListsStay};
+ghost use Rattle.hg_chains.specs.Versions.{image_by, image_at, installed, is_open_by, NoOther};
 ghost use Rattle.hg_space.specs.Places as seat;
 ghost use Rattle.hg_space.specs.Places.{IsTaken};
 ghost use Rattle.hg_space.specs.Index.{place_of, IsIndex};
@@ -17,7 +17,7 @@ ghost use Rattle.hg_bucket.specs.Parts.{oldest_by, settled, whole, records_of, A
 
 use crate::refusal::{WriteRefusal, refusal};
 use hg_base::{Image, NoMemory, Rid, Writer};
-use hg_chain::Chains;
+use hg_chains::Chains;
 use hg_space::{RidIndex, Roster, TableSpace};
 
 /// A record, and its place.

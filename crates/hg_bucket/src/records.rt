@@ -13,7 +13,7 @@ ghost use Rattle.hg_bucket.specs.BucketModel.{keys_in, versions_of, begins_open,
 use crate::places::{self, Placed, drop_bare, leave_bare};
 use crate::refusal::WriteRefusal;
 use hg_base::{Image, NoMemory, Rid, TableId, Writer};
-use hg_chain::Chains;
+use hg_chains::Chains;
 use hg_space::{RidIndex, Roster, TableSpace};
 use std::alloc::Global;
 use std::marker::Model;

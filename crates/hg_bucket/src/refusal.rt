@@ -6,7 +6,7 @@ ghost use Rattle.hg_bucket.specs.Conflicts.{conflict, open_by};
 ghost use Rattle.hg_bucket.specs.Parts.{kept_as};
 
 use hg_base::{NoMemory, Writer};
-use hg_chain::Stamp;
+use hg_chains::Stamp;
 use thiserror::Error;
 
 /// The first of these that is so.

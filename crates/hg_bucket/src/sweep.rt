@@ -2,7 +2,7 @@
 
 ghost use Rattle.std.specs.Prelude.{◌≡◌, ℕ, ◌+◌, ◌≤◌, ◌^◌, length, Some, slice_get};
 ghost use Rattle.hg_base.specs.declared.rid.Rid.{Rid};
-ghost use Rattle.hg_chain.specs.Sweeps.{Rises};
+ghost use Rattle.hg_chains.specs.Sweeps.{Rises};
 ghost use Rattle.hg_bucket.specs.Sweeping.{swept, IsClean, record_steps, sweep_steps};
 ghost use Rattle.hg_bucket.specs.BucketModel.{keys_in, versions_of, OthersStay, record_at, left};
 

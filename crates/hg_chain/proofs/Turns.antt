@@ -2,12 +2,12 @@
 use Rattle.std.proofs.Common.{◌≡◌, ℕ, ◌+◌, ◌<◌, ◌≤◌, List, [], ◌∷◌, ◌++◌, ◌-◌, length, Bool, true, false, Option, None, refl, ap, sym, ◌∙◌, subst, arith}
 use Rattle.std.specs.Prelude.{cond}
 use Rattle.hg_base.proofs.ListFacts.{append_nil}
-use Rattle.hg_chain.specs.declared.version.Version.{Version}
-use Rattle.hg_chain.specs.Versions.{number_in, IsChain}
-use Rattle.hg_chain.specs.Sweeps.{last_number, swept, swept_away}
+use Rattle.hg_chains.specs.declared.version.Version.{Version}
+use Rattle.hg_chains.specs.Versions.{number_in, IsChain}
+use Rattle.hg_chains.specs.Sweeps.{last_number, swept, swept_away}
 use Rattle.hg_base.specs.Lifetimes.{goes}
-use Rattle.hg_chain.specs.Merging.{Follows}
-use Rattle.hg_chain.proofs.Sweeps.{Under, under_next, under_follows, swept_from, last_after, last_of_all, swept_goes, swept_stays, swept_sum}
+use Rattle.hg_chains.specs.Merging.{Follows}
+use Rattle.hg_chains.proofs.Sweeps.{Under, under_next, under_follows, swept_from, last_after, last_of_all, swept_goes, swept_stays, swept_sum}
 
 -- before is not settled yet, kept is what stays of the others, and both stand in items
 pub record Turned (horizon : ℕ) (snapshots : List ℕ) (old items : List Version) (rest : ℕ) (up : Option ℕ) : Type 0 where

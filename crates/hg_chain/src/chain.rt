@@ -5,13 +5,12 @@ ghost use Rattle.std.specs.Bool.{OnFalse};
 ghost use Rattle.std.specs.Option.{option_copied};
 ghost use Rattle.std.specs.VecDeque.{deque_capacity, deque_len};
 ghost use Rattle.hg_base.specs.Lists.{Each};
-ghost use Rattle.hg_chain.specs.Sweeps.{Rises, swept, swept_away, last_number, IsClean};
+ghost use Rattle.hg_chains.specs.Sweeps.{Rises, swept, swept_away, last_number, IsClean};
 ghost use Rattle.hg_base.specs.Lifetimes.{goes, MayStay, IsGuarded};
-ghost use Rattle.hg_chain.specs.Versions.{IsChain, NoOther, IsBelow, number_in, is_open_by, image_at, image_by, installed, stamped, left_by, newest, oldest_at, others_at, numbered_image, is_at_most};
+ghost use Rattle.hg_chains.specs.Versions.{IsChain, NoOther, IsBelow, number_in, is_open_by, image_at, image_by, installed, stamped, left_by, newest, oldest_at, others_at, numbered_image, is_at_most};
 
-use crate::merge::Merge;
-use crate::version::{Stamp, Version};
 use hg_base::{Image, NoMemory, Steps, Writer};
+use hg_chains::{Cut, Merge, Stamp, Swept, Version};
 use std::alloc::Global;
 use std::collections::VecDeque;
 use std::marker::Model;
@@ -25,29 +24,15 @@ pub struct Chain {
 
 impl Model for Chain {
     ghost use Rattle.std.specs.Prelude.{List};
-    ghost use Rattle.hg_chain.specs.declared.version.Version.{Version};
+    ghost use Rattle.hg_chains.specs.declared.version.Version.{Version};
 
     ghost Value = { List Version };
 
-    ghost use Rattle.hg_chain.specs.Versions.{IsChain};
+    ghost use Rattle.hg_chains.specs.Versions.{IsChain};
 
     ghost view = { λ a. a.versions.items };
 
     ghost invariant = { λ a. IsChain a.versions.items };
-}
-
-/// What a cut took away: the newest version at the bound, by its number and image, and how many others.
-#[derive(Debug, Drop)]
-pub struct Cut {
-    pub image: Option<(u64, Image)>,
-    pub gone: u64,
-}
-
-/// How many versions a sweep took away, and whether the oldest image that stands behind them is to go too.
-#[derive(Clone, Copy, Debug)]
-pub struct Swept {
-    pub gone: u64,
-    pub base_gone: bool,
 }
 
 impl Chain {

@@ -5,12 +5,12 @@ use Rattle.hg_base.specs.declared.writer.Writer.{Writer}
 use Rattle.hg_base.specs.declared.image.Image.{Image}
 use Rattle.hg_base.specs.Lists.{Each}
 use Rattle.hg_base.proofs.ListFacts.{each_keeps}
-use Rattle.hg_chain.specs.declared.version.Stamp.{Stamp}
-use Rattle.hg_chain.specs.declared.version.Stamp.TheVariants.{Written, Numbered}
-use Rattle.hg_chain.specs.declared.version.Version.{Version}
-use Rattle.hg_chain.specs.Versions.{HasBelow, HasNoOther, IsBelow, NoOther, is_open_by, installed, left_by, number_in, stamped}
-use Rattle.hg_chain.specs.Places.{Places, OthersStay, list_at}
-use Rattle.hg_chain.specs.Sweeps.{goes_after, swept, with_successors}
+use Rattle.hg_chains.specs.declared.version.Stamp.{Stamp}
+use Rattle.hg_chains.specs.declared.version.Stamp.TheVariants.{Written, Numbered}
+use Rattle.hg_chains.specs.declared.version.Version.{Version}
+use Rattle.hg_chains.specs.Versions.{HasBelow, HasNoOther, IsBelow, NoOther, is_open_by, installed, left_by, number_in, stamped}
+use Rattle.hg_chains.specs.Places.{Places, OthersStay, list_at}
+use Rattle.hg_chains.specs.Sweeps.{goes_after, swept, with_successors}
 
 lower : (number n : ℕ) (s : Stamp) → number < n → HasBelow number s → HasBelow n s
 lower number n (Written w) less h = h

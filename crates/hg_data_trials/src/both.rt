@@ -2,9 +2,9 @@
 
 ghost use Rattle.std.specs.Prelude.{◌≡◌, ◌+◌, ◌<◌, ◌^◌};
 ghost use Rattle.hg_base.specs.Lists.{Each};
-ghost use Rattle.hg_chain.specs.Places.{OthersStay, list_at};
-ghost use Rattle.hg_chain.specs.Sweeps.{Rises, swept};
-ghost use Rattle.hg_chain.specs.Versions.{IsBelow};
+ghost use Rattle.hg_chains.specs.Places.{OthersStay, list_at};
+ghost use Rattle.hg_chains.specs.Sweeps.{Rises, swept};
+ghost use Rattle.hg_chains.specs.Versions.{IsBelow};
 
 use crate::calls::{Call, call_of, image};
 use crate::writes::{put_alone, put_at, undo_alone, undo_at};

@@ -2,8 +2,8 @@
 
 ghost use Rattle.std.specs.Prelude.{◌+◌, ◌<◌, ◌^◌};
 ghost use Rattle.hg_base.specs.Lists.{Each};
-ghost use Rattle.hg_chain.specs.Places.{OthersStay, list_at};
-ghost use Rattle.hg_chain.specs.Versions.{IsBelow};
+ghost use Rattle.hg_chains.specs.Places.{OthersStay, list_at};
+ghost use Rattle.hg_chains.specs.Versions.{IsBelow};
 
 use crate::calls::BY;
 use hg_base::Image;

@@ -3,7 +3,7 @@ use Rattle.std.proofs.Common.{ℕ, zero, suc, ◌≤◌, ◌<◌, List, [], ◌�
 use Rattle.std.specs.Prelude.{slice_index_or}
 use Rattle.std.specs.List.Sorted.{IsNonDecreasing}
 use Rattle.hg_base.specs.Lists.{Each}
-use Rattle.hg_chain.specs.Sweeps.{Rises}
+use Rattle.hg_chains.specs.Sweeps.{Rises}
 
 each_over : (a : ℕ) (xs : List ℕ) → ((k : ℕ) → k < length xs → a ≤ slice_index_or xs k 0) → Each (λ b. a ≤ b) xs
 each_over a [] f = tt

@@ -1,6 +1,6 @@
 use Rattle.std.proofs.Common.{◌+◌, length, sym, ap, ◌∙◌, Some, arith, List}
-use Rattle.hg_chain.specs.Places.{list_at}
-use Rattle.hg_chain.specs.Versions.{left_by}
+use Rattle.hg_chains.specs.Places.{list_at}
+use Rattle.hg_chains.specs.Versions.{left_by}
 use Rattle.hg_space.specs.Places.{image_at}
 use Rattle.hg_bucket.specs.BucketModel.{Kept}
 use Rattle.hg_bucket.specs.Parts.{records_of, settled}

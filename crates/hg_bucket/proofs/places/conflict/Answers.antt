@@ -1,6 +1,6 @@
 use Rattle.std.proofs.Common.{sym, ◌∙◌}
 use Rattle.hg_space.specs.Places.{image_at}
-use Rattle.hg_chain.specs.Places.{list_at}
+use Rattle.hg_chains.specs.Places.{list_at}
 use Rattle.hg_bucket.proofs.Installing.{conflict_of_chain, conflict_of_oldest, all_free, free_chain, none_free}
 use Rattle.hg_bucket.proofs.places.conflict.Goals as goal
 

@@ -1,6 +1,6 @@
 use Rattle.std.proofs.Common.{length, sym, ap, ◌∙◌}
 use Rattle.std.specs.Prelude.{is_some}
-use Rattle.hg_chain.specs.Places.{list_at}
+use Rattle.hg_chains.specs.Places.{list_at}
 use Rattle.hg_space.specs.Places.{image_at, free}
 use Rattle.hg_bucket.specs.Parts.{seat_at}
 use Rattle.hg_bucket.proofs.Seating.{freed_here, seat_apart}

@@ -1,8 +1,8 @@
 use Rattle.std.proofs.Common.{◌≡◌, ◌<◌, ◌∷◌, ap, sym, ◌∙◌, subst, arith}
-use Rattle.hg_chain.specs.Versions.{number_in}
+use Rattle.hg_chains.specs.Versions.{number_in}
 use Rattle.hg_base.specs.Lifetimes.{goes}
-use Rattle.hg_chain.specs.Merging.{Follows}
-use Rattle.hg_chain.proofs.Merges.{none_behind}
+use Rattle.hg_chains.specs.Merging.{Follows}
+use Rattle.hg_chains.proofs.Merges.{none_behind}
 use Rattle.hg_chain.proofs.Turns.{Turned, begun, turn, follows, ended_length}
 use Rattle.hg_chain.proofs.chain.sweep_all.Goals as goal
 

@@ -1,5 +1,5 @@
 use Rattle.std.proofs.Common.{◌≡◌, ◌+◌, ◌≤◌, length}
-use Rattle.hg_chain.specs.Merging.{HasPassed}
+use Rattle.hg_chains.specs.Merging.{HasPassed}
 use Rattle.hg_chain.proofs.Turns.{Turned}
 use Rattle.hg_chain.proofs.chain.sweep_all.Given as goal
 

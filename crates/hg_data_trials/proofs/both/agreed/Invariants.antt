@@ -1,6 +1,6 @@
 use Rattle.hg_base.specs.Lists.{Each}
-use Rattle.hg_chain.specs.Places.{list_at}
-use Rattle.hg_chain.specs.Versions.{IsBelow}
+use Rattle.hg_chains.specs.Places.{list_at}
+use Rattle.hg_chains.specs.Versions.{IsBelow}
 use Rattle.hg_data_trials.proofs.both.agreed.Given as goal
 
 abbrev pub invariant-loop-text : goal.invariant-loop-text

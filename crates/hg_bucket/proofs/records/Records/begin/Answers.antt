@@ -1,6 +1,6 @@
 use Rattle.std.proofs.Common.{◌≡◌, ◌+◌, None, sym, ap, ◌∙◌, subst}
-use Rattle.hg_chain.specs.Places.{list_at}
-use Rattle.hg_chain.specs.Versions as chain
+use Rattle.hg_chains.specs.Places.{list_at}
+use Rattle.hg_chains.specs.Versions as chain
 use Rattle.hg_space.specs.Index.{place_of}
 use Rattle.hg_bucket.specs.BucketModel.{versions_of, OthersStay, left}
 use Rattle.hg_bucket.specs.Parts.{records_of, longs_of, AreKept, AreListed, ListsAlike}

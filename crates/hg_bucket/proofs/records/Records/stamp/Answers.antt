@@ -1,7 +1,7 @@
 use Rattle.std.proofs.Common.{◌<◌, length, sym, ap, ◌∙◌, subst, drop}
 use Rattle.std.specs.Prelude.{IsTrue}
 use Rattle.hg_base.specs.Lists.{Each}
-use Rattle.hg_chain.specs.Places.{list_at}
+use Rattle.hg_chains.specs.Places.{list_at}
 use Rattle.hg_space.specs.Places.{image_at}
 use Rattle.hg_bucket.specs.BucketModel.{begins_open, versions_of, IsBelow, stamped, OthersStay, left}
 use Rattle.hg_bucket.specs.Parts.{records_of}

@@ -4,7 +4,7 @@ use Rattle.hg_bucket.specs.BucketModel.{begins_open, versions_of, OthersStay, le
 use Rattle.hg_bucket.specs.Parts.{records_of}
 use Rattle.hg_bucket.proofs.Stamping.{open_at, open_placed, undoes, others_then}
 use Rattle.hg_bucket.specs.Parts.{Recorded}
-use Rattle.hg_chain.specs.Places.{list_at}
+use Rattle.hg_chains.specs.Places.{list_at}
 use Rattle.hg_bucket.proofs.Listing.{open_some, stands}
 use Rattle.hg_bucket.proofs.Leaving.{may_leave}
 use Rattle.hg_bucket.proofs.records.Records.undo.Goals as goal

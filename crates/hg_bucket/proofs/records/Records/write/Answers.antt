@@ -1,6 +1,6 @@
 use Rattle.std.proofs.Common.{◌<◌, length, Ok, sym, ap, ◌∙◌, subst, not, refl}
 use Rattle.std.proofs.lemmas.Result.{err_from_is_err_and}
-use Rattle.hg_chain.specs.Places.{list_at}
+use Rattle.hg_chains.specs.Places.{list_at}
 use Rattle.hg_space.specs.Places.{image_at}
 use Rattle.hg_bucket.specs.BucketModel.{versions_of, begins_open}
 use Rattle.hg_bucket.specs.Conflicts.{conflict}

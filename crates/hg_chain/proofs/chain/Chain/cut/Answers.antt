@@ -1,6 +1,6 @@
 use Rattle.std.proofs.Common.{◌≡◌, ◌∙◌, sym, ap, subst, take}
-use Rattle.hg_chain.specs.Versions.{IsChain, left_by}
-use Rattle.hg_chain.proofs.Cuts.{left_is_chain}
+use Rattle.hg_chains.specs.Versions.{IsChain, left_by}
+use Rattle.hg_chains.proofs.Cuts.{left_is_chain}
 use Rattle.hg_chain.proofs.chain.Chain.cut.Goals as goal
 
 pub invariant_of-self : goal.invariant_of-self

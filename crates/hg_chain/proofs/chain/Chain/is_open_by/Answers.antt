@@ -1,6 +1,6 @@
 use Rattle.std.proofs.Common.{subst}
-use Rattle.hg_chain.specs.Versions.{IsChain}
-use Rattle.hg_chain.proofs.Cuts.{unopened}
+use Rattle.hg_chains.specs.Versions.{IsChain}
+use Rattle.hg_chains.proofs.Cuts.{unopened}
 use Rattle.hg_chain.proofs.chain.Chain.is_open_by.Goals as goal
 
 pub returns-clause-none : goal.returns-clause-none

@@ -1,6 +1,6 @@
 use Rattle.std.proofs.Common.{subst, arith}
-use Rattle.hg_chain.specs.Versions.{IsChain}
-use Rattle.hg_chain.proofs.Cuts.{kept_left, kept_first, kept_sum}
+use Rattle.hg_chains.specs.Versions.{IsChain}
+use Rattle.hg_chains.proofs.Cuts.{kept_left, kept_first, kept_sum}
 use Rattle.hg_chain.proofs.chain.Chain.kept_by.Goals as goal
 
 pub returns-clause-left : goal.returns-clause-left

@@ -1,9 +1,9 @@
 use Rattle.std.proofs.Common.{◌∙◌, ap, None, sym, subst}
-use Rattle.hg_chain.specs.Versions.{IsChain, image_at}
-use Rattle.hg_chain.specs.Sweeps.{IsClean}
-use Rattle.hg_chain.proofs.Sweeps.{swept_is_chain}
-use Rattle.hg_chain.proofs.Cleanness.{all_clean, base_stays}
-use Rattle.hg_chain.proofs.Readers.{seen_same}
+use Rattle.hg_chains.specs.Versions.{IsChain, image_at}
+use Rattle.hg_chains.specs.Sweeps.{IsClean}
+use Rattle.hg_chains.proofs.Sweeps.{swept_is_chain}
+use Rattle.hg_chains.proofs.Cleanness.{all_clean, base_stays}
+use Rattle.hg_chains.proofs.Readers.{seen_same}
 use Rattle.hg_chain.proofs.chain.Chain.sweep.Goals as goal
 
 pub invariant_of-self : goal.invariant_of-self
