@@ -9,14 +9,14 @@ use Rattle.hg_words.specs.declared.options.Options.{Options}
 use Rattle.hg_words.specs.Options.{options_of}
 use Rattle.hg_script.specs.Fields.{rows_of}
 use Rattle.hg_script.specs.Meaning.{refusal_of, script_of}
-use Rattle.hg_run.specs.declared.status.Status.{Status}
-use Rattle.hg_run.specs.declared.status.Status.TheVariants.{Done, Usage, BadScript, ReadFault, WriteFault, TooLong, NoMemory}
+use Rattle.hg_streams.specs.declared.status.Status.{Status}
+use Rattle.hg_streams.specs.declared.status.Status.TheVariants.{Done, Usage, BadScript, ReadFault, WriteFault, TooLong, NoMemory}
 use Rattle.hg_run.specs.Words.{AsksFor, IsMaking, IsReading, Task, audits, dumps, makes, reads, task_of}
-use Rattle.hg_run.specs.Streams.{Change, FailsToRead, Gives, HasFailed, IsTooLong, ReadsAll}
+use Rattle.hg_streams.specs.Streams.{Change, FailsToRead, Gives, HasFailed, IsTooLong, ReadsAll}
 use Rattle.hg_run.specs.Serving.{Answers, IsScriptIn, Refuses, WritesAll, WritesExactly, WritesPart, Comes, IsUnlessNoMemory}
 use Rattle.hg_run.specs.Printing.{AreExact}
-use Rattle.hg_run.specs.Parting.{AreParts}
-use Rattle.hg_run.proofs.Parted.{one_script}
+use Rattle.hg_streams.specs.Parting.{AreParts}
+use Rattle.hg_streams.proofs.Parted.{one_script}
 
 -- what was read to the end is all there was
 whole : (before after : Option (List ℕ)) (all bytes : List ℕ) → before ≡ Some all → Consumes before after bytes → IsAtEnd after → all ≡ bytes

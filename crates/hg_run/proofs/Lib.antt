@@ -1,6 +1,3 @@
--- Two steps are one, and bytes are parted in one way.
-mod Known
-mod Parted
 -- When each status comes.
 mod Exactly
 -- What is printed of a run, and of one that is read.

@@ -5,7 +5,7 @@ use Rattle.hg_script.specs.Meaning.{refusal_of, script_of}
 use Rattle.hg_audit.specs.declared.verdict.Verdict.{Verdict}
 use Rattle.hg_audit.specs.declared.verdict.Verdict.TheVariants.{Sound}
 use Rattle.hg_audit.specs.Verdict.{IsAudit, IsSoundText, verdict_text}
-use Rattle.hg_run.specs.Parting.{AreParts}
+use Rattle.hg_streams.specs.Parting.{AreParts}
 
 -- The bytes are a script and a text; the script breaks no rule; and the answer is the line of the verdict on the text, which is `Sound`
 -- exactly where the text is sound for the script.

@@ -12,11 +12,11 @@ use Rattle.hg_exact.specs.Replayed.{plain, replayed}
 use Rattle.hg_script.specs.declared.code.Code.{Code}
 use Rattle.hg_script.specs.Fields.{rows_of}
 use Rattle.hg_script.specs.Meaning.{refusal_of, script_of}
-use Rattle.hg_run.specs.declared.status.Status.{Status}
-use Rattle.hg_run.specs.declared.status.Status.TheVariants.{Done, Usage, BadScript, ReadFault, WriteFault, TooLong, NoMemory}
+use Rattle.hg_streams.specs.declared.status.Status.{Status}
+use Rattle.hg_streams.specs.declared.status.Status.TheVariants.{Done, Usage, BadScript, ReadFault, WriteFault, TooLong, NoMemory}
 use Rattle.hg_seed.specs.Generator.{IsMade}
-use Rattle.hg_run.specs.Parting.{AreParts}
-use Rattle.hg_run.specs.Streams.{Change, FailsToRead, Gives, HasFailed, IsTooLong, ReadsAll}
+use Rattle.hg_streams.specs.Parting.{AreParts}
+use Rattle.hg_streams.specs.Streams.{Change, FailsToRead, Gives, HasFailed, IsTooLong, ReadsAll}
 use Rattle.hg_words.specs.Options.{options_of}
 use Rattle.hg_run.specs.Words.{AsksFor, IsMaking, IsReading, Settings, Task, audits, dumps, makes, reads}
 use Rattle.hg_run.specs.Dumping.{IsDumpedFor}

@@ -5,10 +5,9 @@ ghost use Rattle.hg_run.specs.Judging.{IsJudgedBy};
 ghost use Rattle.hg_run.specs.Serving.{RefusesBytes};
 ghost use Rattle.hg_run.specs.Words.{audits};
 
-use crate::parts::part;
-use crate::status::Status;
 use hg_audit::{audit, verdict_line};
 use hg_script::read_script;
+use hg_streams::{Status, part};
 use std::alloc::Global;
 
 /// The line of the verdict on the text that follows the script.

@@ -25,32 +25,24 @@
 //! sound next to a reader of all tables at a snapshot, and two dumps of the history that it prints follow: at that snapshot, and at the
 //! end.
 //!
-//! A source is read to its end (`read_all`), and a text is written to a sink (`write_all`). Both count their faults, and may show their
-//! bytes. What was read is a prefix of what the source had (`HasGiven`), and what a sink took is a prefix of the text: the whole text,
-//! unless the sink failed. `Status` says how a call ended.
+//! Reading the source, writing to the sink and the statuses are in `hg_streams`.
 #![tactic(auto)]
 
 mod audit;
 mod dump;
 mod laws;
 mod load;
-mod parts;
 mod replay;
 mod run;
-mod sink;
-mod source;
-mod standard;
-mod status;
 mod steady;
 mod steps;
 
 pub use hg_collectors::{Collectors, IntervalWorker, NoGate, Plan};
 pub use hg_drivers::{Reader, close, dump_on, open_beside, open_for, replay_on, run_on};
 pub use hg_fit::{rows_have_their_columns, what_is_sound_fits};
+pub use hg_streams::{Status, StdinSource, StdoutSink};
 pub use laws::{
     replays_print_the_same, text_determines_what_was_printed, what_is_sound_with_a_reader_fits,
 };
-pub use standard::{StdinSource, StdoutSink};
-pub use status::Status;
 pub use steady::serve_steadily;
 pub use steps::serve;

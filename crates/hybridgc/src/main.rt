@@ -10,7 +10,7 @@
 
 ghost use Rattle.std.specs.Prelude.{◌≡◌, ◌↔◌};
 ghost use Rattle.std.specs.Process.{exit_status};
-ghost use Rattle.hg_run.specs.Status.{exit_code_of};
+ghost use Rattle.hg_streams.specs.Status.{exit_code_of};
 ghost use Rattle.std_io.specs.IoError.{error_kind};
 ghost use Rattle.std_io.specs.declared.io.kind.ErrorKind.TheVariants.{OutOfMemory};
 

@@ -1,6 +1,6 @@
 use Rattle.std.proofs.Common.{map}
 use Rattle.std.specs.Prelude.{string_bytes}
-use Rattle.hg_run.specs.Streams.{change_of}
+use Rattle.hg_streams.specs.Streams.{change_of}
 use Rattle.hg_run.proofs.Exactly.{bad_script, complete, exact, loaded, sound, too_long, usage}
 use Rattle.hg_run.proofs.steps.serve.Goals as goal
 

@@ -1,7 +1,7 @@
 use Rattle.std.proofs.Common.{ℕ, arith, length-append}
 use Rattle.std.proofs.lemmas.List.{length-take}
-use Rattle.hg_run.proofs.Known.{consumes-more}
-use Rattle.hg_run.proofs.source.read_all.Goals as goal
+use Rattle.hg_streams.proofs.Known.{consumes-more}
+use Rattle.hg_streams.proofs.source.read_all.Goals as goal
 
 pub returns-in_err-extend_from_slice-clause-no_more : goal.returns-in_err-extend_from_slice-clause-no_more
 returns-in_err-extend_from_slice-clause-no_more g c = record {

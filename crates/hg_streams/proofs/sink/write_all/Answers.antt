@@ -1,8 +1,8 @@
 use Rattle.std.proofs.Common.{arith, length-drop}
 use Rattle.std.proofs.lemmas.List.{take_rest}
 use Rattle.std.proofs.Math.Seq.{take-add}
-use Rattle.hg_run.proofs.Known.{appends-more}
-use Rattle.hg_run.proofs.sink.write_all.Goals as goal
+use Rattle.hg_streams.proofs.Known.{appends-more}
+use Rattle.hg_streams.proofs.sink.write_all.Goals as goal
 
 pub loop-at-preserved : goal.loop-at-preserved
 loop-at-preserved g c =

@@ -1,7 +1,7 @@
 //! How a call ended.
 
 ghost use Rattle.std.specs.Prelude.{◌≡◌};
-ghost use Rattle.hg_run.specs.Status.{exit_code_of};
+ghost use Rattle.hg_streams.specs.Status.{exit_code_of};
 
 use crate::source::ReadError;
 use hg_base::{MOST_SCRIPT_BYTES, NoMemory};
@@ -45,7 +45,7 @@ impl Status {
 // What the program says of it: nothing of `Done`.
 impl fmt::Display for Status {
     ghost use Rattle.std.specs.Prelude.{Some};
-    ghost use Rattle.hg_run.specs.Status.{said_of};
+    ghost use Rattle.hg_streams.specs.Status.{said_of};
 
     ghost output = { λ status. Some (said_of status) };
 
@@ -67,7 +67,7 @@ impl fmt::Display for Status {
 
 impl From<WordsRefusal> for Status {
     ghost use Rattle.std.specs.Prelude.{◌≡◌};
-    ghost use Rattle.hg_run.specs.Status.{status_of_words};
+    ghost use Rattle.hg_streams.specs.Status.{status_of_words};
 
     ghost from_gives = { λ e s. s ≡ status_of_words e };
 
@@ -81,7 +81,7 @@ impl From<WordsRefusal> for Status {
 
 impl From<ReadError> for Status {
     ghost use Rattle.std.specs.Prelude.{◌≡◌};
-    ghost use Rattle.hg_run.specs.Status.{status_of_read};
+    ghost use Rattle.hg_streams.specs.Status.{status_of_read};
 
     ghost from_gives = { λ e s. s ≡ status_of_read e };
 
@@ -96,7 +96,7 @@ impl From<ReadError> for Status {
 
 impl From<ScriptRefusal> for Status {
     ghost use Rattle.std.specs.Prelude.{◌≡◌};
-    ghost use Rattle.hg_run.specs.Status.{status_of_script};
+    ghost use Rattle.hg_streams.specs.Status.{status_of_script};
 
     ghost from_gives = { λ e s. s ≡ status_of_script e };
 
@@ -110,7 +110,7 @@ impl From<ScriptRefusal> for Status {
 
 impl From<NoMemory> for Status {
     ghost use Rattle.std.specs.Prelude.{◌≡◌};
-    ghost use Rattle.hg_run.specs.declared.status.Status.TheVariants as status;
+    ghost use Rattle.hg_streams.specs.declared.status.Status.TheVariants as status;
 
     ghost from_gives = { λ _ s. s ≡ status.NoMemory };
 

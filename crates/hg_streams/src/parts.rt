@@ -2,7 +2,7 @@
 
 ghost use Rattle.std.specs.Prelude.{ℕ, ◌+◌, ◌≤◌, length, Decides, IfSome, IsTrue};
 ghost use Rattle.std.specs.Option.{MatchOption};
-ghost use Rattle.hg_run.specs.Parting.{AreParts, IsFirstAt, IsLineAt};
+ghost use Rattle.hg_streams.specs.Parting.{AreParts, IsFirstAt, IsLineAt};
 
 // Whether the line that parts a source follows the first `k` bytes.
 fn is_line_at(bytes: &[u8], k: usize) -> bool

@@ -6,10 +6,10 @@ use Rattle.hg_script.specs.declared.refusal.ScriptRefusal.{ScriptRefusal}
 use Rattle.hg_script.specs.declared.refusal.ScriptRefusal.TheVariants as refusal
 use Rattle.hg_words.specs.declared.options.WordsRefusal.{WordsRefusal}
 use Rattle.hg_words.specs.declared.options.WordsRefusal.TheVariants as words
-use Rattle.hg_run.specs.declared.source.ReadError.{ReadError}
-use Rattle.hg_run.specs.declared.source.ReadError.TheVariants as error
-use Rattle.hg_run.specs.declared.status.Status.{Status}
-use Rattle.hg_run.specs.declared.status.Status.TheVariants.{Done, Usage, BadScript, ReadFault, WriteFault, TooLong, NoMemory}
+use Rattle.hg_streams.specs.declared.source.ReadError.{ReadError}
+use Rattle.hg_streams.specs.declared.source.ReadError.TheVariants as error
+use Rattle.hg_streams.specs.declared.status.Status.{Status}
+use Rattle.hg_streams.specs.declared.status.Status.TheVariants.{Done, Usage, BadScript, ReadFault, WriteFault, TooLong, NoMemory}
 
 -- the exit status of the program
 abbrev pub exit_code_of : Status → ℕ

@@ -1,7 +1,7 @@
 -- Bytes are parted in one way.
 use Rattle.std.proofs.Common.{◌≡◌, ◌∙◌, ℕ, List, take, sym, ap, inl, inr}
 use Rattle.std.proofs.lemmas.Bool.{cases_order}
-use Rattle.hg_run.specs.Parting.{AreParts, IsFirstAt}
+use Rattle.hg_streams.specs.Parting.{AreParts, IsFirstAt}
 
 first_is_one : (bytes : List ℕ) (j k : ℕ) → IsFirstAt bytes j → IsFirstAt bytes k → j ≡ k
 first_is_one bytes j k a b = elim (cases_order j k) [

@@ -1,7 +1,7 @@
 //! Standard input and output as a source and a sink. What they hold is not known: this is the trusted edge.
 
 ghost use Rattle.std.specs.Prelude.{◌≡◌, None};
-ghost use Rattle.hg_run.specs.Standard.{failed_reads, failed_writes};
+ghost use Rattle.hg_streams.specs.Standard.{failed_reads, failed_writes};
 
 use hg_base::{Failed, Sink, Source};
 use std::io::{Read, Stdin, Stdout, Write};

@@ -3,7 +3,7 @@
 ghost use Rattle.std.specs.Prelude.{◌≡◌, ◌+◌, ◌≤◌, ℕ, List, length, IfOk, OnOk, IsErrOf};
 ghost use Rattle.std.specs.Io.KnownBytes.{Consumes, IsAtEnd};
 ghost use Rattle.hg_base.specs.Faults.{Rose};
-ghost use Rattle.hg_run.specs.Streams.{HasGiven, change_of};
+ghost use Rattle.hg_streams.specs.Streams.{HasGiven, change_of};
 
 use hg_base::{Failed, MOST_SCRIPT_BYTES, Source};
 use std::alloc::{AllocError, Global};
@@ -18,7 +18,7 @@ pub enum ReadError {
 
 impl From<Failed> for ReadError {
     ghost use Rattle.std.specs.Prelude.{◌≡◌};
-    ghost use Rattle.hg_run.specs.declared.source.ReadError.TheVariants as error;
+    ghost use Rattle.hg_streams.specs.declared.source.ReadError.TheVariants as error;
 
     ghost from_gives = { λ _ e. e ≡ error.Fault };
 
@@ -29,7 +29,7 @@ impl From<Failed> for ReadError {
 
 impl From<AllocError> for ReadError {
     ghost use Rattle.std.specs.Prelude.{◌≡◌};
-    ghost use Rattle.hg_run.specs.declared.source.ReadError.TheVariants as error;
+    ghost use Rattle.hg_streams.specs.declared.source.ReadError.TheVariants as error;
 
     ghost from_gives = { λ _ e. e ≡ error.NoMemory };
 

@@ -1,7 +1,7 @@
 -- The faults that standard input and output count.
 use Rattle.std.specs.Prelude.{ℕ}
-use Rattle.hg_run.specs.declared.standard.StdinSource.{StdinSource}
-use Rattle.hg_run.specs.declared.standard.StdoutSink.{StdoutSink}
+use Rattle.hg_streams.specs.declared.standard.StdinSource.{StdinSource}
+use Rattle.hg_streams.specs.declared.standard.StdoutSink.{StdoutSink}
 
 -- the reads that failed
 abbrev pub failed_reads : StdinSource → ℕ
