@@ -1,5 +1,5 @@
 -- What is driven next to a reader, and closed then, is sound with the reader's transactions.
-use Rattle.std.proofs.Common.{◌≡◌, ℕ, suc, List, [], ◌∷◌, ◌++◌, ◌≤◌, length, map, None, inl, refl, sym, ap, ◌∙◌, subst, arith}
+use Rattle.std.proofs.Common.{◌≡◌, ℕ, suc, List, [], ◌∷◌, ◌≤◌, length, map, None, inl, refl, sym, ap, ◌∙◌, subst, arith}
 use Rattle.std.specs.Prelude.{if◌then◌else◌, max}
 use Rattle.std.specs.declared.alloc.Global.{Global}
 use Rattle.hg_backup.specs.Reader.{HasReadAll, IsSoundWith, reader_of}

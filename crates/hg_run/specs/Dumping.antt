@@ -1,5 +1,6 @@
 -- What a dump prints.
 use Rattle.std.specs.Prelude.{◌≡◌, ℕ, ◌≤◌, List, [], ◌∷◌, ◌++◌, length, codes, decimal}
+use Rattle.std.specs.declared.alloc.Global.{Global}
 use Rattle.hg_backup.specs.Reader.{IsSoundWith, reader_of}
 use Rattle.hg_base.specs.declared.line.Line.{Line}
 use Rattle.hg_base.specs.declared.line.Printed.{Printed}
@@ -12,6 +13,14 @@ use Rattle.hg_base.specs.Transcript.{history_of}
 use Rattle.hg_csv.specs.Bytes.{record_bytes}
 use Rattle.hg_source.specs.Records.{dump_text}
 use Rattle.hg_source.specs.Rows.{rows_at}
+use Rattle.hg_rule.specs.declared.passes.SessionPass.{SessionPass}
+use Rattle.hg_rule.specs.Seats.{session_view, IsSessionOf}
+use Rattle.hg_session.specs.declared.engine.Engine.{Engine}
+use Rattle.hg_session.specs.declared.session.Session.{Session}
+use Rattle.hg_session.specs.Engines.{engine_board_id, engine_sizes}
+use Rattle.hg_collectors.specs.declared.collectors.Collectors.{Collectors}
+use Rattle.hg_drivers.specs.Driven.{HasDrivenAll}
+use Rattle.hg_drivers.specs.Reader.{HasDumped, IsReadAndClosed}
 use Rattle.hg_run.specs.declared.dump.Dumps.{Dumps}
 use Rattle.hg_run.specs.Printing.{ReportsRoundsWith}
 use Rattle.hg_fit.specs.Modes.{rounds_beside}
@@ -42,6 +51,19 @@ pub record IsDumpedFor (settings : Settings) (script : Script) (text : List ℕ)
   pub same : text ≡ text_of record_bytes script printed
       ++ (dump_part script (printed_history settings script printed.lines) at
       ++ dump_part script (printed_history settings script printed.lines) (length (printed_history settings script printed.lines)))
+
+-- A run next to a reader printed these lines of the sessions and the collectors that an engine had before. The reader appended a dump while
+-- they ran, and one more after they had ended, and the totals are those of what they and the reader left.
+pub record HasRunAndRead (alloc : Global) (e : Engine) (long rounds : ℕ) (script : Script) (old : List Session) (before : Collectors) (pass : SessionPass) (was : Dumps)
+    (lines : List Line) (totals : Totals) (dumps : Dumps) : Type 0 where
+  pub new : List Session
+  pub after : Collectors
+  pub middle : SessionPass
+  pub driven : HasDrivenAll (engine_sizes e) long rounds script.records old before lines new after
+  pub many : length new ≡ length old
+  pub dumped : HasDumped e script dumps.at (session_view pass) (session_view middle) was.first.items dumps.first.items
+  pub own : IsSessionOf (engine_board_id e) (engine_sizes e) middle
+  pub closed : IsReadAndClosed alloc e script new after middle was.last.items dumps.last.items totals dumps.end
 
 -- The lines and the totals of a run with a reader, and what it read: the first dump at a snapshot, and the last one at the end of the
 -- history that the lines print.

@@ -10,15 +10,19 @@ ghost use Rattle.hg_base.specs.Script.{Script, run};
 ghost use Rattle.hg_base.specs.Text.{text_of};
 ghost use Rattle.hg_csv.specs.Bytes.{record_bytes};
 ghost use Rattle.hg_script.specs.Lawful.{IsLawful};
+ghost use Rattle.hg_session.specs.Engines.{engine_sizes};
 ghost use Rattle.hg_words.specs.Options.{AreWithin};
-ghost use Rattle.hg_run.specs.Dumping.{HasReadBoth, IsDumpedFor, part_text};
+ghost use Rattle.hg_drivers.specs.Driven.{MayDrive};
+ghost use Rattle.hg_drivers.specs.Reader.{IsOpenedBeside, alloc_in, engine_in, script_in};
+ghost use Rattle.hg_run.specs.Dumping.{HasReadBoth, HasRunAndRead, IsDumpedFor, part_text};
 ghost use Rattle.hg_run.specs.Words.{settings_in};
 
-use hg_base::{Gate, NoMemory, Totals};
+use crate::ended::{Ended, free_crew};
+use hg_base::{Gate, NoMemory};
 use hg_collectors::{Pace, Plan};
-use hg_drivers::{Reader, close_read, dump_on, open_beside};
+use hg_drivers::{Crew, Reader, close_read, dump_on, open_beside};
+use hg_rule::SessionPass;
 use hg_script::Script;
-use hg_transcript::Transcript;
 use hg_words::Options;
 use std::alloc::{AllocError, Global};
 use std::sync::Wait;
@@ -51,7 +55,50 @@ pub(crate) struct Dumps {
     pub(crate) end: u64,
 }
 
-// Runs a script in threads, with a reader. The dumps are empty at first.
+// Takes the crew of an engine through a script in threads while the reader reads, and closes it after the reader has read once more.
+fn read_crew<'e, 'a, R: Threads + Wait + Sync, G: Gate + Sync>(
+    rt: &R,
+    reader: &Reader<'e, 'a>,
+    plan: &Plan<G>,
+    crew: Crew,
+    extra: SessionPass,
+    dumps: &mut Dumps,
+) -> Result<Ended<'a>, NoMemory>
+    requires may { MayDrive (engine_in reader.now) (script_in reader.now) crew.sessions.items
+        crew.collectors }
+    requires opened { IsOpenedBeside (script_in reader.now)
+        (engine_sizes (engine_in reader.now)).buckets (engine_in reader.now)
+        crew.sessions.items crew.collectors extra }
+    ensures ended { IfOk result (λ o.
+        HasRunAndRead (alloc_in reader.now) (engine_in reader.now) plan.now.long plan.now.rounds
+        (script_in reader.now) crew.sessions.items crew.collectors extra dumps.old
+        o.transcript.lines o.totals dumps.new) }
+    ensures tables { IfOk result (λ o. o.transcript.tables ≡ (script_in reader.now).tables) }
+{
+    let mut crew = crew;
+    let mut extra = extra;
+    match dump_on(rt, reader, plan, &mut crew, &mut extra, &mut dumps.first) {
+        Ok((transcript, at)) => {
+            dumps.at = at;
+            let (totals, end) = close_read(
+                rt,
+                reader,
+                crew.sessions,
+                crew.collectors,
+                extra,
+                &mut dumps.last,
+            )?;
+            dumps.end = end;
+            Ok(Ended { transcript, totals })
+        }
+        Err(NoMemory) => {
+            free_crew(crew);
+            Err(NoMemory)
+        }
+    }
+}
+
+// Opens an engine for a script, and runs the script there with a reader. The dumps are empty at first.
 fn run_and_read<'a, R: Threads + Wait + Sync, G: Gate + Sync>(
     rt: &R,
     alloc: Global,
@@ -59,57 +106,39 @@ fn run_and_read<'a, R: Threads + Wait + Sync, G: Gate + Sync>(
     options: &Options,
     gate: &G,
     dumps: &mut Dumps,
-) -> Result<(Transcript<'a>, Totals), NoMemory>
+) -> Result<Ended<'a>, NoMemory>
     requires lawful { IsLawful script.now }
     requires within { AreWithin options.now }
     requires empty { (dumps.old.first.items ≡ []) × (dumps.old.last.items ≡ []) }
-    ensures read { IfOk result (λ r.
-        HasReadBoth (settings_in (run options.now.rounds) options.now) script.now r.0.lines r.1
-        dumps.new) }
-    ensures tables { IfOk result (λ r. r.0.tables ≡ script.now.tables) }
+    ensures read { IfOk result (λ o.
+        HasReadBoth (settings_in (run options.now.rounds) options.now) script.now
+        o.transcript.lines o.totals dumps.new) }
+    ensures tables { IfOk result (λ o. o.transcript.tables ≡ script.now.tables) }
 {
-    let (engine, crew, extra) = open_beside(alloc, script, options)?;
-    let mut crew = crew;
-    let mut extra = extra;
-    let reader = Reader {
-        alloc,
-        engine: &engine,
-        script,
-    };
     let plan = Plan {
         gate,
         rounds: options.rounds,
         long: options.long,
     };
-    let (transcript, at) = dump_on(rt, &reader, &plan, &mut crew, &mut extra, &mut dumps.first)?;
-    dumps.at = at;
-    let (totals, end) = close_read(
-        rt,
-        &reader,
-        crew.sessions,
-        crew.collectors,
-        extra,
-        &mut dumps.last,
-    )?;
-    dumps.end = end;
-    Ok((transcript, totals))
+    let (engine, crew, extra) = open_beside(alloc, script, options)?;
+    let reader = Reader {
+        alloc,
+        engine: &engine,
+        script,
+    };
+    read_crew(rt, &reader, &plan, crew, extra, dumps)
 }
 
 // The text of a run, and then the dumps.
-fn text_with(
-    alloc: Global,
-    transcript: Transcript,
-    totals: &Totals,
-    dumps: &Dumps,
-) -> Result<Vec<u8>, NoMemory>
-    ensures { (script : Script) → script.tables ≡ transcript.entry.tables →
+fn text_with(alloc: Global, ended: Ended, dumps: &Dumps) -> Result<Vec<u8>, NoMemory>
+    ensures { (script : Script) → script.tables ≡ ended.entry.transcript.tables →
         IfOk result (λ text. text.items ≡
         text_of record_bytes script
-        (record { lines = transcript.entry.lines; totals = totals.now }) ++
+        (record { lines = ended.entry.transcript.lines; totals = ended.entry.totals }) ++
         (part_text dumps.now.at dumps.now.first.items ++
         part_text dumps.now.end dumps.now.last.items)) }
 {
-    let mut text = transcript.with_totals(totals)?;
+    let mut text = ended.into_text()?;
     add_part(alloc, &mut text, dumps.at, &dumps.first)?;
     add_part(alloc, &mut text, dumps.end, &dumps.last)?;
     Ok(text)
@@ -136,6 +165,6 @@ pub(crate) fn dump_all<R: Threads + Wait + Sync, G: Gate + Sync>(
         last: Vec::new(alloc),
         end: 0,
     };
-    let (transcript, totals) = run_and_read(rt, alloc, script, options, &pace, &mut dumps)?;
-    text_with(alloc, transcript, &totals, &dumps)
+    let ended = run_and_read(rt, alloc, script, options, &pace, &mut dumps)?;
+    text_with(alloc, ended, &dumps)
 }

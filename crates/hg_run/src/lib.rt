@@ -30,6 +30,7 @@
 
 mod audit;
 mod dump;
+mod ended;
 mod laws;
 mod load;
 mod replay;

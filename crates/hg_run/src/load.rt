@@ -31,8 +31,8 @@ fn totals_of_script<R: Threads + Wait + Sync>(
     requires within { AreWithin options.now }
     ensures { IfOk result (HasTotals (settings_in replay options.now) script.now) }
 {
-    let (_, totals) = replay_lines(rt, alloc, script, options)?;
-    Ok(totals)
+    let ended = replay_lines(rt, alloc, script, options)?;
+    Ok(ended.totals)
 }
 
 // The totals of a replay of the script that is made from a seed.

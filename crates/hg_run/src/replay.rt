@@ -1,22 +1,47 @@
 //! What is printed for a script that runs on one thread.
 
-ghost use Rattle.std.specs.Prelude.{◌≡◌, IfOk};
+ghost use Rattle.std.specs.Prelude.{◌≡◌, length, IfOk};
 ghost use Rattle.hg_base.specs.Script.{replay};
 ghost use Rattle.hg_base.specs.Sound.{IsSound};
 ghost use Rattle.hg_base.specs.Text.{IsFit};
 ghost use Rattle.hg_script.specs.Lawful.{IsLawful};
+ghost use Rattle.hg_session.specs.Engines.{engine_sizes};
 ghost use Rattle.hg_words.specs.Options.{AreWithin};
+ghost use Rattle.hg_drivers.specs.Driven.{MayDrive};
+ghost use Rattle.hg_run.specs.Ended.{HasReplayedToEnd};
 ghost use Rattle.hg_run.specs.Printing.{AreExact, IsPrintedFor, ReportsRounds};
 ghost use Rattle.hg_run.specs.Words.{settings_in};
 
-use hg_base::{NoMemory, Totals};
-use hg_drivers::{close, open_for, replay_on};
+use crate::ended::{Ended, close_crew};
+use hg_base::NoMemory;
+use hg_drivers::{Crew, open_for, replay_on};
 use hg_script::Script;
-use hg_transcript::Transcript;
+use hg_session::Engine;
 use hg_words::Options;
 use std::alloc::Global;
 use std::sync::Wait;
 use std::thread::Threads;
+
+// Takes the crew of an engine through a script on one thread, record by record, and closes it.
+fn replay_crew<'a, R: Threads + Wait + Sync>(
+    rt: &R,
+    alloc: Global,
+    script: &'a Script,
+    options: &Options,
+    engine: &Engine,
+    crew: Crew,
+) -> Result<Ended<'a>, NoMemory>
+    requires may { MayDrive engine.now script.now crew.sessions.items crew.collectors }
+    requires all { length crew.sessions.items ≡ (engine_sizes engine.now).sessions }
+    ensures ended { IfOk result (λ o.
+        HasReplayedToEnd engine.now options.now.long script.now crew.sessions.items
+        crew.collectors o.transcript.lines o.totals) }
+    ensures tables { IfOk result (λ o. o.transcript.tables ≡ script.now.tables) }
+{
+    let mut crew = crew;
+    let driven = replay_on(rt, alloc, script, options, engine, &mut crew);
+    close_crew(rt, engine, crew, driven)
+}
 
 /// Runs a script on one thread, record by record, and gives its lines and its totals.
 pub(crate) fn replay_lines<'a, R: Threads + Wait + Sync>(
@@ -24,22 +49,20 @@ pub(crate) fn replay_lines<'a, R: Threads + Wait + Sync>(
     alloc: Global,
     script: &'a Script,
     options: &Options,
-) -> Result<(Transcript<'a>, Totals), NoMemory>
+) -> Result<Ended<'a>, NoMemory>
     requires lawful { IsLawful script.now }
     requires within { AreWithin options.now }
-    ensures sound { IfOk result
-        (λ p. IsSound replay script.now (record { lines = p.0.lines; totals = p.1 })) }
-    ensures exact { IfOk result (λ p. AreExact replay script.now p.0.lines) }
-    ensures fit { IfOk result (λ p. IsFit script.now (record { lines = p.0.lines; totals = p.1 })) }
-    ensures rounds { IfOk result
-        (λ p. ReportsRounds (settings_in replay options.now) script.now p.0.lines) }
-    ensures tables { IfOk result (λ p. p.0.tables ≡ script.now.tables) }
+    ensures sound { IfOk result (λ o.
+        IsSound replay script.now (record { lines = o.transcript.lines; totals = o.totals })) }
+    ensures exact { IfOk result (λ o. AreExact replay script.now o.transcript.lines) }
+    ensures fit { IfOk result (λ o.
+        IsFit script.now (record { lines = o.transcript.lines; totals = o.totals })) }
+    ensures rounds { IfOk result (λ o.
+        ReportsRounds (settings_in replay options.now) script.now o.transcript.lines) }
+    ensures tables { IfOk result (λ o. o.transcript.tables ≡ script.now.tables) }
 {
     let (engine, crew) = open_for(alloc, script, options)?;
-    let mut crew = crew;
-    let transcript = replay_on(rt, alloc, script, options, &engine, &mut crew)?;
-    let totals = close(rt, &engine, crew.sessions, crew.collectors);
-    Ok((transcript, totals))
+    replay_crew(rt, alloc, script, options, &engine, crew)
 }
 
 /// The text that is printed for a script that runs on one thread.
@@ -54,7 +77,6 @@ pub(crate) fn replay<R: Threads + Wait + Sync>(
     ensures { IfOk result
         (λ text. IsPrintedFor (settings_in replay options.now) script.now text.items) }
 {
-    let (transcript, totals) = replay_lines(rt, alloc, script, options)?;
-    let text = transcript.with_totals(&totals)?;
-    Ok(text)
+    let ended = replay_lines(rt, alloc, script, options)?;
+    ended.into_text()
 }
