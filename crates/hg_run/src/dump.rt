@@ -20,6 +20,7 @@ ghost use Rattle.hg_run.specs.Words.{settings_in};
 use crate::ended::{Ended, free_crew};
 use hg_base::{Gate, NoMemory};
 use hg_collectors::{Pace, Plan};
+use hg_disposal::{free_engine, free_pass};
 use hg_drivers::{Crew, Reader, close_read, dump_on, open_beside};
 use hg_rule::SessionPass;
 use hg_script::Script;
@@ -93,6 +94,7 @@ fn read_crew<'e, 'a, R: Threads + Wait + Sync, G: Gate + Sync>(
         }
         Err(NoMemory) => {
             free_crew(crew);
+            free_pass(extra);
             Err(NoMemory)
         }
     }
@@ -126,7 +128,9 @@ fn run_and_read<'a, R: Threads + Wait + Sync, G: Gate + Sync>(
         engine: &engine,
         script,
     };
-    read_crew(rt, &reader, &plan, crew, extra, dumps)
+    let ended = read_crew(rt, &reader, &plan, crew, extra, dumps);
+    free_engine(engine);
+    ended
 }
 
 // The text of a run, and then the dumps.

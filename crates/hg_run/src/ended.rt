@@ -11,6 +11,7 @@ ghost use Rattle.hg_drivers.specs.Closed.{IsClosedBy};
 ghost use Rattle.hg_drivers.specs.Collecting.{AreCollectors};
 
 use hg_base::{NoMemory, Totals};
+use hg_disposal::{free_collectors, free_sessions};
 use hg_drivers::{Crew, close};
 use hg_session::Engine;
 use hg_transcript::Transcript;
@@ -36,7 +37,10 @@ impl<'a> Ended<'a> {
 }
 
 /// Frees a crew that is not closed, since memory ran out.
-pub(crate) fn free_crew(_crew: Crew) {}
+pub(crate) fn free_crew(crew: Crew) {
+    free_sessions(crew.sessions);
+    free_collectors(crew.collectors);
+}
 
 /// Closes a crew that a driver left, and gives the lines with the totals. Where the driver ran out of memory, the crew is freed.
 pub(crate) fn close_crew<'a, R: Wait>(

@@ -14,6 +14,7 @@ ghost use Rattle.hg_run.specs.Words.{settings_in};
 
 use crate::ended::{Ended, close_crew};
 use hg_base::NoMemory;
+use hg_disposal::free_engine;
 use hg_drivers::{Crew, open_for, replay_on};
 use hg_script::Script;
 use hg_session::Engine;
@@ -62,7 +63,9 @@ pub(crate) fn replay_lines<'a, R: Threads + Wait + Sync>(
     ensures tables { IfOk result (λ o. o.transcript.tables ≡ script.now.tables) }
 {
     let (engine, crew) = open_for(alloc, script, options)?;
-    replay_crew(rt, alloc, script, options, &engine, crew)
+    let ended = replay_crew(rt, alloc, script, options, &engine, crew);
+    free_engine(engine);
+    ended
 }
 
 /// The text that is printed for a script that runs on one thread.

@@ -15,6 +15,7 @@ ghost use Rattle.hg_run.specs.Words.{settings_in};
 use crate::ended::{Ended, close_crew};
 use hg_base::{Gate, NoMemory};
 use hg_collectors::{Pace, Plan};
+use hg_disposal::free_engine;
 use hg_drivers::{Crew, open_for, run_on};
 use hg_script::Script;
 use hg_session::Engine;
@@ -70,7 +71,9 @@ fn run_script<'a, R: Threads + Wait + Sync, G: Gate + Sync>(
         long: options.long,
     };
     let (engine, crew) = open_for(alloc, script, options)?;
-    run_crew(rt, alloc, script, &plan, &engine, crew)
+    let ended = run_crew(rt, alloc, script, &plan, &engine, crew);
+    free_engine(engine);
+    ended
 }
 
 /// Runs a script in threads, and gives the text that is printed for it.
