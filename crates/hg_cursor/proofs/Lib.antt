@@ -5,6 +5,11 @@ pub mod Uniqueness
 -- A trip to a bucket, and what a look logs.
 pub mod Trips
 pub mod Looking
+-- One record, and a scan.
+pub mod Seeing
+pub mod ScanningKeys
+pub mod ScanningLooks
+pub mod ScanningOrder
 -- The first rows of all buckets.
 pub mod Counting
 pub mod Gathering

@@ -4,6 +4,8 @@ pub mod Keys
 pub mod Logs
 -- Which rows of several are kept.
 pub mod Firsts
+-- What a scan reads of each bucket.
+pub mod Scans
 -- What a fetch reads of one bucket, and of all.
 pub mod Looks
 pub mod Cursors

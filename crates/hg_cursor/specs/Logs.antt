@@ -24,6 +24,16 @@ pub record Adds (old : View) (entries : List LogEntry) (new : View) : Type 0 whe
 abbrev pub IsHeard : View → Type 0
 IsHeard v = ((session v).log ≡ []) ⊎ IsAmong (Heard (number v) (session v).log) v.sights
 
+-- The session may read the table at a snapshot: it is live there with the table in its scope, nothing of its transaction is undone
+-- or published, and it holds no bucket.
+pub record MayRead (at : ℕ) (table : TableId) (v : View) : Type 0 where
+  pub only : HasOnlySession v
+  pub scope : Scope
+  pub live : (session v).phase ≡ Live at scope
+  pub declared : IsTrue (has scope table)
+  pub plain : IsTrue (is_plain (session v).log)
+  pub unstamped : (session v).stamped ≡ false
+
 -- The session reads the table at a snapshot: it is live there with the table in its scope, its transaction has written nothing,
 -- and it holds no bucket.
 pub record ReadsAt (at : ℕ) (table : TableId) (v : View) : Type 0 where

@@ -1,4 +1,11 @@
-//! A scan in parts, at one snapshot, whatever is committed and reclaimed in between.
+//! What a session reads of the tables at one snapshot: a record, a range at once, and a range in parts.
+//!
+//!     read_row, has_row    the record's bucket, once
+//!     scan                 each bucket that can have a key of the range, once, in ascending order; then the rows by key
+//!     Cursor::fetch        the buckets that can have the next rows, each at most once
+//!
+//! Each bucket that is taken is logged by one look, at all that was asked for there. A cursor is a scan in parts, whatever is committed
+//! and reclaimed in between.
 //!
 //!     a range of table 0, in 4 buckets     6   7   8   9  10  11  12  13  14 ..     each key has a row, and 3 rows are asked for
 //!     copied from bucket 2                 6               10              14       3 rows are up to 14, which is the limit now
@@ -21,9 +28,16 @@ mod cursor;
 mod firsts;
 mod laws;
 mod looks;
+mod own_keys;
+mod range;
+mod record;
 mod request;
+mod scans;
 mod tables;
 
 pub use cursor::Cursor;
 pub use laws::{fetches_are_the_scan, histories_go_on};
+pub use range::Range;
+pub use record::{has_row, read_row};
+pub use scans::scan;
 pub use tables::Tables;

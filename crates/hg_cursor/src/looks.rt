@@ -11,6 +11,7 @@ ghost use Rattle.hg_cursor.specs.Logs.{IsHeard, ReadsAt};
 ghost use Rattle.hg_cursor.specs.Looks.{WhereOwn, IsFirstKey, AppendsFirst, Sees};
 
 use crate::firsts::Firsts;
+use crate::own_keys::next_there;
 use crate::request::Request;
 use hg_base::{Image, NoMemory, Rid, TableId, Writer};
 use hg_rule::{Board, SessionPass};
@@ -23,21 +24,6 @@ pub(crate) struct Look {
     pub(crate) request: Request,
     pub(crate) own: u64,
     pub(crate) limit: u64,
-}
-
-// The least key of a table from a number to `high`, of those that have a version in the bucket held.
-fn next_there(held: &Held<'_>, table: TableId, from: u64, high: u64) -> Option<u64>
-    ensures within { IsWithin from high result }
-    ensures there { (v : View) → Holds v held.now →
-        IfSome result (HasVersion (bucket_in v).content table) }
-    // no key with a version is passed over
-    ensures leads { (v : View) → Holds v held.now →
-        LeadsOn (HasVersion (bucket_in v).content table) from high result }
-{
-    match held.next_key(table, from) {
-        Some(key) if key <= high => Some(key),
-        _ => None,
-    }
 }
 
 // The first key to read of the bucket held, from one of its own keys to `high`. Where this is the bucket's only key there, it is

@@ -1,5 +1,5 @@
 -- A session with a cursor: how its calls begin and end, and what a fetch leaves.
-use Rattle.std.proofs.Common.{◌≡◌, ℕ, zero, suc, ◌≤◌, List, [], ◌∷◌, ◌++◌, Bool, true, false, Option, Some, None, refl, sym, ap, ◌∙◌, subst, arith, append-nil}
+use Rattle.std.proofs.Common.{◌≡◌, ℕ, zero, suc, ◌≤◌, List, [], Bool, true, false, Option, Some, None, refl, sym, ap, ◌∙◌, subst, arith, append-nil}
 use Rattle.std.specs.Prelude.{◌==◌, ◌&&◌, ◌%◌, IsSome, IsTrue, if◌then◌else◌, nat_lt, nat_le, Result, Ok, Err}
 use Rattle.std.proofs.Math.Nat.{div_self}
 use Rattle.std.proofs.lemmas.Bool.Decides.{nat_tests}
@@ -12,7 +12,6 @@ use Rattle.hg_base.specs.declared.statement.Statement.TheVariants as say
 use Rattle.hg_base.specs.declared.line.Answer.TheVariants as answers
 use Rattle.hg_base.specs.Lists.{Each}
 use Rattle.hg_base.specs.Transcript.{Rest, only, has, passed, rest_behind, rest_after}
-use Rattle.hg_core.specs.declared.log.LogEntry.{LogEntry}
 use Rattle.hg_core.specs.Logs.{current}
 use Rattle.hg_core.specs.Reading.{Unprinted, FitsScope, Picks, looks, log_with}
 use Rattle.hg_core.specs.Reading as reading
@@ -20,13 +19,11 @@ use Rattle.hg_core.proofs.Right.{if_any}
 use Rattle.hg_cursor.specs.declared.cursor.Cursor.{Cursor}
 use Rattle.hg_cursor.specs.Cursors.{at_of, table_of, high_of, rest_of, FetchesRest}
 use Rattle.hg_cursor.specs.Given.{begins_at, goes_on, key_after}
-use Rattle.hg_cursor.specs.Logs.{Adds, ReadsAt}
-use Rattle.hg_rule.specs.declared.view.SessionPart.{SessionPart}
+use Rattle.hg_cursor.specs.Logs.{ReadsAt}
 use Rattle.hg_rule.specs.declared.view.Sizes.{Sizes}
 use Rattle.hg_rule.specs.declared.view.View.{View}
 use Rattle.hg_rule.specs.Seats.{IsSessionOf}
 use Rattle.hg_rule.specs.Views.{number, session, HasOnlySession}
-use Rattle.hg_rule.specs.Writes.{with_log}
 use Rattle.hg_cursor.specs.Keys.{Rows}
 use Rattle.hg_session.specs.declared.engine.Engine.{Engine}
 use Rattle.hg_session.specs.declared.session.Session.{Session}
@@ -39,8 +36,9 @@ use Rattle.hg_session.specs.Sessions.{IsIn, IsOf, pass_of, view_of, number_of, l
 use Rattle.hg_session.specs.Ties.{Ties, FitsCursor, phase_at, snapshot_of}
 use Rattle.hg_rule.specs.Facts.{IsHeard}
 use Rattle.hg_session.proofs.Replying.{no_writes}
-use Rattle.hg_cursor.proofs.Trips.{first_number, first_session}
-use Rattle.hg_session.proofs.Tying.{IsQuiet, ties_quiet}
+use Rattle.hg_cursor.proofs.Trips.{first_session}
+use Rattle.hg_session.proofs.Tying.{IsQuiet}
+use Rattle.hg_session.proofs.Reading.{adds_gain, ties_looked}
 
 -- ---- with no cursor
 
@@ -98,30 +96,18 @@ looks_quiet : (buckets : ℕ) (table : TableId) (low high : ℕ) (part : ℕ →
 looks_quiet buckets table low high part zero = tt
 looks_quiet buckets table low high part (suc n) = (tt, looks_quiet buckets table low high part n)
 
-adds_gain : (v w : View) (es : List LogEntry) → Adds v es w → Gains v es w
-adds_gain v w es a = record {
-  number_is = first_number w (number v) _ [] a.parts;
-  log = ap (λ (p : SessionPart). p.log) (first_session w (number v) _ [] a.parts);
-  kept = a.kept;
-}
-
 same_gain : (v w : View) → w ≡ v → Gains v [] w
 same_gain v w e = record { number_is = ap number e; log = ap (λ x. (session x).log) e; kept = ([], ap (λ (x : View). x.sights) e ∙ sym (append-nil v.sights)) }
 
 -- ---- what a session keeps after them
 
-ties_looked : (quota left : ℕ) (opened : Option Snapshot) (written : List Rid) (part : SessionPart) (es : List LogEntry) → Each IsQuiet es →
-    Ties quota opened written left 0 0 part → Ties quota opened written left 0 0 (with_log (es ++ part.log) part)
-ties_looked quota left opened written part [] q t = t
-ties_looked quota left opened written part (e ∷ es) q t = ties_quiet quota left 0 0 opened written (with_log (es ++ part.log) part) e q.0 (ties_looked quota left opened written part es q.1 t)
-
 ties_fetched : (quota left count most : ℕ) (opened : Option Snapshot) (written : List Rid) (v w : View) (table : TableId) (rest : Option ℕ) (high : ℕ)
     (answer : Result Rows NoMemory) → FetchesRest count most v table rest high answer w → Ties quota opened written left 0 0 (session v) → Ties quota opened written left 0 0 (session w)
 ties_fetched quota left count most opened written v w table None high answer f t = subst (λ x. Ties quota opened written left 0 0 (session x)) (sym f.1) t
 ties_fetched quota left count most opened written v w table (Some low) high (Ok rows) f t = subst (Ties quota opened written left 0 0)
-    (sym (first_session w (number v) _ [] f.looked.adds.parts)) (ties_looked quota left opened written (session v) _ (looks_quiet count table low high f.looked.part f.looked.number) t)
+    (sym (first_session w (number v) _ [] f.looked.adds.parts)) (ties_looked quota left 0 0 opened written (session v) _ (looks_quiet count table low high f.looked.part f.looked.number) t)
 ties_fetched quota left count most opened written v w table (Some low) high (Err e) f t = subst (Ties quota opened written left 0 0)
-    (sym (first_session w (number v) _ [] f.adds.parts)) (ties_looked quota left opened written (session v) _ (looks_quiet count table low high f.part f.number) t)
+    (sym (first_session w (number v) _ [] f.adds.parts)) (ties_looked quota left 0 0 opened written (session v) _ (looks_quiet count table low high f.part f.number) t)
 
 -- the session after a fetch, whose cursor may have gone on
 pub fetched : (e : Engine) (s t : Session) (c d : Cursor) (count most : ℕ) (answer : Result Rows NoMemory) → IsOf e s → cursor_of s ≡ Some c → cursor_of t ≡ Some d →

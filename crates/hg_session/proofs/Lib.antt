@@ -5,8 +5,8 @@ pub mod Meetings
 pub mod Settling
 pub mod Refusing
 -- A trip to a bucket.
+pub mod Reading
 pub mod Trips
-pub mod Seeing
 pub mod Storing
 pub mod Firsts
 -- What a call replies, and that it is right.
@@ -18,11 +18,6 @@ pub mod Placed
 pub mod Right
 -- A cursor.
 pub mod Cursors
--- A scan.
-pub mod ScanningKeys
-pub mod ScanningRows
-pub mod ScanningLooks
-pub mod ScanningOrder
 -- A new engine.
 pub mod Seating
 pub mod Passing

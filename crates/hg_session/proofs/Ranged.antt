@@ -21,11 +21,12 @@ use Rattle.hg_rule.specs.declared.view.View.{View}
 use Rattle.hg_rule.specs.Views.{session}
 use Rattle.hg_tracker.specs.Begun.{AtMost}
 use Rattle.hg_cursor.specs.Keys.{Rows}
+use Rattle.hg_cursor.specs.Scans.{ScansAll}
 use Rattle.hg_session.specs.Gains.{Gains}
-use Rattle.hg_session.specs.Scans.{ScansAll}
 use Rattle.hg_session.specs.Replies.{inside, Answers}
 use Rattle.hg_session.proofs.Replying.{nothing_more, answers_inside, answers_alone}
 use Rattle.hg_session.proofs.Putting.{Writing}
+use Rattle.hg_session.proofs.Reading.{adds_gain}
 use Rattle.hg_session.proofs.Settling.{gains_on}
 
 -- ---- a scan
@@ -33,17 +34,21 @@ use Rattle.hg_session.proofs.Settling.{gains_on}
 abbrev pub with_part : (ℕ → Rows) → Unprinted
 with_part part = record { found = []; part = part; undone = []; rest = None; looked = 0 }
 
-pub scan_inside : (z : Sizes) (v w : View) (c : Snapshot) (table : TableId) (low high : ℕ) (rows : Rows) → current (session v).log ≡ Some c → IsTrue (has c.scope table) →
-    ScansAll z.buckets v table low high rows w → Answers z v (say.Scan table low high) (inside (answers.Rows rows)) w
-scan_inside z v w c table low high rows e declared k = answers_inside z v w (say.Scan table low high) (answers.Rows rows) (with_part k.part)
-    (ap (λ o. reading.is_alone o (say.Scan table low high)) e) k.gains k.joins
+-- after a look that logged nothing
+pub all_behind : (v m w : View) (es : List LogEntry) → Gains v [] m → Gains m es w → Gains v es w
+all_behind v m w es none g = subst (λ x. Gains v x w) (append-nil es) (gains_on v m w [] es none g (λ l. ap (λ x. x ++ l) (sym (append-nil es))))
+
+pub scan_inside : (z : Sizes) (v m w : View) (c : Snapshot) (table : TableId) (low high : ℕ) (rows : Rows) → current (session v).log ≡ Some c → IsTrue (has c.scope table) →
+    Gains v [] m → ScansAll z.buckets m table low high rows w → Answers z v (say.Scan table low high) (inside (answers.Rows rows)) w
+scan_inside z v m w c table low high rows e declared none k = answers_inside z v w (say.Scan table low high) (answers.Rows rows) (with_part k.part)
+    (ap (λ o. reading.is_alone o (say.Scan table low high)) e) (all_behind v m w (saws z.buckets table low high k.part z.buckets) none (adds_gain m w _ k.adds)) k.joins
     (λ d q. of_some (Some d) (λ snapshot. IsTrue (has snapshot.scope table)) d refl (subst (λ o. IfSome o (λ snapshot. IsTrue (has snapshot.scope table))) (sym e ∙ q) declared)) tt tt tt tt tt
 
 pub scan_alone : (z : Sizes) (v m n w : View) (at : ℕ) (table : TableId) (low high : ℕ) (rows : Rows) → current (session v).log ≡ None → Each (AtMost at) v.sights →
     Gains v (Began at (only (Some table)) ∷ []) m → ScansAll z.buckets m table low high rows n → Gains n (Over ∷ []) w
     → Answers z v (say.Scan table low high) (record { at = Some at; answer = answers.Rows rows; number = None }) w
 scan_alone z v m n w at table low high rows e most b k o =
-    let two = gains_on v m n (Began at (only (Some table)) ∷ []) (saws z.buckets table low high k.part z.buckets) b k.gains
+    let two = gains_on v m n (Began at (only (Some table)) ∷ []) (saws z.buckets table low high k.part z.buckets) b (adds_gain m n _ k.adds)
     (λ l. sym (append_assoc (saws z.buckets table low high k.part z.buckets) (Began at (only (Some table)) ∷ []) l)) in
     let all = gains_on v n w (saws z.buckets table low high k.part z.buckets ++ Began at (only (Some table)) ∷ []) (Over ∷ []) two o (λ l. refl) in
     answers_alone z v w (say.Scan table low high) (answers.Rows rows) at None (with_part k.part) e refl all refl k.joins refl refl most tt tt tt
@@ -96,10 +101,3 @@ nothing_inside z v w c rid e g = answers_inside z v w (say.Del rid) answers.Noth
 pub nothing_alone : (z : Sizes) (v w : View) (at : ℕ) (rid : Rid) → current (session v).log ≡ None → Each (AtMost at) v.sights →
     Gains v (close None ++ (saw z.buckets rid [] ∷ Began at (only (Some rid.table)) ∷ [])) w → Answers z v (say.Del rid) (record { at = Some at; answer = answers.Nothing; number = None }) w
 nothing_alone z v w at rid e most g = answers_alone z v w (say.Del rid) answers.Nothing at None nothing_more e refl g refl tt refl refl most tt tt tt
-
--- after a look that logged nothing
-pub all_behind : (z : Sizes) (v m w : View) (table : TableId) (low high : ℕ) (rows : Rows) → Gains v [] m → ScansAll z.buckets m table low high rows w → ScansAll z.buckets v table low high rows w
-all_behind z v m w table low high rows none k =
-    let es = saws z.buckets table low high k.part z.buckets in
-    let all = gains_on v m w [] es none k.gains (λ l. ap (λ x. x ++ l) (sym (append-nil es))) in
-    record { part = k.part; joins = k.joins; gains = subst (λ x. Gains v x w) (append-nil es) all }

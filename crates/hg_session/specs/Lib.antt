@@ -15,8 +15,6 @@ pub mod Alone
 pub mod Firsts
 -- What a view says of a reply that it has heard.
 pub mod Right
--- What a scan reads, bucket by bucket.
-pub mod Scans
 -- The passes of its collectors.
 pub mod Passing
 -- What a pass knows once all others are joined to it.

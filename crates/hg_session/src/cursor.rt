@@ -21,7 +21,7 @@ use crate::engine::Engine;
 use crate::session::Session;
 use crate::statements::only;
 use hg_base::{NoMemory, RowList, TableId};
-use hg_cursor::{Cursor, Tables};
+use hg_cursor::Cursor;
 use std::sync::Wait;
 
 impl Session {
@@ -85,10 +85,7 @@ impl Session {
         let Some(mut cursor) = self.cursor else {
             unreachable!();
         };
-        let tables = Tables {
-            board: engine.board(),
-            store: &engine.store,
-        };
+        let tables = engine.tables();
         let rows = cursor.fetch(rt, self.alloc, &tables, &mut self.pass, most)?;
         self.cursor = Some(cursor);
         Ok(rows)

@@ -1,7 +1,6 @@
 //! What a session deletes.
 
-ghost use Rattle.std.specs.Prelude.{◌≡◌, ◌<◌, List, Option, Some, None, [], ◌∷◌, true, false, is_some, unwrap_or, Err, IsTrue, IfSome};
-ghost use Rattle.std.specs.Option.{option_copied};
+ghost use Rattle.std.specs.Prelude.{◌≡◌, ◌<◌, List, Option, Some, None, [], ◌∷◌, true, false, is_some, Err, IsTrue, IfSome};
 ghost use Rattle.hg_base.specs.declared.statement.Statement.TheVariants as say;
 ghost use Rattle.hg_base.specs.declared.value.Value.{Value};
 ghost use Rattle.hg_base.specs.History.{nothing};
@@ -22,17 +21,8 @@ use crate::engine::Engine;
 use crate::session::Session;
 use crate::statements::{only, refused_at};
 use hg_base::{Image, Rid, Snapshot, TableId};
+use hg_cursor::has_row;
 use std::sync::Wait;
-
-// Whether an image is a row.
-fn is_there(image: Option<&Image>) -> bool
-    ensures { result ≡ is_some (unwrap_or (option_copied image.entry) nothing).row }
-{
-    match image {
-        Some(image) => image.row.is_some(),
-        None => false,
-    }
-}
 
 // Sees whether a record has a row.
 fn see_there<R: Wait>(
@@ -52,14 +42,7 @@ fn see_there<R: Wait>(
     ensures kept { KeepsWritten session.old session.new }
     ensures own { IsIn engine.now 0 1 session.new }
 {
-    let board = engine.board();
-    let by = session.pass.writer();
-    let bucket = engine.bucket_of(rid);
-    let held = engine.store.take(rt, board, bucket, &mut session.pass);
-    held.see(board, &mut session.pass, rid.table, rid.key, rid.key);
-    let there = is_there(held.read(rid, snapshot.at, by));
-    held.give(board, &mut session.pass);
-    there
+    has_row(rt, &engine.tables(), &mut session.pass, snapshot.at, rid)
 }
 
 // In the open transaction.

@@ -9,6 +9,7 @@ ghost use Rattle.hg_store.specs.Stores.{store_board_id, store_buckets};
 use crate::session_list::{SessionList, seat_all};
 use crate::totals::totals_with;
 use hg_base::{NoMemory, Rid, Totals};
+use hg_cursor::Tables;
 use hg_group::GroupList;
 use hg_rule::{Board, CollectorPass, Seats};
 use hg_store::Store;
@@ -129,6 +130,17 @@ impl Engine {
         ensures { result.now ≡ engine_store self.now }
     {
         &self.store
+    }
+
+    // What its sessions read.
+    pub(crate) fn tables(&self) -> Tables<'_>
+        ensures board { result.board.now ≡ engine_board self.now }
+        ensures store { result.store.now ≡ engine_store self.now }
+    {
+        Tables {
+            board: self.board(),
+            store: &self.store,
+        }
     }
 
     // The bucket of a record.

@@ -1,8 +1,6 @@
 //! What a session reads of a record.
 
-ghost use Rattle.std.specs.Prelude.{◌≡◌, ◌<◌, List, Option, Some, None, [], ◌∷◌, true, false, unwrap_or, Err, IsTrue, IfOk, IfSome, OnErr};
-ghost use Rattle.std.specs.Option.{option_copied};
-ghost use Rattle.hg_base.specs.History.{nothing};
+ghost use Rattle.std.specs.Prelude.{◌≡◌, ◌<◌, List, Option, Some, None, [], ◌∷◌, true, false, Err, IsTrue, IfOk, IfSome, OnErr};
 ghost use Rattle.hg_base.specs.declared.statement.Statement.TheVariants as say;
 ghost use Rattle.hg_base.specs.declared.value.Value.{Value};
 ghost use Rattle.hg_base.specs.Transcript.{has};
@@ -20,18 +18,9 @@ use crate::answers::{GetRefusal, Read};
 use crate::engine::Engine;
 use crate::session::Session;
 use crate::statements::only;
-use hg_base::{Image, NoMemory, Rid, Row, Snapshot};
+use hg_base::{NoMemory, Rid, Row, Snapshot};
+use hg_cursor::read_row;
 use std::sync::Wait;
-
-// The row of an image.
-fn row_of(image: Option<&Image>) -> Result<Option<Row>, NoMemory>
-    ensures { IfOk result (λ row. row ≡ (unwrap_or (option_copied image.entry) nothing).row) }
-{
-    match image {
-        Some(Image { row: Some(row) }) => Ok(Some(row.copy()?)),
-        Some(Image { row: None }) | None => Ok(None),
-    }
-}
 
 // Sees one record, and copies its row.
 fn see_row<R: Wait>(
@@ -51,14 +40,7 @@ fn see_row<R: Wait>(
     ensures kept { KeepsWritten session.old session.new }
     ensures own { IsIn engine.now 0 1 session.new }
 {
-    let board = engine.board();
-    let by = session.pass.writer();
-    let bucket = engine.bucket_of(rid);
-    let held = engine.store.take(rt, board, bucket, &mut session.pass);
-    held.see(board, &mut session.pass, rid.table, rid.key, rid.key);
-    let row = row_of(held.read(rid, snapshot.at, by));
-    held.give(board, &mut session.pass);
-    row
+    read_row(rt, &engine.tables(), &mut session.pass, snapshot.at, rid)
 }
 
 // In the open transaction.

@@ -9,7 +9,8 @@ use Rattle.hg_session.specs.Engines.{engine_sizes}
 use Rattle.hg_session.specs.Sessions.{view_of}
 use Rattle.hg_session.specs.Gains.{Gains}
 use Rattle.hg_session.specs.Refused.{HasGivenUp}
-use Rattle.hg_session.specs.Scans.{Scans, ScansAll, ScansSome}
+use Rattle.hg_cursor.specs.Scans.{Scans, ScansAll, ScansSome}
+use Rattle.hg_session.proofs.Reading.{adds_gain}
 use Rattle.hg_session.proofs.Refusing.{given_up, saws_there}
 use Rattle.hg_session.proofs.Ranged.{scan_alone}
 use Rattle.hg_session.proofs.Settling.{gains_on}
@@ -27,7 +28,7 @@ returns-in_err-rows-clause-refused g c =
     let es = saws z.buckets c.args.range.table c.args.range.low c.args.range.high k.part k.seen in
     let b = Began c.open-snapshot.result.at (only (Some c.args.range.table)) ∷ [] in
     let begun = subst (λ s. Gains v (Began c.open-snapshot.result.at s ∷ []) m) c.only.ensures.is c.open-snapshot.ensures.gains in
-    let two = gains_on v m n b es begun k.gains (λ l. sym (append_assoc es b l)) in
+    let two = gains_on v m n b es begun (adds_gain m n es k.adds) (λ l. sym (append_assoc es b l)) in
     let same : c.from_residual.result ≡ Err c.in_err-rows.field-0.0 = search rules in
     subst (λ r. OnErr r (HasGivenUp c.args.range.table c.args.range.low c.args.range.high [] v w)) (sym same)
     (given_up v n w c.args.range.table c.args.range.low c.args.range.high c.open-snapshot.result.at [] es

@@ -1,4 +1,4 @@
-use Rattle.std.proofs.Common.{◌≡◌, [], ◌++◌, Some, refl, sym, ap, subst, rules, append-nil}
+use Rattle.std.proofs.Common.{◌≡◌, Some, refl, subst, rules}
 use Rattle.std.specs.Prelude.{IsTrue}
 use Rattle.hg_base.specs.declared.statement.Statement.TheVariants as say
 use Rattle.hg_base.specs.Transcript.{has}
@@ -8,11 +8,11 @@ use Rattle.hg_rule.specs.Views.{session}
 use Rattle.hg_session.specs.Engines.{engine_sizes}
 use Rattle.hg_session.specs.Sessions.{view_of}
 use Rattle.hg_session.specs.Gains.{Gains, outside_entries}
-use Rattle.hg_session.specs.Scans.{Scans, ScansAll, ScansSome}
+use Rattle.hg_cursor.specs.Scans.{Scans, ScansAll, ScansSome}
+use Rattle.hg_session.proofs.Reading.{adds_gain}
 use Rattle.hg_session.proofs.Replying.{undeclared_inside}
 use Rattle.hg_session.proofs.Ranged.{scan_inside, all_behind}
 use Rattle.hg_session.proofs.Refusing.{saws_there}
-use Rattle.hg_session.proofs.Settling.{gains_on}
 use Rattle.hg_session.proofs.scan.scan_inside.Goals as goal
 
 pub returns-then-is_outside-clause-reply : goal.returns-then-is_outside-clause-reply
@@ -33,8 +33,11 @@ returns-in_err-rows-clause-refused g c =
     let k : ScansSome z.buckets m c.args.range.table c.args.range.low c.args.range.high w = subst (λ r. Scans z.buckets m c.args.range.table c.args.range.low c.args.range.high r w)
     c.in_err-rows.was c.scan_rows.ensures.gains in
     let es = saws z.buckets c.args.range.table c.args.range.low c.args.range.high k.part k.seen in
-    let all = gains_on v m w [] es none k.gains (λ l. ap (λ x. x ++ l) (sym (append-nil es))) in
-    λ same. record { looks = es; there = saws_there z.buckets c.args.range.table c.args.range.low c.args.range.high k.part k.seen; gains = subst (λ x. Gains v x w) (append-nil es) all }
+    λ same. record {
+      looks = es;
+      there = saws_there z.buckets c.args.range.table c.args.range.low c.args.range.high k.part k.seen;
+      gains = all_behind v m w es none (adds_gain m w es k.adds);
+    }
 
 pub returns-clause-reply : goal.returns-clause-reply
 returns-clause-reply g c =
@@ -47,5 +50,4 @@ returns-clause-reply g c =
     let declared : IsTrue (has c.args.snapshot.scope c.args.range.table) = search rules in
     let k : ScansAll z.buckets m c.args.range.table c.args.range.low c.args.range.high c.in_ok-rows.rows w = subst
     (λ r. Scans z.buckets m c.args.range.table c.args.range.low c.args.range.high r w) c.in_ok-rows.was c.scan_rows.ensures.gains in
-    scan_inside z v w c.args.snapshot c.args.range.table c.args.range.low c.args.range.high c.in_ok-rows.rows opened declared
-    (all_behind z v m w c.args.range.table c.args.range.low c.args.range.high c.in_ok-rows.rows none k)
+    scan_inside z v m w c.args.snapshot c.args.range.table c.args.range.low c.args.range.high c.in_ok-rows.rows opened declared none k

@@ -3,14 +3,16 @@ use Rattle.std.specs.Prelude.{Ok, Err, OnErr}
 use Rattle.hg_base.specs.declared.statement.Statement.TheVariants as say
 use Rattle.hg_base.specs.declared.line.Answer.TheVariants.{Rows}
 use Rattle.hg_cursor.specs.Cursors.{table_of, high_of, rest_of, FetchesRest}
-use Rattle.hg_rule.specs.Seats.{session_view, IsSessionOf}
+use Rattle.hg_rule.specs.declared.board.Board.{Board}
+use Rattle.hg_rule.specs.Seats.{board_id, sizes_of, session_view, IsSessionOf}
 use Rattle.hg_store.specs.Stores.{store_buckets}
 use Rattle.hg_session.specs.Cursors.{FitsRest, HasLookedOn}
-use Rattle.hg_session.specs.Engines.{engine_board_id, engine_sizes, engine_store}
+use Rattle.hg_session.specs.Engines.{engine_sizes}
 use Rattle.hg_session.specs.Replies.{AnswersFrom, inside}
 use Rattle.hg_session.specs.Sessions.{view_of, cursor_of}
 use Rattle.hg_session.specs.Ties.{snapshot_of}
 use Rattle.hg_session.proofs.Cursors.{fits_some, reads_at, fetched, fetch_replies, fetch_moves, looked_on}
+use Rattle.hg_session.proofs.Reading.{counted}
 use Rattle.hg_session.proofs.session.Session.fetch.Goals as goal
 
 pub fetch-requires-clause-reads : goal.fetch-requires-clause-reads
@@ -24,11 +26,11 @@ returns-in_err-rows-clause-refused g c =
     let w = session_view c.fetch.new.pass in
     let cursor = c.in-Some.cursor in
     let same : c.from_residual.result ≡ Err c.in_err-rows.field-0.0 = search rules in
-    let f = subst (λ r. FetchesRest (store_buckets (engine_store c.args.engine.now)) c.args.most v (table_of cursor) (rest_of cursor) (high_of cursor) r w) c.in_err-rows.was c.fetch.ensures.looks in
+    let f = subst (λ r. FetchesRest (store_buckets c.tables-tables.result.store.now) c.args.most v (table_of cursor) (rest_of cursor) (high_of cursor) r w) c.in_err-rows.was c.fetch.ensures.looks in
     let is = sym c.spend.ensures.cursor ∙ c.in-Some.is in
     subst (λ r. OnErr r (HasLookedOn (cursor_of c.args.self.now) (view_of c.args.self.now) w × (cursor_of c.spend.new.self ≡ cursor_of c.args.self.now))) (sym same) (
       subst (λ o. HasLookedOn o (view_of c.args.self.now) w) (sym is)
-          (subst (λ x. HasLookedOn (Some cursor) x w) c.spend.ensures.kept.0 (looked_on (store_buckets (engine_store c.args.engine.now)) c.args.most cursor v w _ f)),
+          (subst (λ x. HasLookedOn (Some cursor) x w) c.spend.ensures.kept.0 (looked_on (store_buckets c.tables-tables.result.store.now) c.args.most cursor v w _ f)),
       c.spend.ensures.cursor,
     )
 
@@ -37,7 +39,7 @@ returns-in_err-rows-clause-spent g c =
     let e = c.args.engine.now in
     let cursor = c.in-Some.cursor in
     let own = c.spend.ensures.own e c.requires.own in
-    let pass : IsSessionOf (engine_board_id e) (engine_sizes e) c.fetch.new.pass = search rules in (
+    let pass = subst (λ (b : Board). IsSessionOf (board_id b) (sizes_of b) c.fetch.new.pass) c.tables-tables.ensures.board c.fetch.ensures.own in (
       fetched e c.spend.new.self _ cursor cursor _ c.args.most _ own c.in-Some.is c.in-Some.is refl refl refl refl refl pass c.fetch.ensures.looks c.fetch.ensures.reads.only
           (c.fetch.ensures.heard own.heard),
       c.spend.ensures.left,
@@ -53,8 +55,8 @@ returns-clause-answers g c = λ rest left.
     let cursor = c.in-Some.cursor in
     let own = c.spend.ensures.own e c.requires.own in
     let opened = own.ties.opens ∙ (fits_some c.spend.new.self cursor own.cursor c.in-Some.is).0 in
-    let count : store_buckets (engine_store e) ≡ z.buckets = search rules in
-    let f = subst (λ r. FetchesRest (store_buckets (engine_store e)) c.args.most v (table_of cursor) (rest_of cursor) (high_of cursor) r w) c.in_ok-rows.was c.fetch.ensures.looks in
+    let count = counted e c.tables-tables.result.store.now c.tables-tables.ensures.store in
+    let f = subst (λ r. FetchesRest (store_buckets c.tables-tables.result.store.now) c.args.most v (table_of cursor) (rest_of cursor) (high_of cursor) r w) c.in_ok-rows.was c.fetch.ensures.looks in
     subst (λ x. AnswersFrom rest z x (say.Fetch c.args.most) (inside (Rows c.in_ok-rows.rows)) w) c.spend.ensures.kept.0
     (fetch_replies z v w c.args.most (snapshot_of cursor) cursor c.in_ok-rows.rows rest opened
     (subst (λ n. FetchesRest n c.args.most v (table_of cursor) (rest_of cursor) (high_of cursor) (Ok c.in_ok-rows.rows) w) count f)
@@ -66,8 +68,8 @@ returns-clause-moved g c = λ rest left.
     let w = session_view c.fetch.new.pass in
     let cursor = c.in-Some.cursor in
     let m = c.in_ok-rows.ensures.moved in
-    let f = subst (λ r. FetchesRest (store_buckets (engine_store c.args.engine.now)) c.args.most v (table_of cursor) (rest_of cursor) (high_of cursor) r w) c.in_ok-rows.was c.fetch.ensures.looks in
-    fetch_moves (store_buckets (engine_store c.args.engine.now)) c.args.most cursor c.fetch.new.self c.in_ok-rows.rows v w rest m.1 m.2 m.3 f
+    let f = subst (λ r. FetchesRest (store_buckets c.tables-tables.result.store.now) c.args.most v (table_of cursor) (rest_of cursor) (high_of cursor) r w) c.in_ok-rows.was c.fetch.ensures.looks in
+    fetch_moves (store_buckets c.tables-tables.result.store.now) c.args.most cursor c.fetch.new.self c.in_ok-rows.rows v w rest m.1 m.2 m.3 f
     (subst (λ o. FitsRest o rest) (sym c.spend.ensures.cursor ∙ c.in-Some.is) left)
 
 pub returns-clause-spent : goal.returns-clause-spent
@@ -76,7 +78,7 @@ returns-clause-spent g c =
     let cursor = c.in-Some.cursor in
     let own = c.spend.ensures.own e c.requires.own in
     let m = c.in_ok-rows.ensures.moved in
-    let pass : IsSessionOf (engine_board_id e) (engine_sizes e) c.fetch.new.pass = search rules in (
+    let pass = subst (λ (b : Board). IsSessionOf (board_id b) (sizes_of b) c.fetch.new.pass) c.tables-tables.ensures.board c.fetch.ensures.own in (
       fetched e c.spend.new.self _ cursor c.fetch.new.self _ c.args.most _ own c.in-Some.is refl m.0 m.1 refl refl refl pass c.fetch.ensures.looks c.fetch.ensures.reads.only
           (c.fetch.ensures.heard own.heard),
       c.spend.ensures.left,

@@ -11,20 +11,21 @@ use Rattle.hg_base.specs.declared.rid.TableId.{TableId}
 use Rattle.hg_base.specs.declared.fault.NoMemory.{NoMemory}
 use Rattle.hg_base.specs.declared.value.Value.{Value}
 use Rattle.hg_base.specs.Lists.{Each}
-use Rattle.hg_base.proofs.ListFacts.{cases, each_append, each_keeps, append_nil}
+use Rattle.hg_base.proofs.ListFacts.{cases, each_append, each_keeps}
 use Rattle.hg_core.specs.declared.log.LogEntry.TheVariants.{Saw}
 use Rattle.hg_core.specs.Contents.{bucket_of, has_own}
 use Rattle.hg_core.specs.Reading.{IsReached, saws}
 use Rattle.hg_bucket.specs.BucketModel.{record_at}
 use Rattle.hg_rule.specs.declared.view.View.{View}
+use Rattle.hg_rule.specs.Views.{HasOnlySession}
 use Rattle.hg_cursor.specs.Keys.{Rows, IsOwnKey}
 use Rattle.hg_cursor.proofs.Keys.{is_apart}
 use Rattle.hg_cursor.proofs.Rows.{key_of, map_append, each_mapped}
 use Rattle.hg_cursor.proofs.Gathering.{distinct_append, nothing_twice, ascends_distinct, with_part, part_here, part_else}
 use Rattle.hg_cursor.proofs.Cutting.{ascends_sorted, nat_eq_flips, each_permuted}
-use Rattle.hg_session.specs.Gains.{Gains}
-use Rattle.hg_session.specs.Scans.{Sees, ScansAll, ScansSome}
-use Rattle.hg_session.proofs.Settling.{gains_on}
+use Rattle.hg_cursor.specs.Logs.{Adds}
+use Rattle.hg_cursor.specs.Scans.{SeesAll, ScansAll, ScansSome}
+use Rattle.hg_cursor.proofs.Trips.{adds_none, adds_one}
 
 -- one of the first n buckets, which can have a key of the range
 abbrev pub IsOneOf : ℕ → TableId → ℕ → ℕ → ℕ → ℕ → Type 0
@@ -37,7 +38,7 @@ IsOfSome count table low high part n p = ((b : ℕ) × IsOneOf count table low h
 -- the rows of those are there, and one look at each was logged
 pub record IsScanned (count : ℕ) (v : View) (table : TableId) (low high n : ℕ) (rows : Rows) (w : View) : Type 0 where
   pub part : ℕ → Rows
-  pub gains : Gains v (saws count table low high part n) w
+  pub adds : Adds v (saws count table low high part n) w
   pub each : Each (IsOfSome count table low high part n) rows
   pub every : (b : ℕ) → IsOneOf count table low high n b → Each (λ p. Contains rows p) (part b)
   pub distinct : IsDistinct nat_eq (map key_of rows)
@@ -53,30 +54,30 @@ saws_same count table low high p q (suc n) same =
 
 -- ---- bucket by bucket
 
-pub none_scanned : (count : ℕ) (v : View) (table : TableId) (low high : ℕ) → IsScanned count v table low high 0 [] v
-none_scanned count v table low high = record {
+pub none_scanned : (count : ℕ) (v : View) (table : TableId) (low high : ℕ) → HasOnlySession v → IsScanned count v table low high 0 [] v
+none_scanned count v table low high only = record {
   part = λ b. [];
-  gains = record { number_is = refl; log = refl; kept = ([], sym (append_nil v.sights)) };
+  adds = adds_none v only;
   each = tt;
   every = λ b l. let none = l.0 in absurd (omega (arith, none));
   distinct = nothing_twice;
 }
 
 module _ {T : Type 0} (count : ℕ) (v u w : View) (table : TableId) (low high n : ℕ) (rows new : Rows) (answer : Result T NoMemory) (s : IsScanned count v table low high n rows u)
-    (has : has_own count table low high n ≡ true) (k : Sees count u table low high n rows answer w new) where
+    (has : has_own count table low high n ≡ true) (k : SeesAll count u table low high n rows answer w new) where
   parts : ℕ → Rows
   parts = with_part s.part n k.part
 
   -- one look more
-  more_gained : Gains v (saws count table low high parts (suc n)) w
+  more_added : Adds v (saws count table low high parts (suc n)) w
   unfolding parts
-  more_gained =
-      let joined = gains_on v u w (saws count table low high s.part n) (Saw table low high n k.part ∷ []) s.gains k.gains (λ l. refl) in
+  more_added =
+      let joined = adds_one v u w (Saw table low high n k.part) (saws count table low high s.part n) s.adds k.adds in
       let earlier = saws_same count table low high s.part (with_part s.part n k.part) n (λ b l. sym (part_else s.part n k.part b l)) in
-      subst (λ es. Gains v es w) (λ i. if sym has i then Saw table low high n (sym (part_here s.part n k.part) i) ∷ earlier i else earlier i) joined
+      subst (λ es. Adds v es w) (λ i. if sym has i then Saw table low high n (sym (part_here s.part n k.part) i) ∷ earlier i else earlier i) joined
 
   pub stops : n < count → ScansSome count v table low high w
-  stops l = record { seen = suc n; within = omega (arith, l); part = parts; gains = more_gained }
+  stops l = record { seen = suc n; within = omega (arith, l); part = parts; adds = more_added }
 
   earlier_row : (p : ℕ × List Value) → IsOfSome count table low high s.part n p → IsOfSome count table low high parts (suc n) p
   unfolding parts
@@ -98,7 +99,7 @@ module _ {T : Type 0} (count : ℕ) (v u w : View) (table : TableId) (low high n
   unfolding parts
   one_scanned e = record {
     part = parts;
-    gains = more_gained;
+    adds = more_added;
     each = subst (Each (IsOfSome count table low high parts (suc n))) (sym e)
         (each_append (IsOfSome count table low high parts (suc n)) rows k.part
         (each_keeps (IsOfSome count table low high s.part n) (IsOfSome count table low high parts (suc n)) earlier_row rows s.each) (all_later k.part (λ p c. c) k.own));
@@ -132,7 +133,7 @@ pub one_passed : (count : ℕ) (v w : View) (table : TableId) (low high n : ℕ)
     IsScanned count v table low high (suc n) rows w
 one_passed count v w table low high n rows none s = record {
   part = s.part;
-  gains = subst (λ es. Gains v es w) (λ i. if sym none i then Saw table low high n (s.part n) ∷ saws count table low high s.part n else saws count table low high s.part n) s.gains;
+  adds = subst (λ es. Adds v es w) (λ i. if sym none i then Saw table low high n (s.part n) ∷ saws count table low high s.part n else saws count table low high s.part n) s.adds;
   each = each_keeps (IsOfSome count table low high s.part n) (IsOfSome count table low high s.part (suc n))
       (λ p q. ((q.0.0, (let l = q.0.1.0 in omega (arith, l), q.0.1.1), q.0.2), let l = q.1 in omega (arith, l))) rows s.each;
   every = λ b is. let l = is.0 in cases (nat_lt b n)
@@ -157,5 +158,5 @@ all_scanned count v w table low high n rows sorted all so_far p o =
             (each_keeps (IsOfSome count table low high s.part count) (λ q. (b : ℕ) × IsReached count table low high b × Contains (s.part b) q) (λ q k. k.0) rows s.each);
         every = λ b l. each_keeps (λ q. Contains rows q) (λ q. Contains sorted q) (λ q c. Contains-permutation rows sorted q p c) (s.part b) (s.every b l);
       };
-      gains = s.gains;
+      adds = s.adds;
     }

@@ -2,8 +2,8 @@ use Rattle.std.proofs.Common.{◌≡◌, ◌+◌, false, sym, ◌∙◌, arith}
 use Rattle.std.specs.Prelude.{nat_le}
 use Rattle.std.proofs.lemmas.Bool.Decides.{nat_tests}
 use Rattle.hg_bucket.specs.BucketModel.{record_at}
-use Rattle.hg_session.proofs.ScanningKeys.{least_own, own_within}
-use Rattle.hg_session.proofs.keys.first_key.Goals as goal
+use Rattle.hg_cursor.proofs.ScanningKeys.{least_own, own_within}
+use Rattle.hg_cursor.proofs.own_keys.first_key.Goals as goal
 
 pub ahead-requires-clause-home : goal.ahead-requires-clause-home
 ahead-requires-clause-home c = own_within c.args.count c.args.bucket c.args.home c.args.range.table c.args.range.low c.requires.bucket c.requires.home

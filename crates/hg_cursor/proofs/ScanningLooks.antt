@@ -13,16 +13,14 @@ use Rattle.hg_rule.specs.declared.view.Sight.{Sight}
 use Rattle.hg_rule.specs.declared.view.View.{View}
 use Rattle.hg_rule.specs.Views.{part_number, after_first}
 use Rattle.hg_rule.specs.Holding.{bucket, writer, snapshot}
-use Rattle.hg_rule.specs.Writes.{with_log, with_entry, log_asked, Looks}
-use Rattle.hg_rule.specs.Places.{without_bucket}
+use Rattle.hg_rule.specs.Writes.{log_asked, Looks}
 use Rattle.hg_cursor.specs.Keys.{Rows, IsOwnKey, AreOwn, read_of}
 use Rattle.hg_cursor.proofs.Keys.{own_key}
 use Rattle.hg_cursor.proofs.Uniqueness.{same_rows}
 use Rattle.hg_cursor.proofs.Looking.{shown_there}
-use Rattle.hg_session.specs.Gains.{Gains}
-use Rattle.hg_session.specs.Scans.{Appends, Sees}
-use Rattle.hg_cursor.proofs.Trips.{first_session, Beside, looked}
-use Rattle.hg_session.proofs.Settling.{Trip, trip}
+use Rattle.hg_cursor.specs.Logs.{Adds}
+use Rattle.hg_cursor.specs.Scans.{AppendsAll, SeesAll}
+use Rattle.hg_cursor.proofs.Trips.{first_session, Beside}
 
 on_ok : {T A B : Type 0} (answer : Result T NoMemory) → (A → B) → OnOk answer A → OnOk answer B
 on_ok (Ok t) f a = f a
@@ -35,24 +33,19 @@ module _ (count j b n : ℕ) (part : SessionPart) (old : List Sight) (table : Ta
       let s = first_session u j part _ h.parts in
       λ i. Saw table low high (m i) k.rows ∷ (s i).log
 
-  pub trip_saw : (x : View) → x ≡ without_bucket w → Trip j (with_entry (Saw table low high b k.rows) part) b old w x
-  trip_saw x gives =
-      let l = looked j part b n old (Read table low high) u w h k in
-      subst (λ es. Trip j (with_log es part) b old w x) saw_rows (trip j b _ old w x l.0 l.1 gives)
-
   -- what was copied is what was logged
   pub sees : {T : Type 0} (v x : View) (by : Writer) (at : ℕ) (before after : Rows) (answer : Result T NoMemory) → AreOwn count b (bucket u).content → by ≡ writer u →
-      at ≡ snapshot u → OnOk answer (Appends (read_of by at table (bucket u).content) low high before after) → Gains v (Saw table low high b k.rows ∷ []) x
-      → Sees count v table low high b before answer x after
-  sees v x by at before after answer own same_by same_at copied gains = record {
+      at ≡ snapshot u → OnOk answer (AppendsAll (read_of by at table (bucket u).content) low high before after) → Adds v (Saw table low high b k.rows ∷ []) x
+      → SeesAll count v table low high b before answer x after
+  sees v x by at before after answer own same_by same_at copied adds = record {
     part = k.rows;
-    gains = gains;
+    adds = adds;
     ascend = k.shown.ascend;
     own = each_keeps (λ p. (low ≤ p.0) × (p.0 ≤ high) × ((read_of (writer u) (snapshot u) table (bucket u).content p.0).row ≡ Some p.1)) (λ p. IsOwnKey count b table p.0)
         (λ p s. own_key count b (bucket u).content table p.0 own (shown_there (writer u) (snapshot u) table (bucket u).content p.0 p.1 s.2)) k.rows k.shown.each;
-    added = on_ok answer same (subst (λ m. OnOk answer (Appends (read_of (writer u) m table (bucket u).content) low high before after)) same_at
-        (subst (λ y. OnOk answer (Appends (read_of y at table (bucket u).content) low high before after)) same_by copied));
+    added = on_ok answer same (subst (λ m. OnOk answer (AppendsAll (read_of (writer u) m table (bucket u).content) low high before after)) same_at
+        (subst (λ y. OnOk answer (AppendsAll (read_of y at table (bucket u).content) low high before after)) same_by copied));
   }
     where
-      same : Appends (read_of (writer u) (snapshot u) table (bucket u).content) low high before after → after ≡ before ++ k.rows
+      same : AppendsAll (read_of (writer u) (snapshot u) table (bucket u).content) low high before after → after ≡ before ++ k.rows
       same a = a.is ∙ ap (λ rows. before ++ rows) (same_rows (read_of (writer u) (snapshot u) table (bucket u).content) low high a.more k.rows a.rows k.shown)

@@ -5,18 +5,16 @@
 //!
 //! Only the bucket's own keys are looked up, by its index where it may have many of them.
 
-ghost use Rattle.std.specs.Prelude.{◌≡◌, ◌+◌, ◌%◌, ◌<◌};
+ghost use Rattle.std.specs.Prelude.{◌≡◌, ◌+◌, ◌%◌, ◌<◌, IfSome};
 ghost use Rattle.hg_core.specs.Contents.{has_own};
 ghost use Rattle.hg_rule.specs.declared.view.View.{View};
 ghost use Rattle.hg_rule.specs.Holding.{bucket as bucket_in};
-ghost use Rattle.hg_store.specs.Stores.{Holds};
+ghost use Rattle.hg_store.specs.Stores.{store_buckets, Holds};
 ghost use Rattle.hg_cursor.specs.Keys.{IsOwnKey, AreOwn, HasVersion, IsWithin, LeadsOn};
-ghost use Rattle.hg_session.specs.Engines.{engine_sizes};
 
-use crate::engine::Engine;
 use crate::range::Range;
 use hg_base::TableId;
-use hg_store::Held;
+use hg_store::{Held, Store};
 
 // How many buckets it is from `home` on to a bucket, round all of them.
 fn ahead(bucket: u32, home: u32, count: u32) -> u32
@@ -56,9 +54,12 @@ fn first_key(bucket: u32, home: u32, count: u32, range: Range) -> Option<u64>
     }
 }
 
-// The least key from a number to `high` of those that have a version in the bucket held.
-fn next_there(held: &Held<'_>, table: TableId, from: u64, high: u64) -> Option<u64>
+// The least key of a table from a number to `high`, of those that have a version in the bucket held.
+pub(crate) fn next_there(held: &Held<'_>, table: TableId, from: u64, high: u64) -> Option<u64>
     ensures within { IsWithin from high result }
+    ensures there { (v : View) → Holds v held.now →
+        IfSome result (HasVersion (bucket_in v).content table) }
+    // no key with a version is passed over
     ensures leads { (v : View) → Holds v held.now →
         LeadsOn (HasVersion (bucket_in v).content table) from high result }
 {
@@ -70,20 +71,15 @@ fn next_there(held: &Held<'_>, table: TableId, from: u64, high: u64) -> Option<u
 
 // The first key to read of the bucket held, in a range. Where no other key of the bucket is left there, nothing needs to
 // look it up.
-pub(crate) fn next_within(
-    engine: &Engine,
-    held: &Held<'_>,
-    bucket: u32,
-    range: Range,
-) -> Option<u64>
-    requires bucket { bucket < (engine_sizes engine.now).buckets }
+pub(crate) fn next_within(store: &Store, held: &Held<'_>, bucket: u32, range: Range) -> Option<u64>
+    requires bucket { bucket < store_buckets store.now }
     ensures within { IsWithin range.low range.high result }
     ensures leads { (v : View) → Holds v held.now →
-        AreOwn (engine_sizes engine.now).buckets bucket (bucket_in v).content →
+        AreOwn (store_buckets store.now) bucket (bucket_in v).content →
         LeadsOn (HasVersion (bucket_in v).content range.table) range.low range.high result }
 {
-    let count = engine.store.buckets();
-    let home = engine.bucket_of(range.first());
+    let count = store.buckets();
+    let home = store.bucket_of(range.first());
     let first = first_key(bucket, home, count, range)?;
     if range.high - first < u64::from(count) {
         Some(first)
@@ -94,20 +90,20 @@ pub(crate) fn next_within(
 
 // The next one after a key.
 pub(crate) fn next_after(
-    engine: &Engine,
+    store: &Store,
     held: &Held<'_>,
     bucket: u32,
     range: Range,
     key: u64,
 ) -> Option<u64>
-    requires bucket { bucket < (engine_sizes engine.now).buckets }
+    requires bucket { bucket < store_buckets store.now }
     ensures within { IsWithin (key + 1) range.high result }
     ensures leads { (v : View) → Holds v held.now →
-        AreOwn (engine_sizes engine.now).buckets bucket (bucket_in v).content →
+        AreOwn (store_buckets store.now) bucket (bucket_in v).content →
         LeadsOn (HasVersion (bucket_in v).content range.table) (key + 1) range.high result }
 {
     if key < range.high {
-        next_within(engine, held, bucket, range.over(key))
+        next_within(store, held, bucket, range.over(key))
     } else {
         None
     }

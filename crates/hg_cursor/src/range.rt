@@ -5,12 +5,12 @@ ghost use Rattle.hg_bucket.specs.BucketModel.{record_at};
 
 use hg_base::{Rid, TableId};
 
-// Those of a table from `low` to `high`, both included; none where `low` is over `high`.
+/// Those of a table from `low` to `high`, both included; none where `low` is over `high`.
 #[derive(Clone, Copy)]
-pub(crate) struct Range {
-    pub(crate) table: TableId,
-    pub(crate) low: u64,
-    pub(crate) high: u64,
+pub struct Range {
+    pub table: TableId,
+    pub low: u64,
+    pub high: u64,
 }
 
 impl Range {

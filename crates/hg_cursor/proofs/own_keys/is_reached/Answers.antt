@@ -1,7 +1,7 @@
 use Rattle.std.proofs.Common.{◌+◌, ap, ◌∙◌}
 use Rattle.std.specs.Prelude.{nat_le}
-use Rattle.hg_session.proofs.ScanningKeys.{reached_ahead, own_within}
-use Rattle.hg_session.proofs.keys.is_reached.Goals as goal
+use Rattle.hg_cursor.proofs.ScanningKeys.{reached_ahead, own_within}
+use Rattle.hg_cursor.proofs.own_keys.is_reached.Goals as goal
 
 pub ahead-requires-clause-home : goal.ahead-requires-clause-home
 ahead-requires-clause-home c = own_within c.args.count c.args.bucket c.args.home c.args.range.table c.args.range.low c.requires.bucket c.requires.home
