@@ -18,6 +18,8 @@ pub mod Placed
 pub mod Right
 -- A cursor.
 pub mod Cursors
+-- A statement, in a transaction or outside.
+pub mod Spending
 -- A new engine.
 pub mod Seating
 pub mod Passing

@@ -1,4 +1,4 @@
--- The sessions of a new engine.
+-- The sessions of a new engine, and its collectors' passes.
 use Rattle.std.proofs.Common.{◌≡◌, ℕ, suc, ◌+◌, ◌<◌, ◌≤◌, List, [], ◌∷◌, length, map, refl, sym, ap, ◌∙◌, subst, inl, arith}
 use Rattle.std.specs.declared.alloc.Global.{Global}
 use Rattle.std.specs.Prelude.{is_some}
@@ -6,14 +6,17 @@ use Rattle.hg_core.specs.Logs.{current, begans, wrotes, is_plain, open_in}
 use Rattle.hg_core.specs.Phases.{IsSession}
 use Rattle.hg_rule.specs.declared.passes.SessionPass.{SessionPass}
 use Rattle.hg_rule.specs.declared.view.View.{View}
-use Rattle.hg_rule.specs.Views.{seeing, number, session, HasSession, HasOnlySession}
-use Rattle.hg_rule.specs.Moves.{session_part}
-use Rattle.hg_rule.specs.New.{EachFrom, IsNewSession}
-use Rattle.hg_rule.specs.Seats.{session_view}
+use Rattle.hg_rule.specs.Views.{seeing, number, session, pass, HasSession, HasOnlySession, HasPass}
+use Rattle.hg_rule.specs.declared.passes.CollectorPass.{CollectorPass}
+use Rattle.hg_rule.specs.declared.view.Part.TheVariants.{OfPass}
+use Rattle.hg_rule.specs.Moves.{session_part, pass_part}
+use Rattle.hg_rule.specs.New.{EachFrom, IsNewSession, IsNewPass}
+use Rattle.hg_rule.specs.Seats.{BoardId, session_view, pass_view}
 use Rattle.hg_session.specs.declared.engine.Engine.{Engine}
 use Rattle.hg_session.specs.declared.session.Session.{Session}
 use Rattle.hg_session.specs.Engines.{engine_board_id, engine_sizes}
 use Rattle.hg_session.specs.Opened.{seated, IsNewOf}
+use Rattle.hg_session.specs.Passing.{IsAlonePass}
 
 pub seated_is : (e : Engine) (alloc : Global) (quota j : ℕ) (p : SessionPass) → quota ≤ (engine_sizes e).quota → IsSession (engine_sizes e).sessions j →
     IsNewSession (engine_board_id e) j p → IsNewOf e quota j (seated alloc quota p)
@@ -61,3 +64,12 @@ seated_row e alloc quota i (p ∷ ps) most first last row = (
 pub opened_row : (e : Engine) (alloc : Global) (quota : ℕ) (ps : List SessionPass) (sessions : List Session) → sessions ≡ map (seated alloc quota) ps →
     quota ≤ (engine_sizes e).quota → length ps ≤ (engine_sizes e).sessions → EachFrom (IsNewSession (engine_board_id e)) 1 ps → EachFrom (IsNewOf e quota) 1 sessions
 opened_row e alloc quota ps sessions are most all row = subst (EachFrom (IsNewOf e quota) 1) (sym are) (seated_row e alloc quota 1 ps most (omega arith) (omega (arith, all)) row)
+
+-- a new pass has its own part alone, with all of its share
+pub new_alone : (t : BoardId) (p : ℕ) (c : CollectorPass) → IsNewPass t p c → IsAlonePass t p c
+new_alone t p c new =
+    let is : pass_view c ≡ seeing (pass_part p ∷ []) [] [] = ap (λ m. m.0) new.1 in record {
+      own = ((new.0, ap (λ m. m.1) new.1), subst HasPass (sym is) refl);
+      only = subst (λ (v : View). v.parts ≡ OfPass p (pass v) ∷ []) (sym is) refl;
+      share = ap (λ v. (pass v).share) is;
+    }

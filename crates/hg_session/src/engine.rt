@@ -11,7 +11,7 @@ use crate::totals::totals_with;
 use hg_base::{NoMemory, Rid, Totals};
 use hg_cursor::Tables;
 use hg_group::GroupList;
-use hg_rule::{Board, CollectorPass, Seats};
+use hg_rule::{Board, BucketSeatList, CollectorPass, CommitSeat, Seats};
 use hg_store::Store;
 use hg_tracker::Trackers;
 use std::alloc::Global;
@@ -47,7 +47,7 @@ pub struct Engine {
 impl Engine {
     ghost use Rattle.std.specs.Prelude.{◌*◌, ◌^◌, ◌≤◌, length, IfOk};
     ghost use Rattle.hg_core.specs.Contents.{bucket_of};
-    ghost use Rattle.hg_rule.specs.New.{EachFrom, IsNewPass};
+    ghost use Rattle.hg_rule.specs.New.{EachFrom, IsNewBucket, IsNewCommit, IsNewPass};
     ghost use Rattle.hg_rule.specs.Seats.{pass_view, IsPassOf};
     ghost use Rattle.hg_session.specs.Ended.{IsEnded, KeepsLogs, KeepsRemoved};
     ghost use Rattle.hg_session.specs.Engines.{engine_board, engine_board_id, engine_groups, engine_sizes, engine_store};
@@ -88,20 +88,38 @@ impl Engine {
             table,
             interval,
         } = seats;
-        let store = Store::new(alloc, seats)?;
-        let groups = GroupList::new(alloc, commit, sessions)?;
-        let sessions = seat_all(alloc, places.into_vec(), quota)?;
-        let engine = Engine {
-            trackers: Trackers::new(board),
-            store,
-            groups,
-        };
         let passes = Passes {
             group,
             table,
             interval,
         };
+        let engine = Engine::over(alloc, board, seats, commit, sessions)?;
+        let sessions = seat_all(alloc, places.into_vec(), quota)?;
         Ok((engine, SessionList::from(sessions), passes))
+    }
+
+    // An engine on a new board, which has so many sessions.
+    fn over(
+        alloc: Global,
+        board: Board,
+        buckets: BucketSeatList,
+        commit: CommitSeat,
+        sessions: u32,
+    ) -> Result<Engine, NoMemory>
+        requires some { (0 < length buckets) × (length buckets < 2 ^ 32) }
+        requires buckets { (length buckets ≡ (sizes_of board).buckets) ×
+            EachFrom (IsNewBucket (board_id board)) 0 buckets }
+        requires commit { IsNewCommit (board_id board) commit }
+        requires sessions { sessions ≡ (sizes_of board).sessions }
+        ensures { IfOk result (λ engine. engine_board engine ≡ board) }
+    {
+        let store = Store::new(alloc, buckets)?;
+        let groups = GroupList::new(alloc, commit, sessions)?;
+        Ok(Engine {
+            trackers: Trackers::new(board),
+            store,
+            groups,
+        })
     }
 
     /// The board, with the calls that take and give snapshots.

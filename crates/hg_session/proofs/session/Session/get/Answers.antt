@@ -1,0 +1,38 @@
+use Rattle.std.proofs.Common.{◌≡◌, Some, None, Err, Ok}
+use Rattle.hg_base.specs.declared.statement.Statement.TheVariants as say
+use Rattle.hg_session.specs.declared.answers.GetRefusal.TheVariants as refusal
+use Rattle.hg_session.specs.Engines.{engine_sizes}
+use Rattle.hg_session.specs.Refused.{LeavesLooks}
+use Rattle.hg_session.specs.Replies.{Answers, IsRefusedIf, IsAtOwn, get_at, get_reply}
+use Rattle.hg_session.specs.Sessions.{view_of}
+use Rattle.hg_session.proofs.Spending.{opened_now, replies, by_opened, spends, spends_alone}
+use Rattle.hg_session.proofs.session.Session.get.Goals as goal
+
+pub get_inside-requires-clause-own : goal.get_inside-requires-clause-own
+get_inside-requires-clause-own g c = c.spend.ensures.may c.args.engine.now c.requires.own c.requires.cursor
+
+pub get_alone-requires-clause-own : goal.get_alone-requires-clause-own
+get_alone-requires-clause-own g c = c.spend.ensures.may c.args.engine.now c.requires.own c.requires.cursor
+
+pub returns-in-Some-clause-reply : goal.returns-in-Some-clause-reply
+returns-in-Some-clause-reply g c =
+    let is = opened_now c.args.engine.now c.args.self.now c.spend.new.self (Some c.in-Some.snapshot) c.requires.own c.spend.ensures.kept.1 c.in-Some.is in
+    replies c.args.self.now c.spend.new.self (Some c.in-Some.snapshot) is c.spend.ensures.kept.0 get_reply c.get_inside.result (λ v r. Answers (engine_sizes c.args.engine.now) v (say.Get c.args.rid) r (view_of c.get_inside.new.session)) c.get_inside.ensures.reply
+
+pub returns-in-Some-clause-at : goal.returns-in-Some-clause-at
+returns-in-Some-clause-at g c =
+    let is = opened_now c.args.engine.now c.args.self.now c.spend.new.self (Some c.in-Some.snapshot) c.requires.own c.spend.ensures.kept.1 c.in-Some.is in
+    by_opened c.args.self.now c.spend.new.self (Some c.in-Some.snapshot) is c.spend.ensures.kept.0 (λ o v. IsAtOwn o (get_at c.get_inside.result)) c.get_inside.ensures.at
+
+pub returns-in-Some-clause-undeclared : goal.returns-in-Some-clause-undeclared
+returns-in-Some-clause-undeclared g c =
+    let is = opened_now c.args.engine.now c.args.self.now c.spend.new.self (Some c.in-Some.snapshot) c.requires.own c.spend.ensures.kept.1 c.in-Some.is in
+    by_opened c.args.self.now c.spend.new.self (Some c.in-Some.snapshot) is c.spend.ensures.kept.0 (λ o v. IsRefusedIf o c.args.rid.table c.get_inside.result (refusal.Undeclared c.args.rid.table)) c.get_inside.ensures.undeclared
+
+pub returns-in-Some-clause-refused : goal.returns-in-Some-clause-refused
+returns-in-Some-clause-refused g c =
+    let is = opened_now c.args.engine.now c.args.self.now c.spend.new.self (Some c.in-Some.snapshot) c.requires.own c.spend.ensures.kept.1 c.in-Some.is in
+    λ same. by_opened c.args.self.now c.spend.new.self (Some c.in-Some.snapshot) is c.spend.ensures.kept.0 (λ o v. LeavesLooks o c.args.rid.table c.args.rid.key c.args.rid.key v (view_of c.get_inside.new.session)) (c.get_inside.ensures.refused same)
+
+pub returns-in-Some-clause-spent : goal.returns-in-Some-clause-spent
+returns-in-Some-clause-spent g c = spends c.args.engine.now c.args.self.now c.spend.new.self c.get_inside.new.session c.requires.own c.spend.ensures.kept.1 c.spend.ensures.left c.spend.ensures.retries c.get_inside.ensures.kept c.get_inside.ensures.own
