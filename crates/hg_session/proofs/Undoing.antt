@@ -1,5 +1,5 @@
 -- A transaction that is rolled back.
-use Rattle.std.proofs.Common.{◌≡◌, ℕ, List, [], ◌∷◌, ◌++◌, map, Bool, true, false, cond, Option, Some, None, refl, sym, ap, ◌∙◌, subst, inl, inr, arith}
+use Rattle.std.proofs.Common.{◌≡◌, ◌⊎◌, ℕ, List, [], ◌∷◌, ◌++◌, map, Bool, true, false, cond, Option, Some, None, refl, sym, ap, ◌∙◌, subst, inl, inr, arith}
 use Rattle.std.specs.Prelude.{is_some, IsTrue, ◌||◌}
 use Rattle.hg_base.specs.declared.rid.Rid.{Rid}
 use Rattle.hg_base.specs.declared.image.Image.{Image}
@@ -92,6 +92,25 @@ undone_writer v u rids a =
 
 pub undone_log : (v u : View) (rids : List Rid) → HasUndone v rids u → (session u).log ≡ map Undid rids ++ (session v).log
 undone_log v u rids a = ap (λ (p : SessionPart). p.log) (first_session u (number v) _ [] a.alone.parts)
+
+-- one more, after these
+pub undone_more : (v u w : View) (rids : List Rid) (rid : Rid) → HasUndone v rids u → HasUndone u (rid ∷ []) w → HasUndone v (rid ∷ rids) w
+undone_more v u w rids rid a b =
+    let part : SessionPart = with_log (map Undid rids ++ (session v).log) (session v) in
+    let n = first_number u (number v) part [] a.alone.parts in
+    let s = first_session u (number v) part [] a.alone.parts in
+    record {
+      alone = record {
+        parts = b.alone.parts ∙ (λ i. OfSession (n i) (with_log (Undid rid ∷ (s i).log) (s i)) ∷ []);
+        kept = starts_on w.sights u.sights v.sights a.alone.kept b.alone.kept;
+      };
+      heard = later n s b.heard;
+    }
+  where
+    later : number u ≡ number v → session u ≡ with_log (map Undid rids ++ (session v).log) (session v) → (rid ∷ [] ≡ []) ⊎ IsAmong (Heard (number u) (Undid rid ∷ (session u).log)) w.sights →
+        (rid ∷ rids ≡ []) ⊎ IsAmong (Heard (number v) (Undid rid ∷ (map Undid rids ++ (session v).log))) w.sights
+    later n s (inl none) = absurd (let k = none in cc)
+    later n s (inr m) = inr (subst (λ x. IsAmong x w.sights) (λ i. Heard (n i) (Undid rid ∷ (s i).log)) m)
 
 -- ---- all of them, and the end
 

@@ -1,9 +1,10 @@
-use Rattle.std.proofs.Common.{◌≡◌, [], None, refl, sym, ◌∙◌, subst, rules}
+use Rattle.std.proofs.Common.{◌≡◌, [], Some, None, refl, sym, ◌∙◌, subst, rules}
 use Rattle.std.specs.Prelude.{length, ◌<◌}
 use Rattle.hg_rule.specs.Views.{number, session}
 use Rattle.hg_rule.specs.Holding.{snapshot}
 use Rattle.hg_rule.specs.Seats.{session_view, IsSessionOf}
 use Rattle.hg_core.specs.declared.log.LogEntry.TheVariants.{Over}
+use Rattle.hg_core.specs.Reading.{close}
 use Rattle.hg_core.specs.declared.phase.Phase.TheVariants.{Idle}
 use Rattle.hg_rule.specs.Steps.{logging}
 use Rattle.hg_rule.specs.Writes.{with_published}
@@ -12,7 +13,7 @@ use Rattle.hg_session.specs.Engines.{engine_board_id, engine_sizes}
 use Rattle.hg_session.proofs.Tying.{ties_committed}
 use Rattle.hg_session.proofs.Done.{unwritten, written_some, closed, after, back_gains, back_in, ties_back, none_of}
 use Rattle.hg_session.proofs.Placed.{has_place}
-use Rattle.hg_session.proofs.Settling.{settled}
+use Rattle.hg_session.proofs.Settling.{settled, gained}
 use Rattle.hg_session.proofs.commit.commit_open.Goals as goal
 
 pub returns-then-is_empty-clause-wrote : goal.returns-then-is_empty-clause-wrote
@@ -30,6 +31,12 @@ returns-in-Ok-clause-after g c =
     let v = session_view c.args.session.now.pass in
     let at : c.args.snapshot.at ≡ snapshot v = search rules in
     after v (session_view c.commit.new.pass) c.in-Ok.receipt c.args.snapshot.at c.in-Ok.ensures.committed at
+
+pub returns-in-Ok-clause-gains : goal.returns-in-Ok-clause-gains
+returns-in-Ok-clause-gains g c =
+    let v = session_view c.args.session.now.pass in
+    let k = closed v (session_view c.commit.new.pass) (session_view c.end-in-Ok.new.pass) c.in-Ok.receipt c.in-Ok.ensures.committed c.end-in-Ok.ensures.step in
+    gained v (session_view c.end-in-Ok.new.pass) _ (close (Some c.in-Ok.receipt.number)) k.alone refl
 
 pub returns-in-Ok-clause-own : goal.returns-in-Ok-clause-own
 returns-in-Ok-clause-own g c =

@@ -1,10 +1,10 @@
-use Rattle.std.proofs.Common.{◌≡◌, ◌++◌, ◌∷◌, [], sym, ap, ◌∙◌, subst, rules, append-nil}
+use Rattle.std.proofs.Common.{◌≡◌, ◌++◌, ◌∷◌, [], sym, ap, ◌∙◌, subst, rules, append-nil, append_assoc}
 use Rattle.std.specs.Prelude.{IsSome, cond, None}
 use Rattle.hg_base.specs.History.{is_among, NoneTwice}
 use Rattle.hg_core.specs.Logs.{open_in}
 use Rattle.hg_rule.specs.Views.{session}
 use Rattle.hg_rule.specs.Seats.{session_view}
-use Rattle.hg_session.proofs.Undoing.{undid_none, undone_writer, undone_log, open_undone, last_apart, last_among}
+use Rattle.hg_session.proofs.Undoing.{undid_none, undone_writer, undone_log, undone_more, open_undone, last_apart, last_among}
 use Rattle.hg_session.proofs.rollback.undo_each.Goals as goal
 
 pub loop-rid-init : goal.loop-rid-init
@@ -25,3 +25,15 @@ undo_one-requires-clause-mine g c =
     let log : open_in r (session (session_view c.loop-rid.pass)).log ≡ open_in r (session v).log = ap (open_in r) (undone_log v (session_view c.loop-rid.pass) i.gone i.undone) ∙
     (open_undone r i.gone (session v).log ∙ ap (λ b. cond b None (open_in r (session v).log)) apart) in
     subst IsSome (sym log) mine
+
+pub loop-rid-preserved : goal.loop-rid-preserved
+loop-rid-preserved g c =
+    let i = c.loop-rid.invariant in
+    let r = c.in-Some.rid in
+    let last : c.loop-rid.records.list ≡ c.pop.new.self.list ++ r ∷ [] = search rules in
+    record {
+      gone = r ∷ i.gone;
+      all = i.all ∙ (ap (λ l. l ++ i.gone) last ∙ append_assoc c.pop.new.self.list (r ∷ []) i.gone);
+      undone = undone_more (session_view c.args.pass.now) (session_view c.loop-rid.pass) (session_view c.undo_one.new.pass) i.gone r i.undone c.undo_one.ensures.undone;
+      own = c.undo_one.ensures.own;
+    }
