@@ -62,7 +62,7 @@ between e s i = record {
 -- ---- what a cursor reads
 
 -- a table is in the scope of it alone
-has_only : (table : TableId) → IsTrue (has (only (Some table)) table)
+pub has_only : (table : TableId) → IsTrue (has (only (Some table)) table)
 has_only table = ap (λ n. n % 2 == 1) (div_self (pow_pos table.0))
 
 pub some_cursor : (o : Option Cursor) → IsSome o → (c : Cursor) × (o ≡ Some c)

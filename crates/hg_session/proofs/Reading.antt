@@ -29,7 +29,7 @@ use Rattle.hg_session.specs.Engines.{engine_board, engine_sizes, engine_store}
 use Rattle.hg_session.specs.Gains.{Gains}
 use Rattle.hg_session.specs.Sessions.{IsIn, pass_of, view_of, left_of, cursor_of, opened_of, written_of}
 use Rattle.hg_session.specs.Ties.{Ties, phase_at}
-use Rattle.hg_session.proofs.Tying.{IsQuiet, ties_quiet}
+use Rattle.hg_session.proofs.Tying.{IsQuiet, ties_quiet, ties_unwritten}
 
 -- an engine's store has the buckets of its board
 pub counted : (e : Engine) (store : Store) → store ≡ engine_store e → store_buckets store ≡ (engine_sizes e).buckets
@@ -95,3 +95,7 @@ looked_in e begins writes s t board es same i quiet a heard own opened written l
       heard = heard;
       closed = cursor ∙ i.closed;
     }
+
+-- which need not write then
+pub no_more_writes : (e : Engine) (s : Session) → IsIn e 0 1 s → IsIn e 0 0 s
+no_more_writes e s i = record { pass = i.pass; only = i.only; ties = ties_unwritten (engine_sizes e).quota (opened_of s) (written_of s) (session (view_of s)) (left_of s) i.ties; heard = i.heard; closed = i.closed }

@@ -1,8 +1,8 @@
 use Rattle.std.proofs.Common.{◌≡◌, [], ◌∷◌, true, false, Some, None, Err, refl, sym, ap, ◌∙◌, subst, rules}
-use Rattle.std.specs.Prelude.{IfSome, IfErr, IfOk, is_some}
+use Rattle.std.specs.Prelude.{IsTrue, IfSome, IfErr, IfOk, is_some}
 use Rattle.hg_base.specs.declared.statement.Statement.TheVariants as say
 use Rattle.hg_base.specs.History.{nothing}
-use Rattle.hg_base.specs.Transcript.{only}
+use Rattle.hg_base.specs.Transcript.{only, has}
 use Rattle.hg_core.specs.declared.log.LogEntry.TheVariants.{Began, Over}
 use Rattle.hg_core.specs.Logs.{current, own_writes}
 use Rattle.hg_core.specs.Reading.{saw}
@@ -17,6 +17,8 @@ use Rattle.hg_core.specs.Shown.{HasOpen, reads_at}
 use Rattle.hg_base.specs.declared.line.Answer.TheVariants as answers
 use Rattle.hg_base.specs.declared.line.Reply.{Reply}
 use Rattle.hg_session.specs.Alone.{WritesAlone, IsRefusedAlone}
+use Rattle.hg_session.proofs.Cursors.{has_only}
+use Rattle.hg_session.proofs.Reading.{no_more_writes}
 use Rattle.hg_session.proofs.Putting.{stored_alone, refused_alone}
 use Rattle.hg_session.proofs.Refusing.{no_write}
 use Rattle.hg_session.proofs.Firsts.{bare, both, gone_first, put_back, refused_first}
@@ -108,3 +110,46 @@ returns-clause-reply g c =
           (dels z (own_writes (session v).log) rid row.0) n at none c.open-snapshot.ensures.fresh two c.in_ok-number.number stored;
       first = gone_first v w rid at reply (ap (λ o. reads_at o reply) none) (subst (λ x. ShowsPut v rid at x w) c.in_ok-number.was first);
     }
+
+-- ---- what each call may rely on
+
+pub see_there-requires-clause-table : goal.see_there-requires-clause-table
+see_there-requires-clause-table g c = subst (λ s. IsTrue (has s c.args.rid.table)) (sym (c.open-snapshot.ensures.scope ∙ c.only.ensures.is)) (has_only c.args.rid.table)
+
+pub end-requires-clause-own : goal.end-requires-clause-own
+end-requires-clause-own g c = no_more_writes c.args.engine.now c.see_there.new.session c.see_there.ensures.own
+
+pub write_alone-requires-clause-own : goal.write_alone-requires-clause-own
+write_alone-requires-clause-own g c = c.see_there.ensures.own
+
+pub write_alone-requires-clause-opened : goal.write_alone-requires-clause-opened
+write_alone-requires-clause-opened g c = c.see_there.ensures.kept.0 ∙ c.open-snapshot.ensures.opened.0
+
+pub write_alone-requires-clause-unwritten : goal.write_alone-requires-clause-unwritten
+write_alone-requires-clause-unwritten g c = c.see_there.ensures.kept.1 ∙ c.open-snapshot.ensures.opened.1
+
+pub write_alone-requires-clause-table : goal.write_alone-requires-clause-table
+write_alone-requires-clause-table g c = (
+  subst (λ s. IsTrue (has s c.args.rid.table)) (sym (c.open-snapshot.ensures.scope ∙ c.only.ensures.is)) (has_only c.args.rid.table),
+  c.requires.table,
+)
+
+-- ---- what each way out leaves
+
+pub returns-then-not-see_there-clause-kept : goal.returns-then-not-see_there-clause-kept
+returns-then-not-see_there-clause-kept g c = (
+  c.end.ensures.kept.0 ∙ (c.see_there.ensures.kept.2 ∙ c.open-snapshot.ensures.kept.0),
+  c.end.ensures.kept.1 ∙ (c.see_there.ensures.kept.3 ∙ c.open-snapshot.ensures.kept.1),
+)
+
+pub returns-in_err-number-clause-kept : goal.returns-in_err-number-clause-kept
+returns-in_err-number-clause-kept g c = (
+  c.write_alone.ensures.kept.0 ∙ (c.see_there.ensures.kept.2 ∙ c.open-snapshot.ensures.kept.0),
+  c.write_alone.ensures.kept.1 ∙ (c.see_there.ensures.kept.3 ∙ c.open-snapshot.ensures.kept.1),
+)
+
+pub returns-clause-kept : goal.returns-clause-kept
+returns-clause-kept g c = (
+  c.write_alone.ensures.kept.0 ∙ (c.see_there.ensures.kept.2 ∙ c.open-snapshot.ensures.kept.0),
+  c.write_alone.ensures.kept.1 ∙ (c.see_there.ensures.kept.3 ∙ c.open-snapshot.ensures.kept.1),
+)

@@ -16,6 +16,7 @@ use Rattle.hg_core.specs.Shown.{HasOpen, reads_at}
 use Rattle.hg_base.specs.declared.line.Answer.TheVariants as answers
 use Rattle.hg_session.proofs.Replying.{undeclared_inside}
 use Rattle.hg_session.proofs.Putting.{stored_inside, refused_inside}
+use Rattle.hg_session.proofs.Reading.{no_more_writes}
 use Rattle.hg_session.proofs.Ranged.{dels, with_found, saw_found, found_row, no_row, nothing_inside}
 use Rattle.hg_session.proofs.Refusing.{looked_before}
 use Rattle.hg_session.proofs.Settling.{gains_on, refused_before}
@@ -108,3 +109,6 @@ returns-in-Err-clause-refused g c =
     let all = gains_on v n w seen es two wrote (λ l. sym (append_assoc es seen l)) in
     λ same. looked_before v w rid nothing c.args.snapshot.at seen ((refl, (refl, refl)), tt) c.in-Err.refusal all (let k : Err c.refused_at.result ≡ Err refusal.NoMemory = same in
     sym c.refused_at.ensures ∙ (let q = k in cc))
+
+pub returns-then-not-see_there-clause-own : goal.returns-then-not-see_there-clause-own
+returns-then-not-see_there-clause-own g c = no_more_writes c.args.engine.now c.see_there.new.session c.see_there.ensures.own

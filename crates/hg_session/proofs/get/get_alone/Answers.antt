@@ -12,6 +12,7 @@ use Rattle.hg_session.specs.Gains.{Gains}
 use Rattle.hg_session.specs.Refused.{HasGivenUp}
 use Rattle.hg_session.proofs.Refusing.{given_up}
 use Rattle.hg_session.proofs.Replying.{get_alone}
+use Rattle.hg_session.proofs.Reading.{no_more_writes}
 use Rattle.hg_session.proofs.Settling.{gains_on}
 use Rattle.hg_session.proofs.get.get_alone.Goals as goal
 
@@ -45,3 +46,6 @@ returns-clause-reply g c =
     (sym row) c.see_row-row.ensures.gains.1.0) (λ l. refl) in
     let all = gains_on v (view_of c.see_row-row.new.session) w _ (Over ∷ []) two c.end.ensures.gains (λ l. refl) in
     get_alone z v w c.open-snapshot.result.at c.args.rid c.in_ok-row.field-0 none c.open-snapshot.ensures.fresh all
+
+pub end-requires-clause-own : goal.end-requires-clause-own
+end-requires-clause-own g c = no_more_writes c.args.engine.now c.see_row-row.new.session c.see_row-row.ensures.own

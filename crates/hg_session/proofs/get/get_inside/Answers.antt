@@ -8,6 +8,7 @@ use Rattle.hg_session.specs.Engines.{engine_sizes}
 use Rattle.hg_session.specs.Sessions.{view_of}
 use Rattle.hg_session.specs.Gains.{Gains, outside_entries}
 use Rattle.hg_session.proofs.Replying.{get_inside, undeclared_inside}
+use Rattle.hg_session.proofs.Reading.{no_more_writes}
 use Rattle.hg_session.proofs.Settling.{gains_on}
 use Rattle.hg_session.proofs.get.get_inside.Goals as goal
 
@@ -39,3 +40,9 @@ returns-clause-reply g c =
     let all = gains_on v (view_of c.is_outside.new.self) w [] _ none c.see_row.ensures.gains.1.0 (λ l. refl) in
     let row : c.in_ok-row.row ≡ c.see_row.ensures.gains.0 = search rules in
     get_inside z v w c.args.snapshot c.args.rid c.in_ok-row.row opened (subst (λ r. Gains v (saw z.buckets c.args.rid (rows_at c.args.rid.key r) ∷ []) w) (sym row) all)
+
+pub returns-in_err-row-clause-own : goal.returns-in_err-row-clause-own
+returns-in_err-row-clause-own g c = no_more_writes c.args.engine.now c.see_row.new.session c.see_row.ensures.own
+
+pub returns-clause-own : goal.returns-clause-own
+returns-clause-own g c = no_more_writes c.args.engine.now c.see_row.new.session c.see_row.ensures.own

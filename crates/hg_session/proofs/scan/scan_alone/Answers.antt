@@ -10,7 +10,7 @@ use Rattle.hg_session.specs.Sessions.{view_of}
 use Rattle.hg_session.specs.Gains.{Gains}
 use Rattle.hg_session.specs.Refused.{HasGivenUp}
 use Rattle.hg_cursor.specs.Scans.{Scans, ScansAll, ScansSome}
-use Rattle.hg_session.proofs.Reading.{adds_gain}
+use Rattle.hg_session.proofs.Reading.{adds_gain, no_more_writes}
 use Rattle.hg_session.proofs.Refusing.{given_up, saws_there}
 use Rattle.hg_session.proofs.Ranged.{scan_alone}
 use Rattle.hg_session.proofs.Settling.{gains_on}
@@ -46,3 +46,6 @@ returns-clause-reply g c =
     let k : ScansAll z.buckets m c.args.range.table c.args.range.low c.args.range.high c.in_ok-rows.field-0 n = subst
     (λ r. Scans z.buckets m c.args.range.table c.args.range.low c.args.range.high r n) c.in_ok-rows.was c.scan_rows-rows.ensures.gains in
     scan_alone z v m n w c.open-snapshot.result.at c.args.range.table c.args.range.low c.args.range.high c.in_ok-rows.field-0 none c.open-snapshot.ensures.fresh begun k c.end.ensures.gains
+
+pub end-requires-clause-own : goal.end-requires-clause-own
+end-requires-clause-own g c = no_more_writes c.args.engine.now c.scan_rows-rows.new.session c.scan_rows-rows.ensures.own

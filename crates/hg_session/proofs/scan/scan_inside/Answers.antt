@@ -9,7 +9,7 @@ use Rattle.hg_session.specs.Engines.{engine_sizes}
 use Rattle.hg_session.specs.Sessions.{view_of}
 use Rattle.hg_session.specs.Gains.{Gains, outside_entries}
 use Rattle.hg_cursor.specs.Scans.{Scans, ScansAll, ScansSome}
-use Rattle.hg_session.proofs.Reading.{adds_gain}
+use Rattle.hg_session.proofs.Reading.{adds_gain, no_more_writes}
 use Rattle.hg_session.proofs.Replying.{undeclared_inside}
 use Rattle.hg_session.proofs.Ranged.{scan_inside, all_behind}
 use Rattle.hg_session.proofs.Refusing.{saws_there}
@@ -51,3 +51,9 @@ returns-clause-reply g c =
     let k : ScansAll z.buckets m c.args.range.table c.args.range.low c.args.range.high c.in_ok-rows.rows w = subst
     (λ r. Scans z.buckets m c.args.range.table c.args.range.low c.args.range.high r w) c.in_ok-rows.was c.scan_rows.ensures.gains in
     scan_inside z v m w c.args.snapshot c.args.range.table c.args.range.low c.args.range.high c.in_ok-rows.rows opened declared none k
+
+pub returns-in_err-rows-clause-own : goal.returns-in_err-rows-clause-own
+returns-in_err-rows-clause-own g c = no_more_writes c.args.engine.now c.scan_rows.new.session c.scan_rows.ensures.own
+
+pub returns-clause-own : goal.returns-clause-own
+returns-clause-own g c = no_more_writes c.args.engine.now c.scan_rows.new.session c.scan_rows.ensures.own
