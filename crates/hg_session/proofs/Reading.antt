@@ -1,5 +1,5 @@
 -- A session that reads: that it may, and what it has after it.
-use Rattle.std.proofs.Common.{◌≡◌, ℕ, zero, suc, List, [], ◌∷◌, ◌++◌, Bool, true, false, Option, Some, sym, ap, ◌∙◌, subst}
+use Rattle.std.proofs.Common.{◌≡◌, ℕ, zero, suc, List, [], ◌∷◌, ◌++◌, Bool, true, false, Option, Some, not, refl, sym, ap, ◌∙◌, subst}
 use Rattle.std.specs.Prelude.{IsTrue, if◌then◌else◌, Result, Ok, Err}
 use Rattle.hg_base.specs.declared.fault.NoMemory.{NoMemory}
 use Rattle.hg_base.specs.declared.rid.Rid.{Rid}
@@ -35,7 +35,12 @@ use Rattle.hg_session.proofs.Tying.{IsQuiet, ties_quiet, ties_unwritten}
 pub counted : (e : Engine) (store : Store) → store ≡ engine_store e → store_buckets store ≡ (engine_sizes e).buckets
 counted e store same = ap store_buckets same ∙ e.buckets_are
 
--- a table that the open transaction declared
+-- a table that is not outside of those that the open transaction declared
+pub inside_scope : (declared outside : Bool) → outside ≡ not declared → outside ≡ false → IsTrue declared
+inside_scope true outside is within = refl
+inside_scope false outside is within = absurd (let k = sym is ∙ within in cc)
+
+-- such a session may read it
 pub may_read : (e : Engine) (begins writes : ℕ) (s : Session) (snapshot : Snapshot) (table : TableId) → IsIn e begins writes s → opened_of s ≡ Some snapshot →
     IsTrue (has snapshot.scope table) → MayRead snapshot.at table (view_of s)
 may_read e begins writes s snapshot table i opened declared = record {
@@ -98,4 +103,10 @@ looked_in e begins writes s t board es same i quiet a heard own opened written l
 
 -- which need not write then
 pub no_more_writes : (e : Engine) (s : Session) → IsIn e 0 1 s → IsIn e 0 0 s
-no_more_writes e s i = record { pass = i.pass; only = i.only; ties = ties_unwritten (engine_sizes e).quota (opened_of s) (written_of s) (session (view_of s)) (left_of s) i.ties; heard = i.heard; closed = i.closed }
+no_more_writes e s i = record {
+  pass = i.pass;
+  only = i.only;
+  ties = ties_unwritten (engine_sizes e).quota (opened_of s) (written_of s) (session (view_of s)) (left_of s) i.ties;
+  heard = i.heard;
+  closed = i.closed;
+}

@@ -1,5 +1,5 @@
 -- A statement, in the open transaction or in one of its own: what holds by the transaction that is open, and what is counted.
-use Rattle.std.proofs.Common.{◌≡◌, ◌+◌, Bool, Option, Some, None, sym, ◌∙◌, subst}
+use Rattle.std.proofs.Common.{◌≡◌, ◌+◌, Bool, Option, None, sym, ◌∙◌, subst}
 use Rattle.std.specs.Prelude.{is_none, IfSome}
 use Rattle.hg_base.specs.declared.line.Reply.{Reply}
 use Rattle.hg_base.specs.declared.scope.Snapshot.{Snapshot}

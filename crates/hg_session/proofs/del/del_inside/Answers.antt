@@ -2,6 +2,7 @@ use Rattle.std.proofs.Common.{◌≡◌, [], ◌∷◌, true, false, Some, Err, 
 use Rattle.std.specs.Prelude.{IfSome, IfErr, is_some, ⊤}
 use Rattle.hg_base.specs.declared.statement.Statement.TheVariants as say
 use Rattle.hg_base.specs.History.{nothing}
+use Rattle.hg_base.specs.Transcript.{has}
 use Rattle.hg_core.specs.declared.log.LogEntry.TheVariants.{Wrote}
 use Rattle.hg_core.specs.Logs.{current, own_writes}
 use Rattle.hg_core.specs.Reading.{saw}
@@ -16,7 +17,7 @@ use Rattle.hg_core.specs.Shown.{HasOpen, reads_at}
 use Rattle.hg_base.specs.declared.line.Answer.TheVariants as answers
 use Rattle.hg_session.proofs.Replying.{undeclared_inside}
 use Rattle.hg_session.proofs.Putting.{stored_inside, refused_inside}
-use Rattle.hg_session.proofs.Reading.{no_more_writes}
+use Rattle.hg_session.proofs.Reading.{inside_scope, no_more_writes}
 use Rattle.hg_session.proofs.Ranged.{dels, with_found, saw_found, found_row, no_row, nothing_inside}
 use Rattle.hg_session.proofs.Refusing.{looked_before}
 use Rattle.hg_session.proofs.Settling.{gains_on, refused_before}
@@ -112,3 +113,33 @@ returns-in-Err-clause-refused g c =
 
 pub returns-then-not-see_there-clause-own : goal.returns-then-not-see_there-clause-own
 returns-then-not-see_there-clause-own g c = no_more_writes c.args.engine.now c.see_there.new.session c.see_there.ensures.own
+
+pub write_row-requires-clause-table : goal.write_row-requires-clause-table
+write_row-requires-clause-table g c = (inside_scope (has c.args.snapshot.scope c.args.rid.table) c.is_outside.result c.is_outside.ensures.is c.if-is_outside.false, c.requires.table)
+
+pub see_there-requires-clause-table : goal.see_there-requires-clause-table
+see_there-requires-clause-table g c = inside_scope (has c.args.snapshot.scope c.args.rid.table) c.is_outside.result c.is_outside.ensures.is c.if-is_outside.false
+
+pub write_row-requires-clause-opened : goal.write_row-requires-clause-opened
+write_row-requires-clause-opened g c = c.see_there.ensures.kept.0 ∙ (c.is_outside.ensures.kept.0 ∙ c.requires.opened)
+
+pub returns-then-not-see_there-clause-kept : goal.returns-then-not-see_there-clause-kept
+returns-then-not-see_there-clause-kept g c = (
+  c.see_there.ensures.kept.0 ∙ c.is_outside.ensures.kept.0,
+  c.see_there.ensures.kept.2 ∙ c.is_outside.ensures.kept.2,
+  c.see_there.ensures.kept.3 ∙ c.is_outside.ensures.kept.3,
+)
+
+pub returns-in-Ok-clause-kept : goal.returns-in-Ok-clause-kept
+returns-in-Ok-clause-kept g c = (
+  c.write_row.ensures.kept.0 ∙ (c.see_there.ensures.kept.0 ∙ c.is_outside.ensures.kept.0),
+  c.write_row.ensures.kept.1 ∙ (c.see_there.ensures.kept.2 ∙ c.is_outside.ensures.kept.2),
+  c.write_row.ensures.kept.2 ∙ (c.see_there.ensures.kept.3 ∙ c.is_outside.ensures.kept.3),
+)
+
+pub returns-in-Err-clause-kept : goal.returns-in-Err-clause-kept
+returns-in-Err-clause-kept g c = (
+  c.write_row.ensures.kept.0 ∙ (c.see_there.ensures.kept.0 ∙ c.is_outside.ensures.kept.0),
+  c.write_row.ensures.kept.1 ∙ (c.see_there.ensures.kept.2 ∙ c.is_outside.ensures.kept.2),
+  c.write_row.ensures.kept.2 ∙ (c.see_there.ensures.kept.3 ∙ c.is_outside.ensures.kept.3),
+)

@@ -1,6 +1,7 @@
 use Rattle.std.proofs.Common.{◌≡◌, [], ◌∷◌, false, Some, Err, refl, sym, ap, ◌∙◌, subst, rules, append_assoc}
 use Rattle.std.specs.Prelude.{IfSome, IfErr, ⊤}
 use Rattle.hg_base.specs.declared.statement.Statement.TheVariants as say
+use Rattle.hg_base.specs.Transcript.{has}
 use Rattle.hg_core.specs.declared.log.LogEntry.TheVariants.{Wrote}
 use Rattle.hg_core.specs.Logs.{current, own_writes}
 use Rattle.hg_rule.specs.Views.{session}
@@ -17,6 +18,7 @@ use Rattle.hg_session.proofs.Refusing.{looked_before}
 use Rattle.hg_session.proofs.Settling.{gains_on, refused_before}
 use Rattle.hg_session.proofs.Firsts.{both, put_told, refused_first, stored_first, write_back}
 use Rattle.hg_session.specs.declared.answers.PutRefusal.TheVariants as refusal
+use Rattle.hg_session.proofs.Reading.{inside_scope}
 use Rattle.hg_session.proofs.put.put_inside.Goals as goal
 
 pub returns-then-is_outside-clause-reply : goal.returns-then-is_outside-clause-reply
@@ -75,3 +77,20 @@ returns-in-Err-clause-refused g c =
     let all = gains_on v m w [] es none wrote (λ l. sym (append_assoc es [] l)) in
     λ same. looked_before v w c.args.rid (record { row = Some c.args.row }) c.args.snapshot.at [] tt c.in-Err.refusal all
     (let k : Err c.refused_at.result ≡ Err refusal.NoMemory = same in sym c.refused_at.ensures ∙ (let q = k in cc))
+
+pub write_row-requires-clause-table : goal.write_row-requires-clause-table
+write_row-requires-clause-table g c = (inside_scope (has c.args.snapshot.scope c.args.rid.table) c.is_outside.result c.is_outside.ensures.is c.if-is_outside.false, c.requires.table)
+
+pub returns-in-Ok-clause-kept : goal.returns-in-Ok-clause-kept
+returns-in-Ok-clause-kept g c = (
+  c.write_row.ensures.kept.0 ∙ c.is_outside.ensures.kept.0,
+  c.write_row.ensures.kept.1 ∙ c.is_outside.ensures.kept.2,
+  c.write_row.ensures.kept.2 ∙ c.is_outside.ensures.kept.3,
+)
+
+pub returns-in-Err-clause-kept : goal.returns-in-Err-clause-kept
+returns-in-Err-clause-kept g c = (
+  c.write_row.ensures.kept.0 ∙ c.is_outside.ensures.kept.0,
+  c.write_row.ensures.kept.1 ∙ c.is_outside.ensures.kept.2,
+  c.write_row.ensures.kept.2 ∙ c.is_outside.ensures.kept.3,
+)

@@ -1,4 +1,4 @@
-use Rattle.std.proofs.Common.{◌≡◌, Some, None, Err, Ok}
+use Rattle.std.proofs.Common.{Some}
 use Rattle.hg_base.specs.declared.statement.Statement.TheVariants as say
 use Rattle.hg_session.specs.declared.answers.GetRefusal.TheVariants as refusal
 use Rattle.hg_session.specs.Engines.{engine_sizes}
@@ -17,7 +17,8 @@ get_alone-requires-clause-own g c = c.spend.ensures.may c.args.engine.now c.requ
 pub returns-in-Some-clause-reply : goal.returns-in-Some-clause-reply
 returns-in-Some-clause-reply g c =
     let is = opened_now c.args.engine.now c.args.self.now c.spend.new.self (Some c.in-Some.snapshot) c.requires.own c.spend.ensures.kept.1 c.in-Some.is in
-    replies c.args.self.now c.spend.new.self (Some c.in-Some.snapshot) is c.spend.ensures.kept.0 get_reply c.get_inside.result (λ v r. Answers (engine_sizes c.args.engine.now) v (say.Get c.args.rid) r (view_of c.get_inside.new.session)) c.get_inside.ensures.reply
+    replies c.args.self.now c.spend.new.self (Some c.in-Some.snapshot) is c.spend.ensures.kept.0
+    get_reply c.get_inside.result (λ v r. Answers (engine_sizes c.args.engine.now) v (say.Get c.args.rid) r (view_of c.get_inside.new.session)) c.get_inside.ensures.reply
 
 pub returns-in-Some-clause-at : goal.returns-in-Some-clause-at
 returns-in-Some-clause-at g c =
@@ -27,12 +28,26 @@ returns-in-Some-clause-at g c =
 pub returns-in-Some-clause-undeclared : goal.returns-in-Some-clause-undeclared
 returns-in-Some-clause-undeclared g c =
     let is = opened_now c.args.engine.now c.args.self.now c.spend.new.self (Some c.in-Some.snapshot) c.requires.own c.spend.ensures.kept.1 c.in-Some.is in
-    by_opened c.args.self.now c.spend.new.self (Some c.in-Some.snapshot) is c.spend.ensures.kept.0 (λ o v. IsRefusedIf o c.args.rid.table c.get_inside.result (refusal.Undeclared c.args.rid.table)) c.get_inside.ensures.undeclared
+    by_opened c.args.self.now c.spend.new.self (Some c.in-Some.snapshot) is c.spend.ensures.kept.0
+    (λ o v. IsRefusedIf o c.args.rid.table c.get_inside.result (refusal.Undeclared c.args.rid.table)) c.get_inside.ensures.undeclared
 
 pub returns-in-Some-clause-refused : goal.returns-in-Some-clause-refused
 returns-in-Some-clause-refused g c =
     let is = opened_now c.args.engine.now c.args.self.now c.spend.new.self (Some c.in-Some.snapshot) c.requires.own c.spend.ensures.kept.1 c.in-Some.is in
-    λ same. by_opened c.args.self.now c.spend.new.self (Some c.in-Some.snapshot) is c.spend.ensures.kept.0 (λ o v. LeavesLooks o c.args.rid.table c.args.rid.key c.args.rid.key v (view_of c.get_inside.new.session)) (c.get_inside.ensures.refused same)
+    λ same. by_opened c.args.self.now c.spend.new.self (Some c.in-Some.snapshot) is c.spend.ensures.kept.0
+    (λ o v. LeavesLooks o c.args.rid.table c.args.rid.key c.args.rid.key v (view_of c.get_inside.new.session)) (c.get_inside.ensures.refused same)
 
 pub returns-in-Some-clause-spent : goal.returns-in-Some-clause-spent
-returns-in-Some-clause-spent g c = spends c.args.engine.now c.args.self.now c.spend.new.self c.get_inside.new.session c.requires.own c.spend.ensures.kept.1 c.spend.ensures.left c.spend.ensures.retries c.get_inside.ensures.kept c.get_inside.ensures.own
+returns-in-Some-clause-spent g c =
+    spends c.args.engine.now c.args.self.now c.spend.new.self c.get_inside.new.session c.requires.own c.spend.ensures.kept.1 c.spend.ensures.left c.spend.ensures.retries
+    c.get_inside.ensures.kept c.get_inside.ensures.own
+
+pub returns-in_err-get_alone-in-None-clause-spent : goal.returns-in_err-get_alone-in-None-clause-spent
+returns-in_err-get_alone-in-None-clause-spent g c =
+    spends_alone c.args.engine.now c.args.self.now c.spend.new.self c.get_alone.new.session c.requires.own c.spend.ensures.kept.1 c.spend.ensures.left c.spend.ensures.retries
+    c.in-None.is c.get_alone.ensures.open c.get_alone.ensures.kept c.get_alone.ensures.own
+
+pub returns-in_ok-get_alone-in-None-clause-spent : goal.returns-in_ok-get_alone-in-None-clause-spent
+returns-in_ok-get_alone-in-None-clause-spent g c =
+    spends_alone c.args.engine.now c.args.self.now c.spend.new.self c.get_alone.new.session c.requires.own c.spend.ensures.kept.1 c.spend.ensures.left c.spend.ensures.retries
+    c.in-None.is c.get_alone.ensures.open c.get_alone.ensures.kept c.get_alone.ensures.own

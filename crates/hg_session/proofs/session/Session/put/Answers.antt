@@ -1,4 +1,4 @@
-use Rattle.std.proofs.Common.{◌≡◌, Some, None, Err}
+use Rattle.std.proofs.Common.{Some, None}
 use Rattle.hg_base.specs.declared.statement.Statement.TheVariants as say
 use Rattle.hg_session.specs.declared.answers.PutRefusal.TheVariants as refusal
 use Rattle.hg_session.specs.Engines.{engine_sizes}
@@ -18,7 +18,9 @@ put_alone-requires-clause-own g c = c.spend.ensures.may c.args.engine.now c.requ
 pub returns-in-Some-clause-reply : goal.returns-in-Some-clause-reply
 returns-in-Some-clause-reply g c =
     let is = opened_now c.args.engine.now c.args.self.now c.spend.new.self (Some c.in-Some.snapshot) c.requires.own c.spend.ensures.kept.1 c.in-Some.is in
-    replies c.args.self.now c.spend.new.self (Some c.in-Some.snapshot) is c.spend.ensures.kept.0 put_reply c.put_inside.result (λ v r. AnswersWrite (engine_sizes c.args.engine.now) v (say.Put c.args.rid c.args.row) c.args.rid r (view_of c.put_inside.new.session)) c.put_inside.ensures.reply
+    replies c.args.self.now c.spend.new.self (Some c.in-Some.snapshot) is c.spend.ensures.kept.0
+    put_reply c.put_inside.result (λ v r. AnswersWrite (engine_sizes c.args.engine.now) v (say.Put c.args.rid c.args.row) c.args.rid r (view_of c.put_inside.new.session))
+    c.put_inside.ensures.reply
 
 pub returns-in-Some-clause-at : goal.returns-in-Some-clause-at
 returns-in-Some-clause-at g c =
@@ -28,20 +30,26 @@ returns-in-Some-clause-at g c =
 pub returns-in-Some-clause-undeclared : goal.returns-in-Some-clause-undeclared
 returns-in-Some-clause-undeclared g c =
     let is = opened_now c.args.engine.now c.args.self.now c.spend.new.self (Some c.in-Some.snapshot) c.requires.own c.spend.ensures.kept.1 c.in-Some.is in
-    by_opened c.args.self.now c.spend.new.self (Some c.in-Some.snapshot) is c.spend.ensures.kept.0 (λ o v. IsRefusedIf o c.args.rid.table c.put_inside.result (refusal.Undeclared c.args.rid.table)) c.put_inside.ensures.undeclared
+    by_opened c.args.self.now c.spend.new.self (Some c.in-Some.snapshot) is c.spend.ensures.kept.0
+    (λ o v. IsRefusedIf o c.args.rid.table c.put_inside.result (refusal.Undeclared c.args.rid.table)) c.put_inside.ensures.undeclared
 
 pub returns-in-Some-clause-refused : goal.returns-in-Some-clause-refused
 returns-in-Some-clause-refused g c =
     let is = opened_now c.args.engine.now c.args.self.now c.spend.new.self (Some c.in-Some.snapshot) c.requires.own c.spend.ensures.kept.1 c.in-Some.is in
-    λ same. by_opened c.args.self.now c.spend.new.self (Some c.in-Some.snapshot) is c.spend.ensures.kept.0 (λ o v. LeavesNoWrite o c.args.rid (record { row = Some c.args.row }) v (view_of c.put_inside.new.session)) (c.put_inside.ensures.refused same)
+    λ same. by_opened c.args.self.now c.spend.new.self (Some c.in-Some.snapshot) is c.spend.ensures.kept.0
+    (λ o v. LeavesNoWrite o c.args.rid (record { row = Some c.args.row }) v (view_of c.put_inside.new.session)) (c.put_inside.ensures.refused same)
 
 pub returns-in-Some-clause-spent : goal.returns-in-Some-clause-spent
-returns-in-Some-clause-spent g c = spends c.args.engine.now c.args.self.now c.spend.new.self c.put_inside.new.session c.requires.own c.spend.ensures.kept.1 c.spend.ensures.left c.spend.ensures.retries c.put_inside.ensures.kept c.put_inside.ensures.own
+returns-in-Some-clause-spent g c =
+    spends c.args.engine.now c.args.self.now c.spend.new.self c.put_inside.new.session c.requires.own c.spend.ensures.kept.1 c.spend.ensures.left c.spend.ensures.retries
+    c.put_inside.ensures.kept c.put_inside.ensures.own
 
 pub returns-in-None-clause-reply : goal.returns-in-None-clause-reply
 returns-in-None-clause-reply g c =
     let is = opened_now c.args.engine.now c.args.self.now c.spend.new.self None c.requires.own c.spend.ensures.kept.1 c.in-None.is in
-    replies c.args.self.now c.spend.new.self None is c.spend.ensures.kept.0 put_reply c.put_alone.result (λ v r. AnswersWrite (engine_sizes c.args.engine.now) v (say.Put c.args.rid c.args.row) c.args.rid r (view_of c.put_alone.new.session)) c.put_alone.ensures.reply
+    replies c.args.self.now c.spend.new.self None is c.spend.ensures.kept.0
+    put_reply c.put_alone.result (λ v r. AnswersWrite (engine_sizes c.args.engine.now) v (say.Put c.args.rid c.args.row) c.args.rid r (view_of c.put_alone.new.session))
+    c.put_alone.ensures.reply
 
 pub returns-in-None-clause-at : goal.returns-in-None-clause-at
 returns-in-None-clause-at g c =
@@ -51,12 +59,16 @@ returns-in-None-clause-at g c =
 pub returns-in-None-clause-undeclared : goal.returns-in-None-clause-undeclared
 returns-in-None-clause-undeclared g c =
     let is = opened_now c.args.engine.now c.args.self.now c.spend.new.self None c.requires.own c.spend.ensures.kept.1 c.in-None.is in
-    by_opened c.args.self.now c.spend.new.self None is c.spend.ensures.kept.0 (λ o v. IsRefusedIf o c.args.rid.table c.put_alone.result (refusal.Undeclared c.args.rid.table)) (c.put_alone.ensures.declared c.args.rid.table)
+    by_opened c.args.self.now c.spend.new.self None is c.spend.ensures.kept.0
+    (λ o v. IsRefusedIf o c.args.rid.table c.put_alone.result (refusal.Undeclared c.args.rid.table)) (c.put_alone.ensures.declared c.args.rid.table)
 
 pub returns-in-None-clause-refused : goal.returns-in-None-clause-refused
 returns-in-None-clause-refused g c =
     let is = opened_now c.args.engine.now c.args.self.now c.spend.new.self None c.requires.own c.spend.ensures.kept.1 c.in-None.is in
-    λ same. by_opened c.args.self.now c.spend.new.self None is c.spend.ensures.kept.0 (λ o v. LeavesNoWrite o c.args.rid (record { row = Some c.args.row }) v (view_of c.put_alone.new.session)) (c.put_alone.ensures.refused same)
+    λ same. by_opened c.args.self.now c.spend.new.self None is c.spend.ensures.kept.0
+    (λ o v. LeavesNoWrite o c.args.rid (record { row = Some c.args.row }) v (view_of c.put_alone.new.session)) (c.put_alone.ensures.refused same)
 
 pub returns-in-None-clause-spent : goal.returns-in-None-clause-spent
-returns-in-None-clause-spent g c = spends_alone c.args.engine.now c.args.self.now c.spend.new.self c.put_alone.new.session c.requires.own c.spend.ensures.kept.1 c.spend.ensures.left c.spend.ensures.retries c.in-None.is c.put_alone.ensures.open c.put_alone.ensures.kept c.put_alone.ensures.own
+returns-in-None-clause-spent g c =
+    spends_alone c.args.engine.now c.args.self.now c.spend.new.self c.put_alone.new.session c.requires.own c.spend.ensures.kept.1 c.spend.ensures.left c.spend.ensures.retries
+    c.in-None.is c.put_alone.ensures.open c.put_alone.ensures.kept c.put_alone.ensures.own
