@@ -1,9 +1,10 @@
 //! The command line: the command, as it is made for `clap`, and the options that it matches.
 
-ghost use Rattle.std.specs.Prelude.{◌≡◌, IfOk, false, Some, None, map, codes, IsErrOf, string_bytes, option_and_then, option_map};
-ghost use Rattle.clap.specs.Words.{app_of, rule_of, one_of, first_of, found_of, rows_of};
+ghost use Rattle.std.specs.Prelude.{◌≡◌, ◌≢◌, IfOk, false, Some, None, map, codes, IsErrOf, string_bytes, option_and_then, option_map};
+ghost use Rattle.clap.specs.Words.{app_of, rule_of, with_rule, one_of, first_of, found_of, rows_of};
 ghost use Rattle.hg_words.specs.Line.{command_line, placed_line, engine_line, mode_rule, seed_rule, number_rule};
 ghost use Rattle.hg_words.specs.declared.options.WordsRefusal.TheVariants.{Usage};
+ghost use Rattle.clap.specs.declared.error.kind.ErrorKind.TheVariants.{OutOfMemory};
 ghost use Rattle.hg_words.specs.Options.{AreWithin, options_of, options_in, command_of, number_of};
 
 use crate::options::{Command, Options, WordsRefusal};
@@ -41,31 +42,41 @@ fn number_argument<'a>(alloc: Global, name: &'a str, low: u32, high: u32, value:
 fn placed<'a>(alloc: Global) -> Result<clap::Command<'a>, AllocError>
     ensures { IfOk result (λ c. app_of c ≡ placed_line) }
 {
-    let line = clap::Command::new(alloc, "hybridgc")
+    clap::Command::new(alloc, "hybridgc")
         .no_binary_name(true)
         .arg(mode_argument(alloc))?
-        .arg(seed_argument(alloc))?;
-    Ok(line)
+        .arg(seed_argument(alloc))
+}
+
+// The command with one option more, that takes a number.
+fn with_number<'a>(
+    alloc: Global,
+    line: clap::Command<'a>,
+    name: &'a str,
+    low: u32,
+    high: u32,
+    value: &'a str,
+) -> Result<clap::Command<'a>, AllocError>
+    ensures { IfOk result (λ c. app_of c ≡
+        with_rule (app_of line.entry) (number_rule name.entry.now low high value.entry.now)) }
+{
+    line.arg(number_argument(alloc, name, low, high, value))
 }
 
 // The command with the options that an engine is opened with, too.
 fn for_engine<'a>(alloc: Global) -> Result<clap::Command<'a>, AllocError>
     ensures { IfOk result (λ c. app_of c ≡ engine_line) }
 {
-    let line = placed(alloc)?
-        .arg(number_argument(alloc, "buckets", 1, 1024, "64"))?
-        .arg(number_argument(alloc, "long", 1, 1_048_576, "4"))?;
-    Ok(line)
+    let line = with_number(alloc, placed(alloc)?, "buckets", 1, 1024, "64")?;
+    with_number(alloc, line, "long", 1, 1_048_576, "4")
 }
 
 /// The one command, without subcommands.
 pub(crate) fn line<'a>(alloc: Global) -> Result<clap::Command<'a>, AllocError>
     ensures { IfOk result (λ c. app_of c ≡ command_line) }
 {
-    let line = for_engine(alloc)?
-        .arg(number_argument(alloc, "rounds", 0, 1000, "8"))?
-        .arg(number_argument(alloc, "sweepers", 1, 16, "1"))?;
-    Ok(line)
+    let line = with_number(alloc, for_engine(alloc)?, "rounds", 0, 1000, "8")?;
+    with_number(alloc, line, "sweepers", 1, 16, "1")
 }
 
 fn long_number(matches: &ArgMatches, id: &str) -> Option<u64>
@@ -89,16 +100,28 @@ fn mode_of<'a>(matches: &ArgMatches<'a>) -> Option<&'a str>
     matches.get_str("mode")
 }
 
+// The command of a mode that takes no seed.
+fn without_seed(mode: &str) -> Option<Command>
+    ensures { result ≡ command_of mode.now None }
+{
+    if mode == "replay" {
+        return Some(Command::Replay);
+    }
+    if mode == "run" {
+        return Some(Command::Run);
+    }
+    if mode == "audit" {
+        return Some(Command::Audit);
+    }
+    (mode == "dump").then_some(Command::Dump)
+}
+
 fn command_from(mode: &str, seed: Option<u64>) -> Option<Command>
     ensures { result ≡ command_of mode.now seed }
 {
     match seed {
-        None if mode == "replay" => Some(Command::Replay),
-        None if mode == "run" => Some(Command::Run),
-        None if mode == "audit" => Some(Command::Audit),
-        None if mode == "dump" => Some(Command::Dump),
-        Some(seed) if mode == "load" => Some(Command::Load(seed)),
-        _ => None,
+        None => without_seed(mode),
+        Some(seed) => (mode == "load").then_some(Command::Load(seed)),
     }
 }
 
@@ -127,6 +150,15 @@ fn options_from(matches: &ArgMatches) -> Option<Options>
     })
 }
 
+fn refusal_of(fault: ErrorKind) -> WordsRefusal
+    ensures { result ≡ Usage → fault ≢ OutOfMemory }
+{
+    match fault {
+        ErrorKind::OutOfMemory => WordsRefusal::NoMemory,
+        _ => WordsRefusal::Usage,
+    }
+}
+
 /// Reads the words. The bounds of each number, and its value if the option is not given, are in the crate's head.
 pub fn read_words(alloc: Global, words: &[String]) -> Result<Options, WordsRefusal>
     ensures taken { IfOk result
@@ -139,9 +171,6 @@ pub fn read_words(alloc: Global, words: &[String]) -> Result<Options, WordsRefus
             Some(options) => Ok(options),
             None => Err(WordsRefusal::Usage),
         },
-        Err(error) => match error.kind() {
-            ErrorKind::OutOfMemory => Err(WordsRefusal::NoMemory),
-            _ => Err(WordsRefusal::Usage),
-        },
+        Err(error) => Err(refusal_of(error.kind())),
     }
 }

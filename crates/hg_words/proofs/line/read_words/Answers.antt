@@ -5,6 +5,7 @@ use Rattle.clap.specs.Words.{Row}
 use Rattle.clap.specs.declared.error.kind.ErrorKind.{ErrorKind}
 use Rattle.clap.proofs.OnLiterals.{clap_on_literals}
 use Rattle.hg_words.specs.Line.{command_line}
+use Rattle.hg_words.specs.declared.options.WordsRefusal.TheVariants.{Usage}
 use Rattle.hg_words.specs.Options.{options_unless}
 use Rattle.hg_words.proofs.Bounds.{are_within}
 use Rattle.hg_words.proofs.line.read_words.Goals as goal
@@ -50,8 +51,8 @@ returns c =
     record {
       taken = tt;
       bounds = tt;
-      usage = λ e. elim faults [
-        | inl memory ↦ absurd (c.in_default.not-OutOfMemory (c.kind.ensures ∙ memory))
+      usage = λ e. let refused : c.refusal_of.result ≡ Usage = cc in elim faults [
+        | inl memory ↦ absurd (c.refusal_of.ensures refused (c.kind.ensures ∙ memory))
         | inr among ↦ ap (λ (a : App). options_unless (fault_of a words) (matches_of command_line words)) (sym app)
             ∙ unless-none _ (fault_of (app_of c.in_ok-line.field-0) words) (matches_of command_line words) among
       ];
