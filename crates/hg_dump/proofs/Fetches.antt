@@ -28,7 +28,7 @@ use Rattle.hg_source.specs.Rows.{AreAscending, AreRowsAt, Kept, kept_in}
 use Rattle.hg_source.proofs.Ordered.{contains_first, contains_later}
 use Rattle.hg_dump.specs.declared.tables.TheConstants.{FETCHED}
 use Rattle.hg_dump.specs.Exports.{Looks}
-use Rattle.hg_dump.specs.Writes.{HasWritten, HasWrittenTable, HasWrittenTables, last_of_all, puts_bytes}
+use Rattle.hg_dump.specs.Writes.{IsOver, HasWritten, HasWrittenTable, HasWrittenTables, last_of_all, puts_bytes}
 use Rattle.hg_dump.proofs.Looking.{goes_back}
 use Rattle.hg_dump.proofs.Texts.{table_text_more, text_more, text_none}
 
@@ -43,10 +43,10 @@ pub record IsSoFar (tables : List Declaration) (buckets at : ℕ) (table : Table
   pub high_is : high_of cursor ≡ last_of_all
   pub fetched : (h : History) (logs : ℕ → List LogEntry) → GoesOn buckets w h logs → Fetched (shown_at h table at) last_of_all (begins_at 0 last_of_all) fetches (rest_of cursor)
 
-pub so_far_none : (tables : List Declaration) (buckets at : ℕ) (table : TableId) (cursor : Cursor) (w : View) (before : List ℕ) → at_of cursor ≡ at → table_of cursor ≡ table →
-    high_of cursor ≡ last_of_all
-    → rest_of cursor ≡ begins_at 0 last_of_all → IsSoFar tables buckets at table cursor w before before
-so_far_none tables buckets at table cursor w before a t h r = record { fetches = []; text = text_none tables before; at_is = a; table_is = t; high_is = h; fetched = λ hs logs g. r }
+pub so_far_none : (tables : List Declaration) (buckets at : ℕ) (table : TableId) (cursor : Cursor) (w : View) (before : List ℕ) → IsOver at table cursor →
+    IsSoFar tables buckets at table cursor w before before
+so_far_none tables buckets at table cursor w before o =
+    record { fetches = []; text = text_none tables before; at_is = o.at_is; table_is = o.table_is; high_is = o.high_is; fetched = λ hs logs g. o.rest_is }
 
 fetched_more : (look : ℕ → Image) (high n : ℕ) (from : Option ℕ) (fetches : List (ℕ × Rows)) (rest : Option ℕ) (rows : Rows) → 0 < n → Fetched look high from fetches rest →
     AreFirstOf look n rest high rows

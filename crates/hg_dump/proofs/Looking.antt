@@ -197,3 +197,8 @@ has_read u v w x at r b k e =
 pub of_ok : {T E P : Type 0} (r : Result T E) → is_err r ≡ false → OnOk r P → P
 of_ok (Ok v) e p = p
 of_ok (Err x) e p = absurd (true≢false e)
+
+-- what follows of that
+pub on_ok : {T E P Q : Type 0} (r : Result T E) → (P → Q) → OnOk r P → OnOk r Q
+on_ok (Ok t) f p = f p
+on_ok (Err e) f p = tt

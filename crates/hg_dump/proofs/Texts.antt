@@ -47,3 +47,7 @@ starts_from before after more e = (more, e)
 
 pub starts_itself : (before : List ℕ) → StartsWith before before
 starts_itself before = ([], sym (append-nil before))
+
+-- what was appended to something that starts with it
+pub starts_on : (before mid after more : List ℕ) → mid ≡ before ++ more → StartsWith after mid → StartsWith after before
+starts_on before mid after more e s = (more ++ s.0, s.1 ∙ ap (λ (t : List ℕ). t ++ s.0) e ∙ append_assoc before more s.0)

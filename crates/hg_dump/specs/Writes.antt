@@ -10,7 +10,7 @@ use Rattle.hg_core.specs.declared.log.LogEntry.{LogEntry}
 use Rattle.hg_rule.specs.declared.view.View.{View}
 use Rattle.hg_cursor.specs.declared.cursor.Cursor.{Cursor}
 use Rattle.hg_cursor.specs.Cursors.{at_of, table_of, high_of, rest_of, shown_at}
-use Rattle.hg_cursor.specs.Given.{AreFirstOf, HasMoved}
+use Rattle.hg_cursor.specs.Given.{begins_at, AreFirstOf, HasMoved}
 use Rattle.hg_cursor.specs.Keys.{Rows}
 use Rattle.hg_cursor.specs.Logs.{GoesOn}
 use Rattle.hg_csv.specs.Bytes.{record_bytes}
@@ -25,6 +25,13 @@ puts_bytes tables rows = flat_map record_bytes (map (put_fields tables) rows)
 -- the greatest key
 abbrev pub last_of_all : ℕ
 last_of_all = 2 ^ 64 - 1
+
+-- a cursor over all keys of a table, from which nothing was fetched
+pub record IsOver (at : ℕ) (table : TableId) (cursor : Cursor) : Type 0 where
+  pub at_is : at_of cursor ≡ at
+  pub table_is : table_of cursor ≡ table
+  pub high_is : high_of cursor ≡ last_of_all
+  pub rest_is : rest_of cursor ≡ begins_at 0 last_of_all
 
 -- the rows of one fetch
 pub record HasWritten (tables : List Declaration) (buckets : ℕ) (old new : Cursor) (w : View) (before after : List ℕ) : Type 0 where

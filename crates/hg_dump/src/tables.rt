@@ -7,7 +7,7 @@ ghost use Rattle.hg_store.specs.Stores.{store_buckets};
 ghost use Rattle.hg_cursor.specs.Cursors.{at_of, table_of};
 ghost use Rattle.hg_cursor.specs.Logs.{ReadsAt};
 ghost use Rattle.hg_dump.specs.Exports.{IsReading, Looks};
-ghost use Rattle.hg_dump.specs.Writes.{HasWritten, HasWrittenAll, HasWrittenTable, HasWrittenTables};
+ghost use Rattle.hg_dump.specs.Writes.{IsOver, HasWritten, HasWrittenAll, HasWrittenTable, HasWrittenTables};
 
 use hg_base::{NoMemory, TableId};
 use hg_cursor::{Cursor, Tables};
@@ -55,7 +55,37 @@ impl<'a> Reading<'a> {
             pass.new }
     {
         let rows = cursor.fetch(rt, self.alloc, &self.tables, pass, FETCHED)?;
-        puts_text(self.alloc, self.script, table, rows.as_slice(), into)?;
+        puts_text(self.alloc, self.script, table, rows.as_slice(), into)
+    }
+
+    // All rows of a cursor from which nothing was fetched.
+    fn write_rest<R: Wait>(
+        &self,
+        rt: &R,
+        table: TableId,
+        cursor: &mut Cursor,
+        pass: &mut SessionPass,
+        into: &mut Vec<u8>,
+    ) -> Result<(), NoMemory>
+        requires own { IsSessionOf (board_id (board_in self.now)) (sizes_of (board_in self.now))
+            pass.old }
+        requires reads { IsReading (at_in self.now) (session_view pass.old) }
+        requires from { IsOver (at_in self.now) table cursor.old }
+        ensures rows { OnOk result (HasWrittenTable (script_in self.now).tables
+            (store_buckets (store_in self.now)) (at_in self.now) table (session_view pass.new)
+            into.old.items into.new.items) }
+        ensures starts { StartsWith into.new.items into.old.items }
+        ensures looks { Looks (session_view pass.old) (session_view pass.new) }
+        ensures reads { IsReading (at_in self.now) (session_view pass.new) }
+        ensures own { IsSessionOf (board_id (board_in self.now)) (sizes_of (board_in self.now))
+            pass.new }
+    {
+        for _ in rt.forever() {
+            if cursor.done() {
+                break;
+            }
+            self.write_rows(rt, table, cursor, pass, into)?;
+        }
         Ok(())
     }
 
@@ -80,13 +110,7 @@ impl<'a> Reading<'a> {
             pass.new }
     {
         let mut cursor = Cursor::over(self.at, table, 0, u64::MAX);
-        for _ in rt.forever() {
-            if cursor.done() {
-                break;
-            }
-            self.write_rows(rt, table, &mut cursor, pass, into)?;
-        }
-        Ok(())
+        self.write_rest(rt, table, &mut cursor, pass, into)
     }
 
     // The tables in their order.
@@ -134,7 +158,6 @@ impl<'a> Reading<'a> {
             pass.new }
     {
         heading_text(self.alloc, self.script, into)?;
-        self.write_tables(rt, pass, into)?;
-        Ok(())
+        self.write_tables(rt, pass, into)
     }
 }

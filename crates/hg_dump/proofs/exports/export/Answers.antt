@@ -4,8 +4,12 @@ use Rattle.hg_rule.specs.Seats.{session_view}
 use Rattle.hg_store.specs.Stores.{store_buckets}
 use Rattle.hg_source.specs.Records.{dump_text}
 use Rattle.hg_source.proofs.Shown.{is_the_list}
-use Rattle.hg_dump.proofs.Looking.{goes_before_end, has_read, none_open, of_ok}
+use Rattle.hg_dump.proofs.Looking.{goes_before_end, has_read, none_open, of_ok, reading_begun}
 use Rattle.hg_dump.proofs.exports.export.Goals as goal
+
+pub write_all-written-requires-clause-reads : goal.write_all-written-requires-clause-reads
+write_all-written-requires-clause-reads g c =
+    reading_begun (session_view c.args.pass.now) (session_view c.begin-at.new.pass) c.begin-at.result.at c.requires.own.rests c.begin-at.ensures.begun
 
 pub end-requires-clause-none : goal.end-requires-clause-none
 end-requires-clause-none g c = λ rid. none_open c.begin-at.result.at (session_view c.write_all-written.new.pass) rid c.write_all-written.ensures.reads
@@ -29,3 +33,9 @@ returns-then-is_err-clause-read g c = (
   has_read (session_view c.args.pass.now) (session_view c.begin-at.new.pass) (session_view c.write_all-written.new.pass)
       (session_view c.end.new.pass) c.begin-at.result.at c.requires.own.rests c.begin-at.ensures.begun c.write_all-written.ensures.looks c.end.ensures.step,
 )
+
+pub returns-clause-fresh : goal.returns-clause-fresh
+returns-clause-fresh g c = c.begin-at.ensures.begun.most
+
+pub returns-clause-starts : goal.returns-clause-starts
+returns-clause-starts g c = c.write_all-written.ensures.starts

@@ -6,7 +6,7 @@ use Rattle.hg_source.specs.Rows.{kept_in}
 use Rattle.hg_dump.specs.declared.tables.TheConstants.{FETCHED}
 use Rattle.hg_dump.specs.Readings.{store_in, script_in}
 use Rattle.hg_dump.specs.Writes.{puts_bytes}
-use Rattle.hg_dump.proofs.Looking.{looks_fetched}
+use Rattle.hg_dump.proofs.Looking.{looks_fetched, on_ok}
 use Rattle.hg_dump.proofs.tables.Reading.write_rows.Goals as goal
 
 pub returns-in_err-rows-clause-looks : goal.returns-in_err-rows-clause-looks
@@ -14,18 +14,13 @@ returns-in_err-rows-clause-looks g c =
     looks_fetched (store_buckets (store_in c.args.self.now)) FETCHED (session_view c.args.pass.now) (table_of c.args.cursor.now) (rest_of c.args.cursor.now)
     (high_of c.args.cursor.now) _ (session_view c.fetch.new.pass) c.requires.reads.only c.fetch.ensures.looks
 
-pub returns-in_err-puts_text-clause-looks : goal.returns-in_err-puts_text-clause-looks
-returns-in_err-puts_text-clause-looks g c =
-    looks_fetched (store_buckets (store_in c.args.self.now)) FETCHED (session_view c.args.pass.now) (table_of c.args.cursor.now) (rest_of c.args.cursor.now)
-    (high_of c.args.cursor.now) _ (session_view c.fetch.new.pass) c.requires.reads.only c.fetch.ensures.looks
-
 pub returns-clause-rows : goal.returns-clause-rows
-returns-clause-rows g c = record {
+returns-clause-rows g c = on_ok c.puts_text.result (λ text. record {
   rows = c.in_ok-rows.rows;
-  text = c.in_ok-puts_text.ensures.text ∙ (λ i. c.args.into.now.items ++ puts_bytes (script_in c.args.self.now).tables (kept_in (sym c.requires.table i) (c.as_slice.ensures i)));
+  text = text ∙ (λ i. c.args.into.now.items ++ puts_bytes (script_in c.args.self.now).tables (kept_in (sym c.requires.table i) (c.as_slice.ensures i)));
   moved = c.in_ok-rows.ensures.moved;
   first = c.in_ok-rows.ensures.rows;
-}
+}) c.puts_text.ensures.text
 
 pub returns-clause-looks : goal.returns-clause-looks
 returns-clause-looks g c =

@@ -3,7 +3,7 @@ use Rattle.hg_store.specs.Stores.{store_buckets}
 use Rattle.hg_dump.specs.Exports.{Looks}
 use Rattle.hg_dump.specs.Readings.{board_in, store_in, script_in, at_in}
 use Rattle.hg_dump.proofs.Fetches.{IsSoFar}
-use Rattle.hg_dump.proofs.tables.Reading.write_table.Given as goal
+use Rattle.hg_dump.proofs.tables.Reading.write_rest.Given as goal
 
 -- the rows of the fetches so far are there
 abbrev pub invariant-loop : goal.invariant-loop
