@@ -10,6 +10,7 @@ use Rattle.hg_rule.specs.declared.view.Sizes.{Sizes}
 use Rattle.hg_rule.specs.Keys.{first_share}
 use Rattle.hg_rule.specs.Views.{pass}
 use Rattle.hg_rule.specs.Seats.{BoardId, pass_view, IsPassOf}
+use Rattle.hg_gc_group.specs.declared.collector.GroupCollector.{GroupCollector}
 use Rattle.hg_gc_table.specs.declared.collector.TableCollector.{TableCollector}
 use Rattle.hg_gc_group.specs.Collectors as group
 use Rattle.hg_gc_table.specs.Collectors as table
@@ -70,7 +71,12 @@ told_in Interval told = told.interval
 abbrev pub HaveMadeAll : Sizes → ℕ → ℕ → Collectors → RoundLists → Collectors → Type 0
 HaveMadeAll z long rounds before told after = (kind : Kind) → HasMadeAll kind z long rounds (view_in kind before) (told_in kind told) (view_in kind after)
 
--- the table collector made its rounds, by a plan with these numbers, and is one of the board still
+-- the group collector made its rounds, by a plan with these numbers, and is one of the board still
+abbrev pub HasMadeGroups : Lent → ℕ → ℕ → GroupCollector → RoundList → GroupCollector → Type 0
+HasMadeGroups lent long rounds before told after = HasMadeAll Group (lent_sizes lent) long rounds (group.view_of before) told (group.view_of after) ×
+    group.IsCollectorOf (lent_board_id lent) (lent_sizes lent) after
+
+-- so did the table collector
 abbrev pub HasMadeTables : Lent → ℕ → ℕ → TableCollector → RoundList → TableCollector → Type 0
 HasMadeTables lent long rounds before told after = HasMadeAll Table (lent_sizes lent) long rounds (table.view_of before) told (table.view_of after) ×
     table.IsCollectorOf (lent_board_id lent) (lent_sizes lent) after

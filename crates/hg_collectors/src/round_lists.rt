@@ -1,18 +1,19 @@
 //! The collectors of a run, each in a thread of its own.
 
-ghost use Rattle.hg_base.specs.declared.report.Kind.TheVariants as kinds;
 ghost use Rattle.hg_gc_group.specs.Collectors as groups;
 ghost use Rattle.hg_gc_table.specs.Collectors as tables;
 ghost use Rattle.hg_collectors.specs.Workers as intervals;
 ghost use Rattle.hg_collectors.specs.Lent.{lent_board_id, lent_sizes};
-ghost use Rattle.hg_collectors.specs.Collecting.{AreCollectorsOf, HasMadeIntervals, HasMadeTables, HaveMadeAll};
-ghost use Rattle.hg_collectors.specs.Rounding.{HasPlaces, HavePlaces, HasMadeAll};
+ghost use Rattle.hg_collectors.specs.Collecting.{AreCollectorsOf, HasMadeGroups, HasMadeIntervals, HasMadeTables, HaveMadeAll};
+ghost use Rattle.hg_collectors.specs.Rounding.{HasPlaces, HavePlaces};
 
 use crate::collectors::Collectors;
+use crate::interval::IntervalWorker;
 use crate::lent::Lent;
 use crate::pace::{GROUP, INTERVAL, TABLE};
 use crate::round_list::{Plan, RoundList, make_rounds, make_sweeps};
 use hg_base::{Gate, NoMemory};
+use hg_gc_table::TableCollector;
 use std::alloc::Global;
 use std::sync::Wait;
 use std::thread;
@@ -45,6 +46,63 @@ impl RoundLists {
     }
 }
 
+// What the rounds of a run are made with.
+#[derive(Drop)]
+struct Run<'a, G, R> {
+    rt: &'a R,
+    lent: &'a Lent<'a>,
+    plan: &'a Plan<'a, G>,
+}
+
+// The rounds of a plan by the table collector and by the interval collector, concurrently.
+fn run_two<G: Gate + Sync, R: Threads + Wait + Sync>(
+    run: &Run<G, R>,
+    table: &mut TableCollector,
+    table_told: &mut RoundList,
+    interval: &mut IntervalWorker,
+    interval_told: &mut RoundList,
+)
+    requires table { tables.IsCollectorOf (lent_board_id run.now.lent.now)
+        (lent_sizes run.now.lent.now) table.old ×
+        HasPlaces run.now.plan.now.rounds table_told.old }
+    requires interval { intervals.IsCollectorOf (lent_board_id run.now.lent.now)
+        (lent_sizes run.now.lent.now) interval.old ×
+        HasPlaces run.now.plan.now.rounds interval_told.old }
+    ensures table { HasMadeTables run.now.lent.now run.now.plan.now.long
+        run.now.plan.now.rounds table.old table_told.new table.new }
+    ensures interval { HasMadeIntervals run.now.lent.now run.now.plan.now.long
+        run.now.plan.now.rounds interval.old interval_told.new interval.new }
+{
+    thread::join_mut(
+        run.rt,
+        &mut ||
+            requires { tables.IsCollectorOf (lent_board_id run.now.lent.now)
+                (lent_sizes run.now.lent.now) table.now ×
+                HasPlaces run.now.plan.now.rounds table_told.now }
+            ensures { HasMadeTables run.entry.now.lent.now run.entry.now.plan.now.long
+                run.entry.now.plan.now.rounds table.entry.now table_told.exit.now
+                table.exit.now }
+        { make_rounds(run.rt, run.lent, run.plan, TABLE, table, table_told) },
+        &mut ||
+            requires { intervals.IsCollectorOf (lent_board_id run.now.lent.now)
+                (lent_sizes run.now.lent.now) interval.now ×
+                HasPlaces run.now.plan.now.rounds interval_told.now }
+            ensures { HasMadeIntervals run.entry.now.lent.now run.entry.now.plan.now.long
+                run.entry.now.plan.now.rounds interval.entry.now interval_told.exit.now
+                interval.exit.now }
+        {
+            make_sweeps(
+                run.rt,
+                run.lent,
+                run.plan,
+                INTERVAL,
+                interval,
+                interval_told,
+            )
+        },
+    );
+}
+
 /// The rounds of a plan by each collector, all collectors concurrently.
 pub fn run_collectors<G: Gate + Sync, R: Threads + Wait + Sync>(
     rt: &R,
@@ -60,6 +118,7 @@ pub fn run_collectors<G: Gate + Sync, R: Threads + Wait + Sync>(
         collectors.old told.new collectors.new }
     ensures own { AreCollectorsOf (lent_board_id lent.now) (lent_sizes lent.now) collectors.new }
 {
+    let run = &Run { rt, lent, plan };
     let Collectors {
         group,
         table,
@@ -73,43 +132,26 @@ pub fn run_collectors<G: Gate + Sync, R: Threads + Wait + Sync>(
     thread::join_mut(
         rt,
         &mut ||
-            requires { groups.IsCollectorOf (lent_board_id lent.now) (lent_sizes lent.now)
-                group.now × HasPlaces plan.now.rounds group_told.now }
-            ensures { HasMadeAll kinds.Group (lent_sizes lent.entry.now) plan.entry.now.long
-                plan.entry.now.rounds (groups.view_of group.entry.now) group_told.exit.now
-                (groups.view_of group.exit.now) ×
-                groups.IsCollectorOf (lent_board_id lent.entry.now)
-                (lent_sizes lent.entry.now) group.exit.now }
-        { make_rounds(rt, lent, plan, GROUP, group, group_told) },
+            requires { groups.IsCollectorOf (lent_board_id run.now.lent.now)
+                (lent_sizes run.now.lent.now) group.now ×
+                HasPlaces run.now.plan.now.rounds group_told.now }
+            ensures { HasMadeGroups run.entry.now.lent.now run.entry.now.plan.now.long
+                run.entry.now.plan.now.rounds group.entry.now group_told.exit.now
+                group.exit.now }
+        { make_rounds(run.rt, run.lent, run.plan, GROUP, group, group_told) },
         &mut ||
-            requires { (tables.IsCollectorOf (lent_board_id lent.now) (lent_sizes lent.now)
-                table.now × HasPlaces plan.now.rounds table_told.now) ×
-                (intervals.IsCollectorOf (lent_board_id lent.now) (lent_sizes lent.now)
-                interval.now × HasPlaces plan.now.rounds interval_told.now) }
-            ensures { HasMadeTables lent.entry.now plan.entry.now.long plan.entry.now.rounds
-                table.entry.now table_told.exit.now table.exit.now ×
-                HasMadeIntervals lent.entry.now plan.entry.now.long plan.entry.now.rounds
-                interval.entry.now interval_told.exit.now interval.exit.now }
-        {
-            thread::join_mut(
-                rt,
-                &mut ||
-                    requires { tables.IsCollectorOf (lent_board_id lent.now)
-                        (lent_sizes lent.now) table.now ×
-                        HasPlaces plan.now.rounds table_told.now }
-                    ensures { HasMadeTables lent.entry.now plan.entry.now.long
-                        plan.entry.now.rounds table.entry.now table_told.exit.now
-                        table.exit.now }
-                { make_rounds(rt, lent, plan, TABLE, table, table_told) },
-                &mut ||
-                    requires { intervals.IsCollectorOf (lent_board_id lent.now)
-                        (lent_sizes lent.now) interval.now ×
-                        HasPlaces plan.now.rounds interval_told.now }
-                    ensures { HasMadeIntervals lent.entry.now plan.entry.now.long
-                        plan.entry.now.rounds interval.entry.now interval_told.exit.now
-                        interval.exit.now }
-                { make_sweeps(rt, lent, plan, INTERVAL, interval, interval_told) },
-            );
-        },
+            requires { (tables.IsCollectorOf (lent_board_id run.now.lent.now)
+                (lent_sizes run.now.lent.now) table.now ×
+                HasPlaces run.now.plan.now.rounds table_told.now) ×
+                (intervals.IsCollectorOf (lent_board_id run.now.lent.now)
+                (lent_sizes run.now.lent.now) interval.now ×
+                HasPlaces run.now.plan.now.rounds interval_told.now) }
+            ensures { HasMadeTables run.entry.now.lent.now run.entry.now.plan.now.long
+                run.entry.now.plan.now.rounds table.entry.now table_told.exit.now
+                table.exit.now ×
+                HasMadeIntervals run.entry.now.lent.now run.entry.now.plan.now.long
+                run.entry.now.plan.now.rounds interval.entry.now interval_told.exit.now
+                interval.exit.now }
+        { run_two(run, table, table_told, interval, interval_told) },
     );
 }
