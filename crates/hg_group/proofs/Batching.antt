@@ -1,5 +1,5 @@
 -- A batch is stamped.
-use Rattle.std.proofs.Common.{◌≡◌, ℕ, List, [], ◌∷◌, ◌++◌, false, Option, Some, None, refl, sym, ap, ◌∙◌, subst}
+use Rattle.std.proofs.Common.{◌≡◌, ℕ, List, [], ◌∷◌, ◌++◌, false, Option, Some, None, refl, sym, ap, ◌∙◌, subst, append-nil}
 use Rattle.std.specs.Prelude.{IsSome, IsTrue}
 use Rattle.hg_base.specs.declared.rid.Rid.{Rid}
 use Rattle.hg_base.specs.declared.image.Image.{Image}
@@ -9,21 +9,25 @@ use Rattle.hg_core.specs.Logs.{begans, begun_in, open_in, is_in}
 use Rattle.hg_core.specs.Versions.{IsOpenBy}
 use Rattle.hg_core.specs.OpenWrites.{writer_of}
 use Rattle.hg_rule.specs.declared.passes.SessionPass.{SessionPass}
+use Rattle.hg_rule.specs.declared.view.CommitPart.{CommitPart}
 use Rattle.hg_rule.specs.declared.view.Part.{Part}
 use Rattle.hg_rule.specs.declared.view.Part.TheVariants.{OfBucket, OfCommit, Away, Lent}
+use Rattle.hg_rule.specs.declared.view.Event.TheVariants.{Stamp}
 use Rattle.hg_rule.specs.declared.view.View.{View}
 use Rattle.hg_rule.specs.declared.view.Sizes.{Sizes}
 use Rattle.hg_rule.specs.Facts.{Shown, StartsWith}
 use Rattle.hg_rule.specs.Rules.{IsBacked}
-use Rattle.hg_rule.specs.Views.{number, session, since, others, seeing, HasAway}
-use Rattle.hg_rule.specs.Moves.{put_in, but_second}
+use Rattle.hg_rule.specs.Views.{number, session, since, others, seeing, first_in, HasAway}
+use Rattle.hg_rule.specs.Moves.{joined, put_in, but_second}
 use Rattle.hg_rule.specs.Holding.{beyond, farther, bucket, bucket_number, commit, commit_behind, held, HasCommit, HasBoth}
-use Rattle.hg_rule.specs.Places.{arrive_first, HoldsBucket}
-use Rattle.hg_rule.specs.Handing.{Members, members, lent, who, part_of, writer_at, hands_back}
+use Rattle.hg_rule.specs.Places.{arrive_first, without_bucket, without_commit, HasFirst, HoldsBucket}
+use Rattle.hg_rule.specs.Handing.{Members, Stamps, members, lent, flag, who, part_of, writer_at, hands_back}
+use Rattle.hg_rule.specs.Writes.{listing}
 use Rattle.hg_rule.specs.Seats.{BoardId, session_view, session_rest, IsSeatOf, IsAwayOf}
 use Rattle.hg_rule.proofs.Members.{each_part, each_lent}
 use Rattle.hg_rule.proofs.Holders.{still_away}
 use Rattle.hg_store.specs.Stores.{Takes}
+use Rattle.hg_group.specs.Batch.{StampsOne}
 use Rattle.hg_store.proofs.Holding.{held_is}
 use Rattle.hg_store.proofs.Mine.{open_of}
 
@@ -31,6 +35,18 @@ use Rattle.hg_store.proofs.Mine.{open_of}
 
 pub away_there : (v : View) → HasAway v → HasCommit v → v.parts ≡ Away (number v) (session v) (since v) ∷ OfCommit (commit v) ∷ beyond v
 away_there v own has = own ∙ ap (λ ps. Away (number v) (session v) (since v) ∷ ps) has
+
+pub away_first : (v : View) → HasAway v → HasFirst v
+away_first v own = own ∙ ap (λ (ps : List Part). first_in ps ∷ others v) (sym own)
+
+-- with the committer's part joined
+pub away_joined : (v x w : View) (part : CommitPart) → HasAway v → x.parts ≡ OfCommit part ∷ [] → w ≡ joined v x →
+    w.parts ≡ Away (number v) (session v) (since v) ∷ OfCommit part ∷ others v
+away_joined v x w part own only is = ap (λ (y : View). y.parts) is ∙ (λ i. put_in (own i) (only i))
+
+-- and without it again
+pub away_left : (v w : View) → HasAway v → w ≡ without_commit v → w.parts ≡ Away (number v) (session v) (since v) ∷ beyond v
+away_left v w own left = ap (λ (y : View). y.parts) left ∙ ap (λ (ps : List Part). first_in ps ∷ beyond v) own
 
 pub record AwayTaken (v : View) (b : ℕ) (w : View) : Type 0 where
   pub number_is : number w ≡ number v
@@ -61,6 +77,17 @@ away_taken v w b own has t =
       parts = refl;
       kept = (t.seen, refl);
       events = refl;
+    }
+
+-- its record was stamped, and the bucket left
+pub stamped_one : (v u x w : View) (b j n : ℕ) (rid : Rid) → AwayTaken v b u → Stamps u j rid n x → w ≡ without_bucket x → StampsOne v j rid n w
+stamped_one v u x w b j n rid t stamp left =
+    let parts : List Part = Away (number u) (session u) (since u) ∷ OfCommit (listing j rid (commit_behind u)) ∷ lent (flag j (members (farther u))) in
+    let is : w ≡ seeing parts (u.sights ++ []) (u.events ++ Stamp j rid n ∷ []) = left ∙ ap without_bucket stamp in
+    record {
+      parts = ap (λ (y : View). y.parts) is ∙ (λ i. Away (t.number_is i) (t.session_is i) (t.since_is i) ∷ OfCommit (listing j rid (t.commit_is i)) ∷ lent (flag j (members (t.farther_is i))));
+      kept = (t.kept.0, ap (λ (y : View). y.sights) is ∙ (append-nil u.sights ∙ t.kept.1));
+      events = ap (λ (y : View). y.events) is ∙ ap (λ l. l ++ Stamp j rid n ∷ []) t.events;
     }
 
 -- ---- an open write of a session that handed over stands first in the bucket held

@@ -26,6 +26,10 @@ none_taken [] [] e h = refl
 none_taken [] (m ∷ ms) e h = absurd h
 none_taken (tx ∷ txs) ms e h = absurd (omega (arith, e))
 
+pub no_items : (txs : List OpenTx) → length txs ≡ 0 → txs ≡ []
+no_items [] e = refl
+no_items (tx ∷ txs) e = absurd (omega (arith, e))
+
 pub alone_led : (v w : View) (ms : Members) (txs : List OpenTx) → length txs ≡ 0 → AreTaken txs ms → w.parts ≡ Away (number v) (session v) (since v) ∷ lent ms → StartsWith w.sights v.sights →
     w.events ≡ v.events → Leads v w
 alone_led v w ms txs none taken parts kept events = record {

@@ -4,6 +4,8 @@ pub mod ContextFacts
 pub mod Bound
 -- What lies under the commit lock.
 pub mod Booked
+-- What lies under a session's lock.
+pub mod Pushing
 -- A batch is popped and gathered.
 pub mod Popping
 pub mod Listing

@@ -7,6 +7,7 @@ use Rattle.hg_base.specs.Lists.{Each}
 use Rattle.hg_base.specs.History.{Group, History}
 use Rattle.hg_core.specs.State.{CoreState}
 use Rattle.hg_rule.specs.declared.view.CommitPart.{CommitPart}
+use Rattle.hg_rule.specs.declared.view.Part.{Part}
 use Rattle.hg_rule.specs.declared.view.Part.TheVariants.{OfPass, OfCommit}
 use Rattle.hg_rule.specs.declared.view.Sight.{Sight}
 use Rattle.hg_rule.specs.declared.view.Event.{Event}
@@ -16,10 +17,10 @@ use Rattle.hg_rule.specs.declared.view.View.{View}
 use Rattle.hg_rule.specs.declared.view.Sizes.{Sizes}
 use Rattle.hg_rule.specs.Facts.{Known}
 use Rattle.hg_rule.specs.Rules.{IsBacked}
-use Rattle.hg_rule.specs.Views.{number, pass, others, seeing, HasPass}
+use Rattle.hg_rule.specs.Views.{number, pass, others, seeing, first_in, HasPass}
 use Rattle.hg_rule.specs.Moves.{joined, put_in}
 use Rattle.hg_rule.specs.Holding.{commit, beyond, HasCommit}
-use Rattle.hg_rule.specs.Places.{without_commit}
+use Rattle.hg_rule.specs.Places.{without_commit, HasFirst}
 use Rattle.hg_rule.specs.Removes.{Takes, taking}
 use Rattle.hg_rule.specs.Rounds.{seen_taken}
 use Rattle.hg_rule.proofs.Growing.{among_later}
@@ -135,6 +136,9 @@ known_taken s (x ∷ sights) h = go x h.0 (known_taken s sights h.1)
     go (Heard j log) k ih = ih
     go (Took n) k ih = omega (arith, k, ih)
     go (Did e) k ih = ih
+
+pub pass_first : (v : View) → HasPass v → HasFirst v
+pass_first v own = own ∙ ap (λ (ps : List Part). first_in ps ∷ others v) (sym own)
 
 module _ (z : Sizes) (mark : ℕ) (v seat : View) (part : CommitPart) where
   -- the committer's part is with the pass

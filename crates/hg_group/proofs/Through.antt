@@ -1,5 +1,5 @@
 -- A transaction that was handed over and came back.
-use Rattle.std.proofs.Common.{◌≡◌, ℕ, ◌<◌, ◌≤◌, List, [], ◌∷◌, refl, sym, ap, ◌∙◌, subst, arith}
+use Rattle.std.proofs.Common.{◌≡◌, ℕ, ◌<◌, ◌≤◌, List, [], ◌∷◌, refl, sym, ap, ◌∙◌, subst, arith, append-nil}
 use Rattle.std.specs.Prelude.{Result, Ok, Err, IfOk, IfErr}
 use Rattle.hg_core.specs.declared.log.LogEntry.TheVariants.{Published}
 use Rattle.hg_core.specs.Logs.{commit_in}
@@ -9,8 +9,9 @@ use Rattle.hg_rule.specs.declared.view.Part.TheVariants.{OfSession, Away}
 use Rattle.hg_rule.specs.declared.view.Sight.TheVariants.{Heard}
 use Rattle.hg_rule.specs.declared.view.View.{View}
 use Rattle.hg_rule.specs.Facts.{StartsWith, IsAmong}
-use Rattle.hg_rule.specs.Views.{number, session, since, seeing}
+use Rattle.hg_rule.specs.Views.{number, session, since, seeing, others, after_first}
 use Rattle.hg_rule.specs.Holding.{snapshot}
+use Rattle.hg_rule.specs.Handing.{resuming}
 use Rattle.hg_rule.specs.Writes.{with_published}
 use Rattle.hg_rule.proofs.Lists.{starts_on}
 use Rattle.hg_queue.specs.declared.open_tx.OpenTx.{OpenTx}
@@ -69,6 +70,17 @@ back_again v u w mark tx s f =
         events = starts_on w.events u.events v.events (done v u mark s) f.events;
       },
     )
+
+-- what was handed over came back as it was
+pub back_home : (v u w x : View) (mark : ℕ) → HasSubmitted v mark u → session x ≡ session v → w ≡ resuming u x → IsBackAgain v w
+back_home v u w x mark s same is =
+    let t = sent v u mark s.parts in
+    let none : others u ≡ [] = ap after_first s.parts in
+    record {
+      parts = ap (λ (y : View). y.parts) is ∙ (λ i. OfSession (t.number_is i) (same i) ∷ none i);
+      kept = starts_on w.sights u.sights v.sights (kept v u mark s) (x.sights, ap (λ (y : View). y.sights) is);
+      events = starts_on w.events u.events v.events (done v u mark s) ([], ap (λ (y : View). y.events) is ∙ sym (append-nil u.events));
+    }
 
 pub if_ok : {A B : Type 0} (P Q : A → Type 0) (r : Result A B) → ((a : A) → P a → Q a) → IfOk r P → IfOk r Q
 if_ok P Q (Ok a) f h = f a h

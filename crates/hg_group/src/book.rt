@@ -73,7 +73,7 @@ fn empty_places(alloc: Global, sessions: u32) -> Result<Vec<Option<Laid>>, NoMem
 {
     let mut places = Vec::with_capacity(alloc, sessions as usize)?;
     for turn in 0..sessions {
-        places.push(None)?;
+        places.push_reserved(None);
     }
     Ok(places)
 }
@@ -117,6 +117,6 @@ pub(crate) fn commit_lock(
     let book = new_book(alloc, line, sessions)?;
     let book = Box::new(alloc, book)?;
     let mut batches = Vec::with_capacity(alloc, 1)?;
-    batches.push(Batches { seat, book })?;
+    batches.push_reserved(Batches { seat, book });
     Locks::new(alloc, batches, founding)
 }

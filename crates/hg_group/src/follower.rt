@@ -54,9 +54,9 @@ fn make_pushers(
 {
     let mut pushers = Vec::with_capacity(alloc, sessions as usize)?;
     for turn in 0..sessions {
-        pushers.push(Pusher {
+        pushers.push_reserved(Pusher {
             line: queue.twin(line),
-        })?;
+        });
     }
     Ok(pushers)
 }

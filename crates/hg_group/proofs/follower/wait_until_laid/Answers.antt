@@ -1,12 +1,40 @@
-use Rattle.std.proofs.Common.{refl}
+use Rattle.std.proofs.Common.{◌∙◌, refl, sym, subst}
 use Rattle.std.specs.Prelude.{IfOk, IfErr, Result, Ok, Err}
 use Rattle.hg_rule.specs.Seats.{session_view}
+use Rattle.hg_queue.specs.Handing.{MayCommit}
 use Rattle.hg_group.specs.Batch.{HasFinished, IsRefused}
-use Rattle.hg_group.proofs.Returning.{leads_none, leads_on, finished_on, refused_on}
+use Rattle.hg_group.proofs.Returning.{waits, leads_none, leads_on, finished_on, refused_on}
 use Rattle.hg_group.proofs.follower.wait_until_laid.Goals as goal
 
 pub loop-init : goal.loop-init
 loop-init g c = record { own = (c.requires.own, refl); led = leads_none (session_view c.args.pass.now) c.requires.own.3 c.requires.alone }
+
+pub turn-requires-clause-alone : goal.turn-requires-clause-alone
+turn-requires-clause-alone g c = (waits (session_view c.args.pass.now) (session_view c.loop.pass) c.loop.invariant.led).alone
+
+pub turn-requires-clause-may : goal.turn-requires-clause-may
+turn-requires-clause-may g c = subst MayCommit (sym (waits (session_view c.args.pass.now) (session_view c.loop.pass) c.loop.invariant.led).session_is) c.requires.may
+
+pub loop-preserved : goal.loop-preserved
+loop-preserved g c = record {
+  own = (c.turn.ensures.own.0, c.turn.ensures.own.1 ∙ c.loop.invariant.own.1);
+  led = leads_on (session_view c.args.pass.now) (session_view c.loop.pass) (session_view c.turn.new.pass) c.loop.invariant.led c.turn.ensures.led;
+}
+
+pub take_back-requires-clause-alone : goal.take_back-requires-clause-alone
+take_back-requires-clause-alone g c =
+    let v = session_view c.args.pass.now in
+    let w = session_view c.turn.new.pass in
+    (waits v w (leads_on v (session_view c.loop.pass) w c.loop.invariant.led c.turn.ensures.led)).alone
+
+pub take_back-requires-clause-may : goal.take_back-requires-clause-may
+take_back-requires-clause-may g c =
+    let v = session_view c.args.pass.now in
+    let w = session_view c.turn.new.pass in
+    subst MayCommit (sym (waits v w (leads_on v (session_view c.loop.pass) w c.loop.invariant.led c.turn.ensures.led)).session_is) c.requires.may
+
+pub returns-in-Some-turn-clause-own : goal.returns-in-Some-turn-clause-own
+returns-in-Some-turn-clause-own g c = (c.take_back.ensures.own.0, c.take_back.ensures.own.1 ∙ (c.turn.ensures.own.1 ∙ c.loop.invariant.own.1))
 
 if_ok : {A B : Type 0} (P Q : A → Type 0) (r : Result A B) → ((a : A) → P a → Q a) → IfOk r P → IfOk r Q
 if_ok P Q (Ok a) f h = f a h

@@ -1,7 +1,8 @@
-use Rattle.std.proofs.Common.{rules, ◌≡◌, [], ◌∷◌, ◌++◌, ◌∙◌, sym, ap, subst}
+use Rattle.std.proofs.Common.{rules, ◌≡◌, List, [], ◌∷◌, ◌++◌, ◌∙◌, sym, ap, subst}
 use Rattle.hg_rule.specs.Seats.{board_id, sizes_of, session_view, tx_view}
 use Rattle.hg_group.proofs.Popping.{away_on}
 use Rattle.hg_queue.specs.declared.known.Known.{Known}
+use Rattle.hg_queue.specs.declared.open_tx.OpenTx.{OpenTx}
 use Rattle.hg_queue.specs.Queues.{known}
 use Rattle.hg_queue.specs.Lines.{pair_of}
 use Rattle.hg_group.specs.Batch.{Gathers}
@@ -29,8 +30,8 @@ loop-turn-preserved g c =
     let pairs : k'.pairs ≡ k.pairs ++ pair_of c.in-Some.handed ∷ [] = ap (λ (y : Known). y.pairs) out.0 in
     let more = gathers_more k.board.id v (session_view c.loop-turn.pass) u first k.pairs k'.pairs c.loop-turn.popped.items c.in-Some.handed c.loop-turn.invariant.gathered out.1
     pairs c.receive.ensures.view in
-    let gathered = subst (λ ps. Gathers v first c.push_reserved.new.self.items ps u) (ap (λ (y : Known). y.pairs) (sym same))
-    (subst (λ txs. Gathers v first txs k'.pairs u) (sym c.push_reserved.ensures.items) more) in
+    let gathered = subst (λ ps. Gathers v first c.push_reserved.new.self.items ps u) (ap (λ (y : Known). y.pairs) (sym {A = Known} same))
+    (subst (λ txs. Gathers v first txs k'.pairs u) (sym {A = List OpenTx} c.push_reserved.ensures.items) more) in
     let h = c.loop-turn.invariant in
     let away = away_on (board_id c.args.tools.now.board.now) (sizes_of c.args.tools.now.board.now) c.loop-turn.pass c.receive.new.pass
     (tx_view c.in-Some.handed.seat) h.own.0 c.receive.ensures.own.0 c.receive.ensures.own.1 c.receive.ensures.view in
@@ -59,8 +60,8 @@ returns-then-is_empty-clause-gathered g c =
     let pairs : k'.pairs ≡ k.pairs ++ pair_of c.in-Some.handed ∷ [] = ap (λ (y : Known). y.pairs) out.0 in
     let more = gathers_more k.board.id v (session_view c.loop-turn.pass) u first k.pairs k'.pairs c.loop-turn.popped.items c.in-Some.handed c.loop-turn.invariant.gathered out.1
     pairs c.receive.ensures.view in
-    let gathered = subst (λ ps. Gathers v first c.push_reserved.new.self.items ps u) (ap (λ (y : Known). y.pairs) (sym same))
-    (subst (λ txs. Gathers v first txs k'.pairs u) (sym c.push_reserved.ensures.items) more) in
+    let gathered = subst (λ ps. Gathers v first c.push_reserved.new.self.items ps u) (ap (λ (y : Known). y.pairs) (sym {A = Known} same))
+    (subst (λ txs. Gathers v first txs k'.pairs u) (sym {A = List OpenTx} c.push_reserved.ensures.items) more) in
     gathered
 
 pub returns-then-is_empty-clause-own : goal.returns-then-is_empty-clause-own

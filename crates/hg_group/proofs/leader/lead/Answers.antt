@@ -3,8 +3,8 @@ use Rattle.hg_base.specs.History.{History, NoNumberTwice}
 use Rattle.hg_rule.specs.declared.groups.Groups.{Groups}
 use Rattle.hg_rule.specs.declared.view.CommitPart.{CommitPart}
 use Rattle.hg_rule.specs.declared.view.View.{View}
-use Rattle.hg_rule.specs.declared.view.Part.TheVariants.{Away}
-use Rattle.hg_rule.specs.Views.{number, session, since, commit_there, first_in}
+use Rattle.hg_rule.specs.declared.view.Part.TheVariants.{Away, OfCommit}
+use Rattle.hg_rule.specs.Views.{number, session, since, others, commit_there, first_in}
 use Rattle.hg_rule.specs.declared.view.Sight.TheVariants.{Saw, Took}
 use Rattle.hg_rule.specs.Facts.{groups}
 use Rattle.hg_rule.specs.Holding.{beyond, commit}
@@ -21,9 +21,12 @@ use Rattle.hg_group.proofs.Grouped.{once, follows_group, follows_still, commits_
 use Rattle.hg_group.proofs.Laying_down.{whose_length}
 use Rattle.hg_group.proofs.Stamped.{on_way}
 use Rattle.hg_group.proofs.Whole.{may_all}
-use Rattle.std.specs.Prelude.{◌≤◌}
+use Rattle.std.specs.Prelude.{◌≤◌, vec_capacity}
+use Rattle.hg_group.specs.declared.book.Book.{Book}
+use Rattle.hg_group.specs.Pushing.{IsPopping}
+use Rattle.hg_group.proofs.Batching.{away_joined, away_left, away_with}
 use Rattle.hg_group.proofs.Bound.{low, room_long, at_most, batch_fits}
-use Rattle.hg_group.proofs.Led.{alone_led, laid_led, split_parts, kept_back, refused_whole, kept_through}
+use Rattle.hg_group.proofs.Led.{no_items, alone_led, laid_led, split_parts, kept_back, refused_whole, kept_through}
 use Rattle.hg_group.proofs.Joint.{in_hand, taken_whose, u_parts, u_sights, after_is, none_after, taken_after, has_group, has_batch}
 use Rattle.hg_core.proofs.Groups.{length_more}
 use Rattle.hg_queue.specs.Rids.{Rids}
@@ -37,6 +40,54 @@ use Rattle.hg_group.proofs.leader.lead.Goals as goal
 roomy : (txs was : List OpenTx) (ms : Members) → (room : ℕ) × (txs ≡ with_room room was) → AreTaken was ms → AreTaken txs ms
 roomy txs was ms w h = subst (λ l. AreTaken l ms) (sym w.1) (taken_room w.0 was ms h)
 
+pub gather-requires-clause-line : goal.gather-requires-clause-line
+gather-requires-clause-line g c =
+    let line = c.requires.kept.0.line in
+    subst (λ (b : Book). IsPopping c.args.tools.now.queue.now (board_id c.args.tools.now.board.now) b.line) (sym c.deref_mut-open.ensures.value) (c.requires.kept.1, line.0, line.1.0, line.1.1)
+
+pub gather-requires-clause-room : goal.gather-requires-clause-room
+gather-requires-clause-room g c =
+    let book = c.deref_mut-open.result.now in
+    let kept = booked_kept (board_id c.args.tools.now.board.now) (sizes_of c.args.tools.now.board.now).sessions c.args.kept book c.deref_mut-open.ensures.value c.requires.kept.0 in
+    (kept.room.0, subst (λ (n : ℕ). n ≤ vec_capacity book.popped) (sym (c.len-sessions.ensures ∙ (book.laid.ok.0 ∙ kept.laid.1))) kept.room.1)
+
+pub returns-then-is_empty-clause-kept : goal.returns-then-is_empty-clause-kept
+returns-then-is_empty-clause-kept g c =
+    let book = c.deref_mut-open.result.now in let h = c.gather.ensures.gathered in
+    let kept = booked_kept (board_id c.args.tools.now.board.now) (sizes_of c.args.tools.now.board.now).sessions c.args.kept book c.deref_mut-open.ensures.value c.requires.kept.0 in
+    let empty : length c.gather.new.popped.items ≡ 0 = search rules in let none = no_items c.gather.new.popped.items empty in
+    let old = (known book.line).pairs in
+    let same : (known c.gather.new.line).pairs ≡ old = h.pairs ∙ (ap (λ (txs : List OpenTx). old ++ map pair_in txs) none ∙ append-nil old) in (
+      record {
+        seat = kept.seat;
+        unstamped = kept.unstamped;
+        taken = kept.taken;
+        contexts_are = kept.contexts_are;
+        count_is = kept.count_is;
+        follows = subst (FollowsQueue (part_in c.args.kept.seat).history.list) (sym same) kept.follows;
+        line = (c.gather.ensures.line.1, (c.gather.ensures.line.2, c.gather.ensures.line.3));
+        room = (none, search rules);
+        laid = kept.laid;
+      },
+      c.gather.ensures.line.0,
+    )
+
+pub stamp_batch-requires-clause-own : goal.stamp_batch-requires-clause-own
+stamp_batch-requires-clause-own g c =
+    let v = session_view c.gather.new.pass in
+    let part = part_in c.args.kept.seat in (
+      (away_with (board_id c.args.tools.now.board.now) (sizes_of c.args.tools.now.board.now) c.gather.new.pass c.join_commit-number.new.pass (OfCommit part ∷ others v)
+          c.gather.ensures.own.0 c.join_commit-number.ensures.own.0 c.join_commit-number.ensures.own.1
+          (away_joined v (commit_view c.args.kept.seat) (session_view c.join_commit-number.new.pass) part c.gather.ensures.own.0.3 c.requires.kept.0.seat.1 c.join_commit-number.ensures.view)).0,
+      c.join_commit-number.ensures.holds.1,
+    )
+
+pub lay-requires-clause-own : goal.lay-requires-clause-own
+lay-requires-clause-own g c =
+    let y = session_view c.publish.new.pass in
+    (away_with (board_id c.args.tools.now.board.now) (sizes_of c.args.tools.now.board.now) c.publish.new.pass c.split_commit-seat-2.new.pass (beyond y) c.publish.ensures.own.0
+    c.split_commit-seat-2.ensures.own.0 c.split_commit-seat-2.ensures.own.1 (away_left y (session_view c.split_commit-seat-2.new.pass) c.publish.ensures.own.0.3 c.split_commit-seat-2.ensures.view)).0
+
 pub stamp_batch-requires-clause-received : goal.stamp_batch-requires-clause-received
 stamp_batch-requires-clause-received g c =
     let h = c.gather.ensures.gathered in
@@ -46,9 +97,7 @@ stamp_batch-requires-clause-received g c =
 
 pub stamp_batch-requires-clause-taken : goal.stamp_batch-requires-clause-taken
 stamp_batch-requires-clause-taken g c =
-    let v = session_view c.args.pass.now in
-    let h = c.gather.ensures.gathered in
-    let part = part_in c.args.kept.seat in
+    let v = session_view c.args.pass.now in let h = c.gather.ensures.gathered in let part = part_in c.args.kept.seat in
     let w = session_view c.join_commit-number.new.pass in
     let o = in_hand v (session_view c.gather.new.pass) (commit_view c.args.kept.seat) w part h.ms h.parts c.requires.kept.0.seat.1 c.join_commit-number.ensures.view in (
       subst (λ l. AreTaken l (members (beyond w))) (sym c.as_slice-txs.ensures.value)
@@ -65,8 +114,7 @@ publish-requires-clause-received g c =
 
 pub publish-requires-clause-may : goal.publish-requires-clause-may
 publish-requires-clause-may g c =
-    let h = c.gather.ensures.gathered in
-    let w = session_view c.join_commit-number.new.pass in
+    let h = c.gather.ensures.gathered in let w = session_view c.join_commit-number.new.pass in
     let o = in_hand (session_view c.args.pass.now) (session_view c.gather.new.pass) (commit_view c.args.kept.seat) w
     (part_in c.args.kept.seat) h.ms h.parts c.requires.kept.0.seat.1 c.join_commit-number.ensures.view in
     may_all w (session_view c.stamp_batch.new.pass) c.as_slice-txs.result.now (subst (λ l. AreTaken l (members (beyond w))) (sym c.as_slice-txs.ensures.value)
@@ -75,13 +123,10 @@ publish-requires-clause-may g c =
 
 pub lay-requires-clause-group : goal.lay-requires-clause-group
 lay-requires-clause-group g c =
-    let v = session_view c.args.pass.now in
-    let h = c.gather.ensures.gathered in
-    let part = part_in c.args.kept.seat in
+    let v = session_view c.args.pass.now in let h = c.gather.ensures.gathered in let part = part_in c.args.kept.seat in
     let w = session_view c.join_commit-number.new.pass in
     let o = in_hand v (session_view c.gather.new.pass) (commit_view c.args.kept.seat) w part h.ms h.parts c.requires.kept.0.seat.1 c.join_commit-number.ensures.view in
-    let mark = c.join_commit-number.result in
-    let n : ℕ = mark + 1 in
+    let mark = c.join_commit-number.result in let n : ℕ = mark + 1 in
     let long : length part.history.list ≡ mark = ap (λ (q : CommitPart). length q.history.list) (sym o.commit_is) ∙ c.join_commit-number.ensures.mark.is_length in
     let next : n ≡ suc (length part.history.list) = omega (arith, long) in
     let taken : AreTaken c.as_slice-txs.result.now h.ms = subst (λ l. AreTaken l h.ms) (sym c.as_slice-txs.ensures.value)
@@ -97,20 +142,13 @@ returns-then-is_empty-clause-turn g c = record { steps = []; events = c.gather.e
 
 pub returns-clause-turn : goal.returns-clause-turn
 returns-clause-turn g c =
-    let v = session_view c.args.pass.now in
-    let h = c.gather.ensures.gathered in
-    let part = part_in c.args.kept.seat in
-    let w = session_view c.join_commit-number.new.pass in
-    let x = session_view c.stamp_batch.new.pass in
-    let y = session_view c.publish.new.pass in
+    let v = session_view c.args.pass.now in let h = c.gather.ensures.gathered in let part = part_in c.args.kept.seat in
+    let w = session_view c.join_commit-number.new.pass in let x = session_view c.stamp_batch.new.pass in let y = session_view c.publish.new.pass in
     let u = session_view c.split_commit-seat-2.new.pass in
     let o = in_hand v (session_view c.gather.new.pass) (commit_view c.args.kept.seat) w part h.ms h.parts c.requires.kept.0.seat.1 c.join_commit-number.ensures.view in
-    let mark = c.join_commit-number.result in
-    let n : ℕ = mark + 1 in
-    let s = c.stamp_batch.ensures.stamped in
+    let mark = c.join_commit-number.result in let n : ℕ = mark + 1 in let s = c.stamp_batch.ensures.stamped in
     let long : length part.history.list ≡ mark = ap (λ (q : CommitPart). length q.history.list) (sym o.commit_is) ∙ c.join_commit-number.ensures.mark.is_length in
-    let next : n ≡ suc (length part.history.list) = omega (arith, long) in
-    let z = (sizes_of c.args.tools.now.board.now).sessions in
+    let next : n ≡ suc (length part.history.list) = omega (arith, long) in let z = (sizes_of c.args.tools.now.board.now).sessions in
     let taken : AreTaken c.as_slice-txs.result.now h.ms = subst (λ l. AreTaken l h.ms) (sym c.as_slice-txs.ensures.value)
     (roomy c.make_room.new.popped.items c.gather.new.popped.items h.ms c.make_room.ensures.whole h.taken) in
     let group : HasGroup z u c.as_slice-txs.result.now n c.deref_mut-open.result.now.count =
@@ -124,17 +162,13 @@ returns-clause-turn g c =
 
 pub returns-clause-kept : goal.returns-clause-kept
 returns-clause-kept g c =
-    let v = session_view c.args.pass.now in
-    let h = c.gather.ensures.gathered in
+    let v = session_view c.args.pass.now in let h = c.gather.ensures.gathered in
     let kept = booked_kept (board_id c.args.tools.now.board.now) (sizes_of c.args.tools.now.board.now).sessions c.args.kept c.deref_mut-open.result.now
     c.deref_mut-open.ensures.value c.requires.kept.0 in
-    let part = part_in c.args.kept.seat in
-    let w = session_view c.join_commit-number.new.pass in
-    let y = session_view c.publish.new.pass in
+    let part = part_in c.args.kept.seat in let w = session_view c.join_commit-number.new.pass in let y = session_view c.publish.new.pass in
     let u = session_view c.split_commit-seat-2.new.pass in
     let o = in_hand v (session_view c.gather.new.pass) (commit_view c.args.kept.seat) w part h.ms h.parts kept.seat.1 c.join_commit-number.ensures.view in
-    let n : ℕ = c.join_commit-number.result + 1 in
-    let txs = c.as_slice-txs.result.now in
+    let n : ℕ = c.join_commit-number.result + 1 in let txs = c.as_slice-txs.result.now in
     let taken : AreTaken txs h.ms = subst (λ l. AreTaken l h.ms) (sym c.as_slice-txs.ensures.value)
     (roomy c.make_room.new.popped.items c.gather.new.popped.items h.ms c.make_room.ensures.whole h.taken) in
     let part_is = ap (λ (t : View). commit_there (first_in t.parts)) c.split_commit-seat-2.ensures.seat in
@@ -144,8 +178,7 @@ returns-clause-kept g c =
     let taken_is : (part_in c.split_commit-seat-2.result).taken ≡ part.taken = ap (λ (q : CommitPart). q.taken) part_is ∙
     taken_after v w (session_view c.stamp_batch.new.pass) y u part h.ms txs n o c.stamp_batch.ensures.stamped c.publish.ensures.step c.split_commit-seat-2.ensures.view in
     let long : length part.history.list ≡ c.join_commit-number.result = ap (λ (q : CommitPart). length q.history.list) (sym o.commit_is) ∙ c.join_commit-number.ensures.mark.is_length in
-    let next : n ≡ suc (length part.history.list) = omega (arith, long) in
-    let records = c.join_records-records.result in
+    let next : n ≡ suc (length part.history.list) = omega (arith, long) in let records = c.join_records-records.result in
     let listed : c.push_back_reserved.new.self.items ≡ c.deref_mut-open.result.now.contexts.items ++ records ∷ [] = c.push_back_reserved.ensures.items ∙
     ap (λ l. l ++ records ∷ []) c.make_room.ensures.same in
     let many : length (group_of h.ms) ≡ length txs = group_length h.ms ∙ whose_length txs h.ms (taken_whose txs h.ms taken) in
@@ -179,12 +212,8 @@ returns-clause-kept g c =
 
 pub lay-requires-clause-small : goal.lay-requires-clause-small
 lay-requires-clause-small g c =
-    let v = session_view c.args.pass.now in
-    let z = sizes_of c.args.tools.now.board.now in
-    let h = c.gather.ensures.gathered in
-    let part = part_in c.args.kept.seat in
-    let w = session_view c.join_commit-number.new.pass in
-    let book = c.deref_mut-open.result.now in
+    let v = session_view c.args.pass.now in let z = sizes_of c.args.tools.now.board.now in let h = c.gather.ensures.gathered in
+    let part = part_in c.args.kept.seat in let w = session_view c.join_commit-number.new.pass in let book = c.deref_mut-open.result.now in
     let txs = c.as_slice-txs.result.now in
     let kept = booked_kept (board_id c.args.tools.now.board.now) z.sessions c.args.kept book c.deref_mut-open.ensures.value c.requires.kept.0 in
     let o = in_hand v (session_view c.gather.new.pass) (commit_view c.args.kept.seat) w part h.ms h.parts c.requires.kept.0.seat.1 c.join_commit-number.ensures.view in
@@ -197,12 +226,8 @@ lay-requires-clause-small g c =
 
 pub overflow_add-open : goal.overflow_add-open
 overflow_add-open g c =
-    let v = session_view c.args.pass.now in
-    let z = sizes_of c.args.tools.now.board.now in
-    let h = c.gather.ensures.gathered in
-    let part = part_in c.args.kept.seat in
-    let w = session_view c.join_commit-number.new.pass in
-    let book = c.deref_mut-open.result.now in
+    let v = session_view c.args.pass.now in let z = sizes_of c.args.tools.now.board.now in let h = c.gather.ensures.gathered in
+    let part = part_in c.args.kept.seat in let w = session_view c.join_commit-number.new.pass in let book = c.deref_mut-open.result.now in
     let txs = c.as_slice-txs.result.now in
     let kept = booked_kept (board_id c.args.tools.now.board.now) z.sessions c.args.kept book c.deref_mut-open.ensures.value c.requires.kept.0 in
     let o = in_hand v (session_view c.gather.new.pass) (commit_view c.args.kept.seat) w part h.ms h.parts c.requires.kept.0.seat.1 c.join_commit-number.ensures.view in
@@ -217,9 +242,7 @@ overflow_add-open g c =
 
 pub lay_back-requires-clause-batch : goal.lay_back-requires-clause-batch
 lay_back-requires-clause-batch g c =
-    let v = session_view c.args.pass.now in
-    let h = c.gather.ensures.gathered in
-    let part = part_in c.args.kept.seat in
+    let v = session_view c.args.pass.now in let h = c.gather.ensures.gathered in let part = part_in c.args.kept.seat in
     let w = session_view c.join_commit-number.new.pass in
     let o = in_hand v (session_view c.gather.new.pass) (commit_view c.args.kept.seat) w part h.ms h.parts c.requires.kept.0.seat.1 c.join_commit-number.ensures.view in
     has_batch v w (session_view c.split_commit-seat.new.pass) part h.ms c.make_room.new.popped.items
@@ -228,12 +251,10 @@ lay_back-requires-clause-batch g c =
 
 pub returns-in_default-clause-kept : goal.returns-in_default-clause-kept
 returns-in_default-clause-kept g c =
-    let v = session_view c.args.pass.now in
-    let h = c.gather.ensures.gathered in
+    let v = session_view c.args.pass.now in let h = c.gather.ensures.gathered in
     let kept = booked_kept (board_id c.args.tools.now.board.now) (sizes_of c.args.tools.now.board.now).sessions c.args.kept c.deref_mut-open.result.now
     c.deref_mut-open.ensures.value c.requires.kept.0 in
-    let part = part_in c.args.kept.seat in
-    let w = session_view c.join_commit-number.new.pass in
+    let part = part_in c.args.kept.seat in let w = session_view c.join_commit-number.new.pass in
     let o = in_hand v (session_view c.gather.new.pass) (commit_view c.args.kept.seat) w part h.ms h.parts kept.seat.1 c.join_commit-number.ensures.view in
     let same : part_in c.split_commit-seat.result ≡ part = ap (λ (t : View). commit_there (first_in t.parts)) c.split_commit-seat.ensures.seat ∙ o.commit_is in
     let follows = follows_still (sizes_of c.args.tools.now.board.now) c.join_commit-number.result w c.join_commit-number.ensures.backed
@@ -254,8 +275,7 @@ returns-in_default-clause-kept g c =
 
 pub returns-then-is_empty-clause-led : goal.returns-then-is_empty-clause-led
 returns-then-is_empty-clause-led g c =
-    let h = c.gather.ensures.gathered in
-    let none : length c.gather.new.popped.items ≡ 0 = search rules in
+    let h = c.gather.ensures.gathered in let none : length c.gather.new.popped.items ≡ 0 = search rules in
     alone_led (session_view c.args.pass.now) (session_view c.gather.new.pass) h.ms c.gather.new.popped.items none h.taken h.parts h.kept h.events
 
 pub returns-in_default-clause-turn : goal.returns-in_default-clause-turn
@@ -265,11 +285,8 @@ returns-in_default-clause-turn g c = refused_whole (session_view c.args.pass.now
 
 pub returns-in_default-clause-led : goal.returns-in_default-clause-led
 returns-in_default-clause-led g c =
-    let v = session_view c.args.pass.now in
-    let h = c.gather.ensures.gathered in
-    let part = part_in c.args.kept.seat in
-    let w = session_view c.join_commit-number.new.pass in
-    let u = session_view c.split_commit-seat.new.pass in
+    let v = session_view c.args.pass.now in let h = c.gather.ensures.gathered in let part = part_in c.args.kept.seat in
+    let w = session_view c.join_commit-number.new.pass in let u = session_view c.split_commit-seat.new.pass in
     let o = in_hand v (session_view c.gather.new.pass) (commit_view c.args.kept.seat) w part h.ms h.parts c.requires.kept.0.seat.1 c.join_commit-number.ensures.view in
     laid_led v u (session_view c.lay_back.new.pass) h.ms c.make_room.new.popped.items (split_parts v w u part h.ms o c.split_commit-seat.ensures.view)
     (kept_back v (session_view c.gather.new.pass) w u (commit_view c.args.kept.seat).sights (Saw (commit w).history ∷ Took (commit w).taken ∷ []) h.kept
@@ -278,15 +295,9 @@ returns-in_default-clause-led g c =
 
 pub returns-clause-led : goal.returns-clause-led
 returns-clause-led g c =
-    let v = session_view c.args.pass.now in
-    let h = c.gather.ensures.gathered in
-    let part = part_in c.args.kept.seat in
-    let w = session_view c.join_commit-number.new.pass in
-    let x = session_view c.stamp_batch.new.pass in
-    let y = session_view c.publish.new.pass in
-    let u = session_view c.split_commit-seat-2.new.pass in
-    let n : ℕ = c.join_commit-number.result + 1 in
-    let txs = c.as_slice-txs.result.now in
+    let v = session_view c.args.pass.now in let h = c.gather.ensures.gathered in let part = part_in c.args.kept.seat in
+    let w = session_view c.join_commit-number.new.pass in let x = session_view c.stamp_batch.new.pass in let y = session_view c.publish.new.pass in
+    let u = session_view c.split_commit-seat-2.new.pass in let n : ℕ = c.join_commit-number.result + 1 in let txs = c.as_slice-txs.result.now in
     let s = c.stamp_batch.ensures.stamped in
     let o = in_hand v (session_view c.gather.new.pass) (commit_view c.args.kept.seat) w part h.ms h.parts c.requires.kept.0.seat.1 c.join_commit-number.ensures.view in
     laid_led v u (session_view c.lay.new.pass) (numbered n h.ms) txs (u_parts v w x y u part h.ms txs n o s c.publish.ensures.step c.split_commit-seat-2.ensures.view)
