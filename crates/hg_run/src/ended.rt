@@ -11,8 +11,7 @@ ghost use Rattle.hg_drivers.specs.Closed.{IsClosedBy};
 ghost use Rattle.hg_drivers.specs.Collecting.{AreCollectors};
 
 use hg_base::{NoMemory, Totals};
-use hg_disposal::{free_collectors, free_sessions};
-use hg_drivers::{Crew, close};
+use hg_drivers::{Crew, close, free_collectors, free_sessions};
 use hg_session::Engine;
 use hg_transcript::Transcript;
 use std::sync::Wait;

@@ -14,8 +14,7 @@ ghost use Rattle.hg_run.specs.Words.{settings_in};
 
 use crate::ended::{Ended, close_crew};
 use hg_base::NoMemory;
-use hg_disposal::free_engine;
-use hg_drivers::{Crew, open_for, replay_on};
+use hg_drivers::{Crew, free_engine, open_for, replay_on};
 use hg_script::Script;
 use hg_session::Engine;
 use hg_words::Options;

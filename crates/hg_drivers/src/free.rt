@@ -1,8 +1,7 @@
 //! Frees an engine, its sessions and its collectors.
 //!
-//! What they own is a tree of some fifty types. A proof that owns one of them past an exit also proves how the whole tree is freed, and a
-//! crate proves it anew. It is proved here once: a function that is done with an engine hands it on to one of these.
-#![tactic(auto)]
+//! What they own is a tree of some fifty types. Each function that owns one of them at an exit has to prove how the whole tree is freed, and
+//! so does each crate. `hg_run`, which owns an engine for as long as a script runs, hands it on to these, so that it is proved here once.
 
 use hg_collectors::Collectors;
 use hg_rule::SessionPass;
