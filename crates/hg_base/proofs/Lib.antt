@@ -21,5 +21,3 @@ pub mod TextLines
 -- A number is read digit by digit, and is written in one way.
 pub mod Digits
 pub mod Decimal
--- What a source in memory gives.
-pub mod Fronts

@@ -16,10 +16,9 @@ pub mod Text
 pub mod Number
 -- What a collector may take.
 pub mod Lifetimes
--- The outside: reports as they are printed, faults, and what lies in memory.
+-- The outside: reports as they are printed, and faults.
 pub mod Entries
 pub mod Reports
 pub mod Faults
-pub mod Memory
 pub mod Packed
 pub mod Storage

@@ -2,7 +2,8 @@
 
 ghost use Rattle.std.specs.Prelude.{◌≡◌, ◌<◌};
 
-use hg_base::{MemorySink, MemorySource, Sink, Source, SteadySink, SteadySource, Steps};
+use hg_base::{Sink, Source, Steps};
+use hg_memory::{MemorySink, MemorySource, SteadySink, SteadySource};
 use std::alloc::{AllocError, Global};
 use std::marker::Brand;
 use std::sync::ledger::{Blank, Ledger};

@@ -35,7 +35,6 @@ mod laws;
 mod load;
 mod replay;
 mod run;
-mod steady;
 mod steps;
 
 pub use hg_collectors::{Collectors, IntervalWorker, NoGate, Plan};
@@ -45,5 +44,4 @@ pub use hg_streams::{Status, StdinSource, StdoutSink};
 pub use laws::{
     replays_print_the_same, text_determines_what_was_printed, what_is_sound_with_a_reader_fits,
 };
-pub use steady::serve_steadily;
 pub use steps::serve;

@@ -2,7 +2,8 @@
 //! Those of rounds are in `round_tests`.
 
 use crate::order::{Order, Step};
-use hg_base::{Gate, MemorySink, MemorySource, NoMemory};
+use hg_base::{Gate, NoMemory};
+use hg_memory::{MemorySink, MemorySource};
 use hg_run::{Status, serve};
 use std::alloc::{AllocError, Global};
 use std::process::Abort;

@@ -3,12 +3,14 @@
 
 use crate::watched::{WatchedSink, WatchedSource};
 use hg_base::{
-    Answer, Kind, Line, LineList, MemorySink, MemorySource, NoMemory, Printed, Reply, Row, RowList,
-    Sink, Source, SteadySink, SteadySource, Sweep, TableId, Told, ToldList, Totals, Writer,
+    Answer, Kind, Line, LineList, NoMemory, Printed, Reply, Row, RowList, Sink, Source, Sweep,
+    TableId, Told, ToldList, Totals, Writer,
 };
+use hg_memory::{MemorySink, MemorySource, SteadySink, SteadySource};
 use hg_report::text_of;
-use hg_run::{NoGate, Status, StdinSource, StdoutSink, serve, serve_steadily};
+use hg_run::{NoGate, Status, StdinSource, StdoutSink, serve};
 use hg_script::{Code, read_script};
+use hg_steady::serve_steadily;
 use std::alloc::{AllocError, Global};
 use std::sync::Wait;
 use std::test::Fail;

@@ -3,7 +3,6 @@ use Rattle.std.specs.Prelude.{◌≡◌, ℕ, ◌+◌, ◌≤◌, List, length, 
 use Rattle.std.specs.Io.KnownBytes.{Consumes, IsAtEnd}
 use Rattle.hg_base.specs.declared.limits.TheConstants.{MOST_SCRIPT_BYTES}
 use Rattle.hg_base.specs.Faults.{Rose}
-use Rattle.hg_base.specs.Memory.{SteadyFeed}
 
 -- The bytes that are left in a source, or that a sink took, where they are told, and the count of faults: before the call
 -- and after it.
@@ -31,14 +30,6 @@ pub record HasGiven (most : ℕ) (source : Change) : Type 0 where
   pub bytes : List ℕ
   pub read : Consumes source.before source.after bytes
   pub few : length bytes ≤ most
-
--- of a source in memory that never fails, the bytes before a call and after it
-abbrev pub steady_source : SteadyFeed → SteadyFeed → Change
-steady_source old new = record { before = Some old.left; after = Some new.left; faults = 0; faults_after = 0 }
-
--- of a sink in memory that never fails and shows no contract what it took
-abbrev pub steady_sink : Change
-steady_sink = record { before = None; after = None; faults = 0; faults_after = 0 }
 
 -- the bytes are all that the source had, and no more than a script may have
 pub record ReadsAll (source : Change) (bytes : List ℕ) : Type 0 where

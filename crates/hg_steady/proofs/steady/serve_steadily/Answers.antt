@@ -1,9 +1,10 @@
 use Rattle.std.proofs.Common.{refl, subst, arith}
 use Rattle.hg_base.specs.Faults.{Rose}
-use Rattle.hg_base.specs.Memory.{SteadyFeed}
+use Rattle.hg_memory.specs.Memory.{SteadyFeed}
 use Rattle.hg_run.specs.Serving.{Comes}
-use Rattle.hg_streams.specs.Streams.{Gives, steady_source}
-use Rattle.hg_run.proofs.steady.serve_steadily.Goals as goal
+use Rattle.hg_streams.specs.Streams.{Gives}
+use Rattle.hg_steady.specs.Steady.{steady_source}
+use Rattle.hg_steady.proofs.steady.serve_steadily.Goals as goal
 
 -- a count that is always 0 never rose
 never : ¬ (Rose 0 0)

@@ -6,10 +6,12 @@ ghost use Rattle.hg_script.specs.Fields.{rows_of};
 ghost use Rattle.hg_script.specs.Meaning.{refusal_of};
 ghost use Rattle.hg_run.specs.Words.{AsksFor, IsMaking, IsReading};
 ghost use Rattle.hg_run.specs.Serving.{Comes, IsScriptIn, IsUnlessNoMemory};
-ghost use Rattle.hg_streams.specs.Streams.{HasGiven, steady_sink, steady_source};
+ghost use Rattle.hg_steady.specs.Steady.{steady_sink, steady_source};
+ghost use Rattle.hg_streams.specs.Streams.{HasGiven};
 
-use crate::steps::serve;
-use hg_base::{Gate, MOST_SCRIPT_BYTES, SteadySink, SteadySource};
+use hg_base::{Gate, MOST_SCRIPT_BYTES};
+use hg_memory::{SteadySink, SteadySource};
+use hg_run::serve;
 use hg_streams::Status;
 use std::alloc::Global;
 use std::sync::Wait;

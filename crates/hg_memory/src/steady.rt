@@ -5,9 +5,8 @@ ghost use Rattle.std.specs.Io.{ReadsAtMost};
 ghost use Rattle.std.specs.Io.KnownBytes.{ReadConsumes, WriteAppends};
 ghost use Rattle.hg_base.specs.Faults.{HasCause, TakesSome, counted};
 
-use crate::fault::{Failed, NoMemory};
 use crate::memory::copy_front;
-use crate::outside::{Sink, Source};
+use hg_base::{Failed, NoMemory, Sink, Source};
 use std::alloc::Global;
 use std::marker::Model;
 
@@ -21,7 +20,7 @@ pub struct SteadySource {
 
 impl Model for SteadySource {
     ghost use Rattle.std.specs.Prelude.{◌<◌, ◌≤◌, length, drop};
-    ghost use Rattle.hg_base.specs.Memory.{SteadyFeed};
+    ghost use Rattle.hg_memory.specs.Memory.{SteadyFeed};
 
     ghost Value = { SteadyFeed };
 
@@ -74,7 +73,7 @@ pub struct SteadySink {
 
 impl Model for SteadySink {
     ghost use Rattle.std.specs.Prelude.{◌+◌, ◌<◌, ◌≤◌, vec_len, vec_capacity};
-    ghost use Rattle.hg_base.specs.Memory.{SteadyTray};
+    ghost use Rattle.hg_memory.specs.Memory.{SteadyTray};
 
     ghost Value = { SteadyTray };
 

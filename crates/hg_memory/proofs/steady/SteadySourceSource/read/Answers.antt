@@ -1,12 +1,12 @@
 use Rattle.std.proofs.Common.{◌+◌, arith, length-drop}
 use Rattle.std.proofs.lemmas.List.{drop_all, take_rest}
-use Rattle.hg_base.proofs.Fronts.{given, as_long}
-use Rattle.hg_base.proofs.memory.MemorySourceSource.read.Goals as goal
+use Rattle.hg_memory.proofs.Fronts.{given, as_long}
+use Rattle.hg_memory.proofs.steady.SteadySourceSource.read.Goals as goal
 
 pub returns-clause-bytes : goal.returns-clause-bytes
 returns-clause-bytes c =
-    let e = rw (take_rest, c.deref-2.ensures.value) at c.copy_front-count.ensures.copied in
-    let n = rw (take_rest, c.deref-2.ensures.value) at c.copy_front-count.ensures.count in
+    let e = rw (take_rest, c.deref.ensures.value) at c.copy_front-count.ensures.copied in
+    let n = rw (take_rest, c.deref.ensures.value) at c.copy_front-count.ensures.count in
     let xs = c.self.inside.bytes.items in
     let d = length-drop c.self.inside.at xs in
     let same = as_long xs c.args.into.now _ c.self.inside.at c.copy_front-count.result (omega (arith, n, d)) (omega (arith, n)) e in

@@ -6,8 +6,7 @@ ghost use Rattle.std.specs.Io.KnownBytes.{ReadConsumes, WriteAppends};
 ghost use Rattle.std.specs.List.{list_any};
 ghost use Rattle.hg_base.specs.Faults.{HasCause, TakesSome, next_count};
 
-use crate::fault::{Failed, NoMemory};
-use crate::outside::{Sink, Source};
+use hg_base::{Failed, NoMemory, Sink, Source};
 use std::alloc::Global;
 use std::marker::Model;
 
@@ -24,7 +23,7 @@ pub struct MemorySource {
 
 impl Model for MemorySource {
     ghost use Rattle.std.specs.Prelude.{◌<◌, ◌≤◌, length, drop};
-    ghost use Rattle.hg_base.specs.Memory.{Feed};
+    ghost use Rattle.hg_memory.specs.Memory.{Feed};
 
     ghost Value = { Feed };
 
@@ -113,7 +112,7 @@ pub struct MemorySink {
 
 impl Model for MemorySink {
     ghost use Rattle.std.specs.Prelude.{◌+◌, ◌<◌, ◌≤◌, vec_len, vec_capacity};
-    ghost use Rattle.hg_base.specs.Memory.{Tray};
+    ghost use Rattle.hg_memory.specs.Memory.{Tray};
 
     ghost Value = { Tray };
 

@@ -1,0 +1,2 @@
+-- What a source in memory gives.
+pub mod Fronts
