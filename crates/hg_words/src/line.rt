@@ -1,7 +1,7 @@
 //! The command line: the command, as it is made for `clap`, and the options that it matches.
 
 ghost use Rattle.std.specs.Prelude.{◌≡◌, ◌≢◌, IfOk, false, Some, None, map, codes, IsErrOf, string_bytes, option_and_then, option_map};
-ghost use Rattle.clap.specs.Words.{app_of, rule_of, with_rule, one_of, first_of, found_of, rows_of};
+ghost use Rattle.clap.specs.Words.{App, app_of, rule_of, with_rule, one_of, first_of, found_of, rows_of};
 ghost use Rattle.hg_words.specs.Line.{command_line, placed_line, engine_line, mode_rule, seed_rule, number_rule};
 ghost use Rattle.hg_words.specs.declared.options.WordsRefusal.TheVariants.{Usage};
 ghost use Rattle.clap.specs.declared.error.kind.ErrorKind.TheVariants.{OutOfMemory};
@@ -38,45 +38,45 @@ fn number_argument<'a>(alloc: Global, name: &'a str, low: u32, high: u32, value:
         .default_value(value)
 }
 
+// The command with one argument more, if there is a command.
+fn with_argument<'a>(
+    line: Result<clap::Command<'a>, AllocError>,
+    argument: Arg<'a>,
+) -> Result<clap::Command<'a>, AllocError>
+    requires local { argument.global ≡ false }
+    ensures { (app : App) → IfOk line.entry (λ c. app_of c ≡ app) →
+        IfOk result (λ c. app_of c ≡ with_rule app (rule_of argument.entry)) }
+{
+    line?.arg(argument)
+}
+
 // The command with its positionals.
 fn placed<'a>(alloc: Global) -> Result<clap::Command<'a>, AllocError>
     ensures { IfOk result (λ c. app_of c ≡ placed_line) }
 {
-    clap::Command::new(alloc, "hybridgc")
-        .no_binary_name(true)
-        .arg(mode_argument(alloc))?
-        .arg(seed_argument(alloc))
-}
-
-// The command with one option more, that takes a number.
-fn with_number<'a>(
-    alloc: Global,
-    line: clap::Command<'a>,
-    name: &'a str,
-    low: u32,
-    high: u32,
-    value: &'a str,
-) -> Result<clap::Command<'a>, AllocError>
-    ensures { IfOk result (λ c. app_of c ≡
-        with_rule (app_of line.entry) (number_rule name.entry.now low high value.entry.now)) }
-{
-    line.arg(number_argument(alloc, name, low, high, value))
+    let bare = clap::Command::new(alloc, "hybridgc").no_binary_name(true);
+    let line = with_argument(Ok(bare), mode_argument(alloc));
+    with_argument(line, seed_argument(alloc))
 }
 
 // The command with the options that an engine is opened with, too.
 fn for_engine<'a>(alloc: Global) -> Result<clap::Command<'a>, AllocError>
     ensures { IfOk result (λ c. app_of c ≡ engine_line) }
 {
-    let line = with_number(alloc, placed(alloc)?, "buckets", 1, 1024, "64")?;
-    with_number(alloc, line, "long", 1, 1_048_576, "4")
+    let buckets = number_argument(alloc, "buckets", 1, 1024, "64");
+    let line = with_argument(placed(alloc), buckets);
+    let long = number_argument(alloc, "long", 1, 1_048_576, "4");
+    with_argument(line, long)
 }
 
 /// The one command, without subcommands.
 pub(crate) fn line<'a>(alloc: Global) -> Result<clap::Command<'a>, AllocError>
     ensures { IfOk result (λ c. app_of c ≡ command_line) }
 {
-    let line = with_number(alloc, for_engine(alloc)?, "rounds", 0, 1000, "8")?;
-    with_number(alloc, line, "sweepers", 1, 16, "1")
+    let rounds = number_argument(alloc, "rounds", 0, 1000, "8");
+    let line = with_argument(for_engine(alloc), rounds);
+    let sweepers = number_argument(alloc, "sweepers", 1, 16, "1");
+    with_argument(line, sweepers)
 }
 
 fn long_number(matches: &ArgMatches, id: &str) -> Option<u64>
