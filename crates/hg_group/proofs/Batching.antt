@@ -40,12 +40,12 @@ pub away_first : (v : View) → HasAway v → HasFirst v
 away_first v own = own ∙ ap (λ (ps : List Part). first_in ps ∷ others v) (sym own)
 
 -- with the committer's part joined
-pub away_joined : (v x w : View) (part : CommitPart) → HasAway v → x.parts ≡ OfCommit part ∷ [] → w ≡ joined v x →
+away_joined : (v x w : View) (part : CommitPart) → HasAway v → x.parts ≡ OfCommit part ∷ [] → w ≡ joined v x →
     w.parts ≡ Away (number v) (session v) (since v) ∷ OfCommit part ∷ others v
 away_joined v x w part own only is = ap (λ (y : View). y.parts) is ∙ (λ i. put_in (own i) (only i))
 
 -- and without it again
-pub away_left : (v w : View) → HasAway v → w ≡ without_commit v → w.parts ≡ Away (number v) (session v) (since v) ∷ beyond v
+away_left : (v w : View) → HasAway v → w ≡ without_commit v → w.parts ≡ Away (number v) (session v) (since v) ∷ beyond v
 away_left v w own left = ap (λ (y : View). y.parts) left ∙ ap (λ (ps : List Part). first_in ps ∷ beyond v) own
 
 pub record AwayTaken (v : View) (b : ℕ) (w : View) : Type 0 where
@@ -131,3 +131,14 @@ away_with t z p q os own seat rest e = (still_away t z p q os own seat rest e, a
 pub away_back : (t : BoardId) (z : Sizes) (p q : SessionPass) → IsAwayOf t z p → IsSeatOf t q.seat → session_rest q ≡ session_rest p → session_view q ≡ hands_back (session_view p)
     → IsAwayOf t z q × (q.number ≡ p.number)
 away_back t z p q own seat rest is = away_with t z p q (beyond (session_view p)) own seat rest (ap (λ (y : View). y.parts) is ∙ ap but_second own.3)
+
+-- the pass's own part is away still once the committer's part was joined
+pub away_joins : (t : BoardId) (z : Sizes) (p q : SessionPass) (x : View) (part : CommitPart) → IsAwayOf t z p → IsSeatOf t q.seat → session_rest q ≡ session_rest p →
+    x.parts ≡ OfCommit part ∷ [] → session_view q ≡ joined (session_view p) x → IsAwayOf t z q × (q.number ≡ p.number)
+away_joins t z p q x part own seat rest only is =
+    away_with t z p q (OfCommit part ∷ others (session_view p)) own seat rest (away_joined (session_view p) x (session_view q) part own.3 only is)
+
+-- and once it left
+pub away_leaves : (t : BoardId) (z : Sizes) (p q : SessionPass) → IsAwayOf t z p → IsSeatOf t q.seat → session_rest q ≡ session_rest p →
+    session_view q ≡ without_commit (session_view p) → IsAwayOf t z q × (q.number ≡ p.number)
+away_leaves t z p q own seat rest is = away_with t z p q (beyond (session_view p)) own seat rest (away_left (session_view p) (session_view q) own.3 is)

@@ -3,8 +3,8 @@ use Rattle.hg_base.specs.History.{History, NoNumberTwice}
 use Rattle.hg_rule.specs.declared.groups.Groups.{Groups}
 use Rattle.hg_rule.specs.declared.view.CommitPart.{CommitPart}
 use Rattle.hg_rule.specs.declared.view.View.{View}
-use Rattle.hg_rule.specs.declared.view.Part.TheVariants.{Away, OfCommit}
-use Rattle.hg_rule.specs.Views.{number, session, since, others, commit_there, first_in}
+use Rattle.hg_rule.specs.declared.view.Part.TheVariants.{Away}
+use Rattle.hg_rule.specs.Views.{number, session, since, commit_there, first_in}
 use Rattle.hg_rule.specs.declared.view.Sight.TheVariants.{Saw, Took}
 use Rattle.hg_rule.specs.Facts.{groups}
 use Rattle.hg_rule.specs.Holding.{beyond, commit}
@@ -24,7 +24,7 @@ use Rattle.hg_group.proofs.Whole.{may_all}
 use Rattle.std.specs.Prelude.{◌≤◌, vec_capacity}
 use Rattle.hg_group.specs.declared.book.Book.{Book}
 use Rattle.hg_group.specs.Pushing.{IsPopping}
-use Rattle.hg_group.proofs.Batching.{away_joined, away_left, away_with}
+use Rattle.hg_group.proofs.Batching.{away_joins, away_leaves}
 use Rattle.hg_group.proofs.Bound.{low, room_long, at_most, batch_fits}
 use Rattle.hg_group.proofs.Led.{no_items, alone_led, laid_led, split_parts, kept_back, refused_whole, kept_through}
 use Rattle.hg_group.proofs.Joint.{in_hand, taken_whose, u_parts, u_sights, after_is, none_after, taken_after, has_group, has_batch}
@@ -41,9 +41,8 @@ roomy : (txs was : List OpenTx) (ms : Members) → (room : ℕ) × (txs ≡ with
 roomy txs was ms w h = subst (λ l. AreTaken l ms) (sym w.1) (taken_room w.0 was ms h)
 
 pub gather-requires-clause-line : goal.gather-requires-clause-line
-gather-requires-clause-line g c =
-    let line = c.requires.kept.0.line in
-    subst (λ (b : Book). IsPopping c.args.tools.now.queue.now (board_id c.args.tools.now.board.now) b.line) (sym c.deref_mut-open.ensures.value) (c.requires.kept.1, line.0, line.1.0, line.1.1)
+gather-requires-clause-line g c = subst (λ (b : Book). IsPopping c.args.tools.now.queue.now (board_id c.args.tools.now.board.now) b.line) (sym c.deref_mut-open.ensures.value)
+    (c.requires.kept.1, c.requires.kept.0.line.0, c.requires.kept.0.line.1.0, c.requires.kept.0.line.1.1)
 
 pub gather-requires-clause-room : goal.gather-requires-clause-room
 gather-requires-clause-room g c =
@@ -55,8 +54,7 @@ pub returns-then-is_empty-clause-kept : goal.returns-then-is_empty-clause-kept
 returns-then-is_empty-clause-kept g c =
     let book = c.deref_mut-open.result.now in let h = c.gather.ensures.gathered in
     let kept = booked_kept (board_id c.args.tools.now.board.now) (sizes_of c.args.tools.now.board.now).sessions c.args.kept book c.deref_mut-open.ensures.value c.requires.kept.0 in
-    let empty : length c.gather.new.popped.items ≡ 0 = search rules in let none = no_items c.gather.new.popped.items empty in
-    let old = (known book.line).pairs in
+    let empty : length c.gather.new.popped.items ≡ 0 = search rules in let none = no_items c.gather.new.popped.items empty in let old = (known book.line).pairs in
     let same : (known c.gather.new.line).pairs ≡ old = h.pairs ∙ (ap (λ (txs : List OpenTx). old ++ map pair_in txs) none ∙ append-nil old) in (
       record {
         seat = kept.seat;
@@ -73,20 +71,22 @@ returns-then-is_empty-clause-kept g c =
     )
 
 pub stamp_batch-requires-clause-own : goal.stamp_batch-requires-clause-own
-stamp_batch-requires-clause-own g c =
-    let v = session_view c.gather.new.pass in
-    let part = part_in c.args.kept.seat in (
-      (away_with (board_id c.args.tools.now.board.now) (sizes_of c.args.tools.now.board.now) c.gather.new.pass c.join_commit-number.new.pass (OfCommit part ∷ others v)
-          c.gather.ensures.own.0 c.join_commit-number.ensures.own.0 c.join_commit-number.ensures.own.1
-          (away_joined v (commit_view c.args.kept.seat) (session_view c.join_commit-number.new.pass) part c.gather.ensures.own.0.3 c.requires.kept.0.seat.1 c.join_commit-number.ensures.view)).0,
-      c.join_commit-number.ensures.holds.1,
-    )
+stamp_batch-requires-clause-own g c = (
+  (away_joins (board_id c.args.tools.now.board.now) (sizes_of c.args.tools.now.board.now) c.gather.new.pass c.join_commit-number.new.pass (commit_view c.args.kept.seat) (part_in c.args.kept.seat)
+      c.gather.ensures.own.0 c.join_commit-number.ensures.own.0 c.join_commit-number.ensures.own.1 c.requires.kept.0.seat.1 c.join_commit-number.ensures.view).0,
+  c.join_commit-number.ensures.holds.1,
+)
+
+pub lay_back-requires-clause-own : goal.lay_back-requires-clause-own
+lay_back-requires-clause-own g c =
+    let t = board_id c.args.tools.now.board.now in let z = sizes_of c.args.tools.now.board.now in
+    let joined = away_joins t z c.gather.new.pass c.join_commit-number.new.pass (commit_view c.args.kept.seat) (part_in c.args.kept.seat) c.gather.ensures.own.0
+    c.join_commit-number.ensures.own.0 c.join_commit-number.ensures.own.1 c.requires.kept.0.seat.1 c.join_commit-number.ensures.view in
+    (away_leaves t z c.join_commit-number.new.pass c.split_commit-seat.new.pass joined.0 c.split_commit-seat.ensures.own.0 c.split_commit-seat.ensures.own.1 c.split_commit-seat.ensures.view).0
 
 pub lay-requires-clause-own : goal.lay-requires-clause-own
-lay-requires-clause-own g c =
-    let y = session_view c.publish.new.pass in
-    (away_with (board_id c.args.tools.now.board.now) (sizes_of c.args.tools.now.board.now) c.publish.new.pass c.split_commit-seat-2.new.pass (beyond y) c.publish.ensures.own.0
-    c.split_commit-seat-2.ensures.own.0 c.split_commit-seat-2.ensures.own.1 (away_left y (session_view c.split_commit-seat-2.new.pass) c.publish.ensures.own.0.3 c.split_commit-seat-2.ensures.view)).0
+lay-requires-clause-own g c = (away_leaves (board_id c.args.tools.now.board.now) (sizes_of c.args.tools.now.board.now) c.publish.new.pass c.split_commit-seat-2.new.pass
+    c.publish.ensures.own.0 c.split_commit-seat-2.ensures.own.0 c.split_commit-seat-2.ensures.own.1 c.split_commit-seat-2.ensures.view).0
 
 pub stamp_batch-requires-clause-received : goal.stamp_batch-requires-clause-received
 stamp_batch-requires-clause-received g c =
@@ -97,8 +97,7 @@ stamp_batch-requires-clause-received g c =
 
 pub stamp_batch-requires-clause-taken : goal.stamp_batch-requires-clause-taken
 stamp_batch-requires-clause-taken g c =
-    let v = session_view c.args.pass.now in let h = c.gather.ensures.gathered in let part = part_in c.args.kept.seat in
-    let w = session_view c.join_commit-number.new.pass in
+    let v = session_view c.args.pass.now in let h = c.gather.ensures.gathered in let part = part_in c.args.kept.seat in let w = session_view c.join_commit-number.new.pass in
     let o = in_hand v (session_view c.gather.new.pass) (commit_view c.args.kept.seat) w part h.ms h.parts c.requires.kept.0.seat.1 c.join_commit-number.ensures.view in (
       subst (λ l. AreTaken l (members (beyond w))) (sym c.as_slice-txs.ensures.value)
           (subst (AreTaken c.make_room.new.popped.items) (sym o.members_are) (roomy c.make_room.new.popped.items c.gather.new.popped.items h.ms c.make_room.ensures.whole h.taken)),
@@ -108,8 +107,7 @@ stamp_batch-requires-clause-taken g c =
 
 pub publish-requires-clause-received : goal.publish-requires-clause-received
 publish-requires-clause-received g c =
-    let s = c.stamp_batch.ensures.stamped in
-    let o = on_way (session_view c.join_commit-number.new.pass) (session_view c.stamp_batch.new.pass) s.ms s.list s.parts in
+    let s = c.stamp_batch.ensures.stamped in let o = on_way (session_view c.join_commit-number.new.pass) (session_view c.stamp_batch.new.pass) s.ms s.list s.parts in
     o.beyond_is ∙ ap lent (sym o.members_are)
 
 pub publish-requires-clause-may : goal.publish-requires-clause-may
@@ -123,8 +121,7 @@ publish-requires-clause-may g c =
 
 pub lay-requires-clause-group : goal.lay-requires-clause-group
 lay-requires-clause-group g c =
-    let v = session_view c.args.pass.now in let h = c.gather.ensures.gathered in let part = part_in c.args.kept.seat in
-    let w = session_view c.join_commit-number.new.pass in
+    let v = session_view c.args.pass.now in let h = c.gather.ensures.gathered in let part = part_in c.args.kept.seat in let w = session_view c.join_commit-number.new.pass in
     let o = in_hand v (session_view c.gather.new.pass) (commit_view c.args.kept.seat) w part h.ms h.parts c.requires.kept.0.seat.1 c.join_commit-number.ensures.view in
     let mark = c.join_commit-number.result in let n : ℕ = mark + 1 in
     let long : length part.history.list ≡ mark = ap (λ (q : CommitPart). length q.history.list) (sym o.commit_is) ∙ c.join_commit-number.ensures.mark.is_length in
@@ -213,8 +210,7 @@ returns-clause-kept g c =
 pub lay-requires-clause-small : goal.lay-requires-clause-small
 lay-requires-clause-small g c =
     let v = session_view c.args.pass.now in let z = sizes_of c.args.tools.now.board.now in let h = c.gather.ensures.gathered in
-    let part = part_in c.args.kept.seat in let w = session_view c.join_commit-number.new.pass in let book = c.deref_mut-open.result.now in
-    let txs = c.as_slice-txs.result.now in
+    let part = part_in c.args.kept.seat in let w = session_view c.join_commit-number.new.pass in let book = c.deref_mut-open.result.now in let txs = c.as_slice-txs.result.now in
     let kept = booked_kept (board_id c.args.tools.now.board.now) z.sessions c.args.kept book c.deref_mut-open.ensures.value c.requires.kept.0 in
     let o = in_hand v (session_view c.gather.new.pass) (commit_view c.args.kept.seat) w part h.ms h.parts c.requires.kept.0.seat.1 c.join_commit-number.ensures.view in
     let long : length txs ≡ length c.gather.new.popped.items = ap length c.as_slice-txs.ensures.value ∙
@@ -227,8 +223,7 @@ lay-requires-clause-small g c =
 pub overflow_add-open : goal.overflow_add-open
 overflow_add-open g c =
     let v = session_view c.args.pass.now in let z = sizes_of c.args.tools.now.board.now in let h = c.gather.ensures.gathered in
-    let part = part_in c.args.kept.seat in let w = session_view c.join_commit-number.new.pass in let book = c.deref_mut-open.result.now in
-    let txs = c.as_slice-txs.result.now in
+    let part = part_in c.args.kept.seat in let w = session_view c.join_commit-number.new.pass in let book = c.deref_mut-open.result.now in let txs = c.as_slice-txs.result.now in
     let kept = booked_kept (board_id c.args.tools.now.board.now) z.sessions c.args.kept book c.deref_mut-open.ensures.value c.requires.kept.0 in
     let o = in_hand v (session_view c.gather.new.pass) (commit_view c.args.kept.seat) w part h.ms h.parts c.requires.kept.0.seat.1 c.join_commit-number.ensures.view in
     let long : length txs ≡ length c.gather.new.popped.items = ap length c.as_slice-txs.ensures.value ∙
@@ -242,8 +237,7 @@ overflow_add-open g c =
 
 pub lay_back-requires-clause-batch : goal.lay_back-requires-clause-batch
 lay_back-requires-clause-batch g c =
-    let v = session_view c.args.pass.now in let h = c.gather.ensures.gathered in let part = part_in c.args.kept.seat in
-    let w = session_view c.join_commit-number.new.pass in
+    let v = session_view c.args.pass.now in let h = c.gather.ensures.gathered in let part = part_in c.args.kept.seat in let w = session_view c.join_commit-number.new.pass in
     let o = in_hand v (session_view c.gather.new.pass) (commit_view c.args.kept.seat) w part h.ms h.parts c.requires.kept.0.seat.1 c.join_commit-number.ensures.view in
     has_batch v w (session_view c.split_commit-seat.new.pass) part h.ms c.make_room.new.popped.items
     (sizes_of c.args.tools.now.board.now) c.join_commit-number.result o c.split_commit-seat.ensures.view c.join_commit-number.ensures.backed
@@ -297,8 +291,7 @@ pub returns-clause-led : goal.returns-clause-led
 returns-clause-led g c =
     let v = session_view c.args.pass.now in let h = c.gather.ensures.gathered in let part = part_in c.args.kept.seat in
     let w = session_view c.join_commit-number.new.pass in let x = session_view c.stamp_batch.new.pass in let y = session_view c.publish.new.pass in
-    let u = session_view c.split_commit-seat-2.new.pass in let n : ℕ = c.join_commit-number.result + 1 in let txs = c.as_slice-txs.result.now in
-    let s = c.stamp_batch.ensures.stamped in
+    let u = session_view c.split_commit-seat-2.new.pass in let n : ℕ = c.join_commit-number.result + 1 in let txs = c.as_slice-txs.result.now in let s = c.stamp_batch.ensures.stamped in
     let o = in_hand v (session_view c.gather.new.pass) (commit_view c.args.kept.seat) w part h.ms h.parts c.requires.kept.0.seat.1 c.join_commit-number.ensures.view in
     laid_led v u (session_view c.lay.new.pass) (numbered n h.ms) txs (u_parts v w x y u part h.ms txs n o s c.publish.ensures.step c.split_commit-seat-2.ensures.view)
     (kept_through v (session_view c.gather.new.pass) w x u (commit_view c.args.kept.seat).sights (Saw (groups (part.history.list ++ group_of h.ms ∷ [])) ∷ hears n h.ms)
