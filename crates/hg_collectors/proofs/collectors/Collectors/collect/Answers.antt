@@ -1,4 +1,4 @@
-use Rattle.std.proofs.Common.{◌≡◌, ◌+◌, sym, subst}
+use Rattle.std.proofs.Common.{◌≡◌, ◌≢◌, ◌+◌, refl, sym, subst}
 use Rattle.std.specs.Prelude.{IfOk}
 use Rattle.hg_base.specs.declared.report.Kind.{Kind}
 use Rattle.hg_base.specs.declared.report.Kind.TheVariants as kinds
@@ -9,11 +9,50 @@ use Rattle.hg_collectors.specs.Lent.{lent_board_id, lent_sizes}
 use Rattle.hg_collectors.specs.Collecting.{removed_of, view_in}
 use Rattle.hg_collectors.specs.Rounding.{IsRoundBy}
 use Rattle.hg_collectors.specs.Swept.{HasSwept, swept_by}
-use Rattle.hg_collectors.proofs.Among.{if_ok}
+use Rattle.hg_collectors.proofs.Among.{by_kind, if_ok}
 use Rattle.hg_collectors.proofs.Driving.{swept_of, told_swept, removed_group, removed_table, removed_interval}
 use Rattle.hg_collectors.proofs.Meetings.{lone_swept}
 use Rattle.hg_collectors.proofs.Teams.{worker_pass}
 use Rattle.hg_collectors.proofs.collectors.Collectors.collect.Goals as goal
+
+pub returns-in-Group-clause-round : goal.returns-in-Group-clause-round
+returns-in-Group-clause-round g c =
+    let z = lent_sizes c.args.lent.now in
+    let old = c.args.self.now in
+    let new = record old { group = c.make_round.new.self } in
+    subst (λ kind. IfOk c.make_round.result (λ sweep. IsRoundBy kind z c.args.long (view_in kind old) sweep (view_in kind new))) (sym c.in-Group.is) c.make_round.ensures.round
+
+pub returns-in-Group-clause-others : goal.returns-in-Group-clause-others
+returns-in-Group-clause-others g c =
+    let old = c.args.self.now in
+    let new = record old { group = c.make_round.new.self } in
+    by_kind (λ k. k ≢ c.args.kind → view_in k new ≡ view_in k old) (λ apart. absurd (apart (sym c.in-Group.is))) (λ apart. refl) (λ apart. refl)
+
+pub returns-in-Table-clause-round : goal.returns-in-Table-clause-round
+returns-in-Table-clause-round g c =
+    let z = lent_sizes c.args.lent.now in
+    let old = c.args.self.now in
+    let new = record old { table = c.make_round-in-Table.new.self } in
+    subst (λ kind. IfOk c.make_round-in-Table.result (λ sweep. IsRoundBy kind z c.args.long (view_in kind old) sweep (view_in kind new))) (sym c.in-Table.is) c.make_round-in-Table.ensures.round
+
+pub returns-in-Table-clause-others : goal.returns-in-Table-clause-others
+returns-in-Table-clause-others g c =
+    let old = c.args.self.now in
+    let new = record old { table = c.make_round-in-Table.new.self } in
+    by_kind (λ k. k ≢ c.args.kind → view_in k new ≡ view_in k old) (λ apart. refl) (λ apart. absurd (apart (sym c.in-Table.is))) (λ apart. refl)
+
+pub returns-in-Interval-clause-round : goal.returns-in-Interval-clause-round
+returns-in-Interval-clause-round g c =
+    let z = lent_sizes c.args.lent.now in
+    let old = c.args.self.now in
+    let new = record old { interval = c.sweep_round.new.worker } in
+    subst (λ kind. IfOk c.sweep_round.result (λ sweep. IsRoundBy kind z c.args.long (view_in kind old) sweep (view_in kind new))) (sym c.in-Interval.is) c.sweep_round.ensures.round
+
+pub returns-in-Interval-clause-others : goal.returns-in-Interval-clause-others
+returns-in-Interval-clause-others g c =
+    let old = c.args.self.now in
+    let new = record old { interval = c.sweep_round.new.worker } in
+    by_kind (λ k. k ≢ c.args.kind → view_in k new ≡ view_in k old) (λ apart. refl) (λ apart. refl) (λ apart. absurd (apart (sym c.in-Interval.is)))
 
 pub returns-in-Group-clause-swept : goal.returns-in-Group-clause-swept
 returns-in-Group-clause-swept g c =
