@@ -38,8 +38,7 @@ pub(crate) fn part<'a>(bytes: &'a [u8], fields: &mut Vec<&'a [u8]>) -> Result<()
         // Line feeds, commas and quotes are below the bytes of words and numbers.
         if bytes[i] <= b',' {
             if bytes[i] == b'\n' && !quoted {
-                push_part(fields, bytes, start, i)?;
-                return Ok(());
+                return push_part(fields, bytes, start, i);
             }
             if bytes[i] == b',' && !quoted {
                 push_part(fields, bytes, start, i)?;
@@ -48,8 +47,7 @@ pub(crate) fn part<'a>(bytes: &'a [u8], fields: &mut Vec<&'a [u8]>) -> Result<()
             quoted = is_quoted_behind(quoted, bytes[i]);
         }
     }
-    push_part(fields, bytes, start, bytes.len())?;
-    Ok(())
+    push_part(fields, bytes, start, bytes.len())
 }
 
 /// The field at a place, counted from 0, and no bytes where there is none.

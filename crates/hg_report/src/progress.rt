@@ -100,20 +100,22 @@ impl Open {
     fn add_row(&mut self, key: u64, row: Row) -> Result<(), NoMemory>
         ensures { OnOk result (self.new ≡ with_row self.old (key, row)) }
     {
-        if let Open::Scan { left, rows, .. } = self {
-            rows.push(key, row)?;
-            *left = left.saturating_sub(1);
+        match self {
+            Open::Scan { left, rows, .. } => {
+                *left = left.saturating_sub(1);
+                rows.push(key, row)
+            }
+            _ => Ok(()),
         }
-        Ok(())
     }
 
     fn add_held(&mut self, told: Told) -> Result<(), NoMemory>
         ensures { OnOk result (self.new ≡ with_held self.old told) }
     {
-        if let Open::Sweep { sweep, .. } = self {
-            sweep.held.push(told)?;
+        match self {
+            Open::Sweep { sweep, .. } => sweep.held.push(told),
+            _ => Ok(()),
         }
-        Ok(())
     }
 
     /// What the record says if it may come next.

@@ -52,11 +52,14 @@ fn take<'a>(
     let Some(piece) = progress.last.guess(alloc, script, row)? else {
         return Ok(None);
     };
-    let Some(rest) = behind(script, &piece, text, bytes)? else {
-        return Ok(None);
-    };
-    progress.take(alloc, piece)?;
-    Ok(Some(rest))
+    match behind(script, &piece, text, bytes) {
+        Ok(Some(rest)) => {
+            progress.take(alloc, piece)?;
+            Ok(Some(rest))
+        }
+        Ok(None) => Ok(None),
+        Err(e) => Err(e),
+    }
 }
 
 fn refused(line: u64) -> TextRefusal

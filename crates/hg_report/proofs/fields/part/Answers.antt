@@ -1,8 +1,9 @@
 use Rattle.std.proofs.Common.{◌≡◌, ◌∙◌, [], ◌++◌, ℕ, false, length, ap, subst, arith}
+use Rattle.std.proofs.lemmas.Result.{on_ok_weaker}
 use Rattle.hg_report.specs.Fields.{fields_of, parted}
 use Rattle.hg_report.proofs.Parted.{So, fields_none, not_outside, closed_at_feed, closed_at_comma, closed_at_end, goes_on, goes_over}
 use Rattle.hg_report.proofs.fields.part.Goals as goal
-use Rattle.hg_report.proofs.fields.part.Goals.{then-bytes-i-le44+else-bytes-i-eq10, then-bytes-i-eq44+then-not-quoted-2+in_ok-push_part-2, else-bytes-i-eq44, else-bytes-i-le44}
+use Rattle.hg_report.proofs.fields.part.Goals.{then-bytes-i-le44+else-bytes-i-eq10, then-bytes-i-eq44+then-not-quoted-2+in_ok-push_part, else-bytes-i-eq44, else-bytes-i-le44}
 
 pub loop-i-init : goal.loop-i-init
 loop-i-init c = record {
@@ -12,7 +13,9 @@ loop-i-init c = record {
 
 pub returns-then-not-quoted : goal.returns-then-not-quoted
 returns-then-not-quoted c =
-    closed_at_feed _ _ c.args.bytes.now c.loop-i.start c.loop-i.i c.loop-i.quoted c.in_ok-push_part.ensures c.loop-i.invariant.parts c.loop-i-test.true c.if-bytes-i-eq10.true c.if-not-quoted.true
+    on_ok_weaker c.push_part.result
+    (λ h. closed_at_feed _ _ c.args.bytes.now c.loop-i.start c.loop-i.i c.loop-i.quoted h c.loop-i.invariant.parts c.loop-i-test.true c.if-bytes-i-eq10.true c.if-not-quoted.true)
+    c.push_part.ensures
 
 pub loop-i-preserved : goal.loop-i-preserved
 loop-i-preserved c =
@@ -23,10 +26,10 @@ loop-i-preserved c =
     elim c.if-bytes-i-le44.branch [
       | then-bytes-i-le44+else-bytes-i-eq10 w ↦
           elim w.if-bytes-i-eq44.branch [
-            | then-bytes-i-eq44+then-not-quoted-2+in_ok-push_part-2 v ↦ record {
+            | then-bytes-i-eq44+then-not-quoted-2+in_ok-push_part v ↦ record {
               start = omega (arith, w.start-is, v.start-is);
               parts = rw (w.fields-is, v.fields-is, w.start-is, v.start-is, w.quoted-is, w.is_quoted_behind-quoted.ensures)
-                  (closed_at_comma _ _ bytes c.loop-i.start i quoted v.in_ok-push_part-2.ensures inv.parts c.loop-i-test.true v.if-bytes-i-eq44.true v.if-not-quoted-2.true);
+                  (closed_at_comma _ _ bytes c.loop-i.start i quoted v.in_ok-push_part.ensures inv.parts c.loop-i-test.true v.if-bytes-i-eq44.true v.if-not-quoted-2.true);
             }
             | else-bytes-i-eq44 v ↦ record {
               start = omega (arith, w.start-is, v.start-is, inv.start);
@@ -45,4 +48,4 @@ returns c =
     let bytes = c.args.bytes.now in
     let all : c.loop-i.i ≡ length bytes = omega (arith, c.loop-i-test.false, c.loop-i.auto.i-end) in
     let so = subst (λ (i : ℕ). So c.loop-i.quoted (fields_of c.loop-i.fields.items) bytes c.loop-i.start i) all c.loop-i.invariant.parts in
-    closed_at_end _ _ bytes c.loop-i.start (length bytes) c.loop-i.quoted c.in_ok-push_part-3.ensures so (omega arith)
+    on_ok_weaker c.push_part-2.result (λ h. closed_at_end _ _ bytes c.loop-i.start (length bytes) c.loop-i.quoted h so (omega arith)) c.push_part-2.ensures
