@@ -30,7 +30,7 @@ use hg_known::{Before, Lines, Own, Past, Sequence, keeps_update, read_history};
 use std::alloc::Global;
 
 /// What fails first of the lines and totals, and at which line, counted from 0.
-#[derive(Clone, Copy, PartialEq, Eq)]
+#[derive(Clone, Copy)]
 pub enum Found {
     Right,
     Shape(usize),

@@ -112,7 +112,7 @@ fn is_collected(command: Command, session: u32, answer: &Answer) -> bool
     ensures { (mode : Mode) → IsOf command mode →
         (IsTrue result ↔ IsCollected mode session answer.now) }
 {
-    if command == Command::Run && session != 0 {
+    if matches!(command, Command::Run) && session != 0 {
         return matches!(answer, Answer::Beside);
     }
     matches!(answer, Answer::Swept(_))

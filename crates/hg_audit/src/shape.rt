@@ -13,7 +13,7 @@ use hg_base::{Answer, Kind, Line, NoMemory, Record, Statement};
 use hg_known::Sequence;
 
 /// The command that printed the text.
-#[derive(Clone, Copy, PartialEq, Eq)]
+#[derive(Clone, Copy)]
 pub enum Command {
     Replay,
     Run,
