@@ -6,7 +6,7 @@ ghost use Rattle.hg_records.specs.Asked.{table_asked};
 use hg_base::TableId;
 
 /// What a statement asks, and of which table.
-#[derive(Clone, Copy, PartialEq, Eq)]
+#[derive(Clone, Copy)]
 pub enum Asked {
     Begin,
     Get(TableId),

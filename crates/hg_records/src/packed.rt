@@ -153,26 +153,26 @@ pub(crate) fn pack(
     ensures err { OnErr result (numbers.new.items ≡ numbers.old.items) }
     ensures rows_err { OnErr result (rows.new.items ≡ rows.old.items) }
 {
-    Ok(match statement {
-        Statement::Begin(Scope::All) => Packed::Begin,
-        Statement::Begin(Scope::Declared(mask)) => Packed::BeginDeclared(mask),
-        Statement::Get(Rid { table, key }) => Packed::Get { table, key },
-        Statement::Put(rid, row) => pack_put(numbers, rows, rid, row)?,
-        Statement::Del(Rid { table, key }) => Packed::Del { table, key },
+    match statement {
+        Statement::Begin(Scope::All) => Ok(Packed::Begin),
+        Statement::Begin(Scope::Declared(mask)) => Ok(Packed::BeginDeclared(mask)),
+        Statement::Get(Rid { table, key }) => Ok(Packed::Get { table, key }),
+        Statement::Put(rid, row) => pack_put(numbers, rows, rid, row),
+        Statement::Del(Rid { table, key }) => Ok(Packed::Del { table, key }),
         Statement::Scan { table, low, high } => {
             let first = pack_keys(numbers, low, high)?;
-            Packed::Scan { table, first }
+            Ok(Packed::Scan { table, first })
         }
         Statement::CursorOpen { table, low, high } => {
             let first = pack_keys(numbers, low, high)?;
-            Packed::CursorOpen { table, first }
+            Ok(Packed::CursorOpen { table, first })
         }
-        Statement::Fetch(most) => Packed::Fetch(most, cursor),
-        Statement::CursorClose => Packed::CursorClose,
-        Statement::Commit => Packed::Commit,
-        Statement::Rollback => Packed::Rollback,
-        Statement::Gc(kind) => Packed::Gc(kind),
-    })
+        Statement::Fetch(most) => Ok(Packed::Fetch(most, cursor)),
+        Statement::CursorClose => Ok(Packed::CursorClose),
+        Statement::Commit => Ok(Packed::Commit),
+        Statement::Rollback => Ok(Packed::Rollback),
+        Statement::Gc(kind) => Ok(Packed::Gc(kind)),
+    }
 }
 
 // The row of so many numbers, from the one at `first` on.
@@ -206,37 +206,36 @@ pub(crate) fn unpack(
     requires { HasValues (length numbers.now) (length rows.now) packed }
     ensures { IfOk result (λ s. s ≡ statement_in numbers.now rows.now packed) }
 {
-    Ok(match packed {
-        Packed::Begin => Statement::Begin(Scope::All),
-        Packed::BeginDeclared(mask) => Statement::Begin(Scope::Declared(mask)),
-        Packed::Get { table, key } => Statement::Get(Rid { table, key }),
+    match packed {
+        Packed::Begin => Ok(Statement::Begin(Scope::All)),
+        Packed::BeginDeclared(mask) => Ok(Statement::Begin(Scope::Declared(mask))),
+        Packed::Get { table, key } => Ok(Statement::Get(Rid { table, key })),
         Packed::Put {
             table,
             count,
             first,
             key,
         } => {
-            Statement::Put(
-                Rid { table, key },
-                unpack_row(alloc, numbers, first, count)?,
-            )
+            let row = unpack_row(alloc, numbers, first, count)?;
+            Ok(Statement::Put(Rid { table, key }, row))
         }
         Packed::PutRow { table, place, key } => {
-            Statement::Put(Rid { table, key }, rows[place as usize].copy()?)
+            let row = rows[place as usize].copy()?;
+            Ok(Statement::Put(Rid { table, key }, row))
         }
-        Packed::Del { table, key } => Statement::Del(Rid { table, key }),
+        Packed::Del { table, key } => Ok(Statement::Del(Rid { table, key })),
         Packed::Scan { table, first } => {
             let (low, high) = unpack_keys(numbers, first);
-            Statement::Scan { table, low, high }
+            Ok(Statement::Scan { table, low, high })
         }
         Packed::CursorOpen { table, first } => {
             let (low, high) = unpack_keys(numbers, first);
-            Statement::CursorOpen { table, low, high }
+            Ok(Statement::CursorOpen { table, low, high })
         }
-        Packed::Fetch(most, _) => Statement::Fetch(most),
-        Packed::CursorClose => Statement::CursorClose,
-        Packed::Commit => Statement::Commit,
-        Packed::Rollback => Statement::Rollback,
-        Packed::Gc(kind) => Statement::Gc(kind),
-    })
+        Packed::Fetch(most, _) => Ok(Statement::Fetch(most)),
+        Packed::CursorClose => Ok(Statement::CursorClose),
+        Packed::Commit => Ok(Statement::Commit),
+        Packed::Rollback => Ok(Statement::Rollback),
+        Packed::Gc(kind) => Ok(Statement::Gc(kind)),
+    }
 }
