@@ -14,7 +14,6 @@ use hg_csv::{begin_record, end_record};
 use hg_script::Table;
 
 /// Adds the first record of a reply.
-#[tactic(auto, using(crate::proofs::RecordBytes::ended))]
 pub(crate) fn write_head(text: &mut Vec<u8>, tables: &[Table], line: &Line) -> Result<(), NoMemory>
     ensures { OnOk result (text.new.items ≡
         text.old.items ++
@@ -24,12 +23,10 @@ pub(crate) fn write_head(text: &mut Vec<u8>, tables: &[Table], line: &Line) -> R
 {
     begin_reply(text, line.session, line.place)?;
     add_reply(text, tables, &line.reply)?;
-    end_record(text)?;
-    Ok(())
+    end_record(text)
 }
 
 /// Adds the first record of a scan of so many rows.
-#[tactic(auto, using(crate::proofs::RecordBytes::ended))]
 pub(crate) fn write_scan(
     text: &mut Vec<u8>,
     session: u32,
@@ -44,12 +41,10 @@ pub(crate) fn write_scan(
 {
     begin_reply(text, session, place)?;
     add_count(text, at, rows)?;
-    end_record(text)?;
-    Ok(())
+    end_record(text)
 }
 
 /// Adds the first record of a report.
-#[tactic(auto, using(crate::proofs::RecordBytes::ended))]
 pub(crate) fn write_sweep(
     text: &mut Vec<u8>,
     session: u32,
@@ -62,12 +57,10 @@ pub(crate) fn write_sweep(
 {
     begin_reply(text, session, place)?;
     add_sweep(text, sweep)?;
-    end_record(text)?;
-    Ok(())
+    end_record(text)
 }
 
 /// Adds the record of one row of a scan.
-#[tactic(auto, using(crate::proofs::RecordBytes::ended))]
 pub(crate) fn write_row(
     text: &mut Vec<u8>,
     session: u32,
@@ -80,12 +73,10 @@ pub(crate) fn write_row(
 {
     begin_reply(text, session, place)?;
     add_key(text, key, row)?;
-    end_record(text)?;
-    Ok(())
+    end_record(text)
 }
 
 /// Adds the record of one held snapshot of a report.
-#[tactic(auto, using(crate::proofs::RecordBytes::ended))]
 pub(crate) fn write_held(
     text: &mut Vec<u8>,
     session: u32,
@@ -97,8 +88,7 @@ pub(crate) fn write_held(
 {
     begin_reply(text, session, place)?;
     add_held(text, told)?;
-    end_record(text)?;
-    Ok(())
+    end_record(text)
 }
 
 fn add_total(text: &mut Vec<u8>, n: u64) -> Result<(), NoMemory>
@@ -109,13 +99,11 @@ fn add_total(text: &mut Vec<u8>, n: u64) -> Result<(), NoMemory>
 }
 
 /// Adds the record of one of the totals.
-#[tactic(auto, using(crate::proofs::RecordBytes::ended))]
 pub(crate) fn write_total(text: &mut Vec<u8>, word: &[u8], n: u64) -> Result<(), NoMemory>
     ensures { OnOk result
         (text.new.items ≡ text.old.items ++ record_bytes (total_fields word.now n)) }
 {
     begin_record(text, b"total", word)?;
     add_total(text, n)?;
-    end_record(text)?;
-    Ok(())
+    end_record(text)
 }
