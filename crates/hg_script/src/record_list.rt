@@ -10,7 +10,7 @@ use std::marker::Model;
 
 /// The records of a session that are still to come, in the order in which they stand. It is lent by a script, and each is made
 /// when it is taken.
-#[derive(Clone, Drop)]
+#[derive(Drop)]
 pub struct RecordList<'a> {
     script: &'a Script,
     session: u32,
