@@ -4,7 +4,7 @@ use hg_base::NoMemory;
 use thiserror::Error;
 
 /// The first record with which the bytes do not begin a text, or running out of memory.
-#[derive(Clone, Copy, Debug, Error)]
+#[derive(Clone, Copy, Debug, PartialEq, Eq, Error)]
 pub enum TextRefusal {
     /// The record's number, counted from 1.
     #[error("record {line}")]
