@@ -3,7 +3,7 @@
 use hg_base::{Rid, TableId};
 
 /// A read of a range of keys, a write of a record, or a table that the transaction did not declare.
-#[derive(Clone, Copy, PartialEq, Eq)]
+#[derive(Clone, Copy)]
 pub enum Ask {
     Read { table: TableId, low: u64, high: u64 },
     Write(Rid),

@@ -3,7 +3,7 @@
 use crate::register::Register;
 
 /// The register, and the mask word, once the pass has loaded that too.
-#[derive(Clone, Copy, PartialEq, Eq)]
+#[derive(Clone, Copy)]
 pub struct Loaded {
     pub register: Register,
     pub mask: Option<u64>,

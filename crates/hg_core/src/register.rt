@@ -6,7 +6,7 @@ ghost use Rattle.hg_core.specs.Words.{number_of, mask_of, word_of, register_of};
 use hg_base::Scope;
 
 /// What a register shows. A session that takes a snapshot shows first that it enters, and then the snapshot.
-#[derive(Clone, Copy, Debug, PartialEq, Eq)]
+#[derive(Clone, Copy, Debug)]
 pub enum Register {
     Idle,
     /// The mark that the session loaded before it entered.

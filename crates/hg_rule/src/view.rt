@@ -157,7 +157,7 @@ pub struct View {
 }
 
 /// How many of each a board is made for, and how often each session may begin, and write.
-#[derive(Clone, Copy, PartialEq, Eq)]
+#[derive(Clone, Copy)]
 pub struct Sizes {
     pub sessions: u32,
     pub tables: u32,
