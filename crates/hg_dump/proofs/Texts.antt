@@ -1,5 +1,6 @@
 -- The text of rows, part by part.
 use Rattle.std.proofs.Common.{◌≡◌, ◌∙◌, ℕ, List, [], ◌++◌, map, sym, ap, append_assoc}
+use Rattle.std.specs.Prelude.{Result, Ok, Err, OnOk, OnErr}
 use Rattle.std.specs.List.{flat_map}
 use Rattle.std.proofs.lemmas.List.{append-nil, map-append}
 use Rattle.std.proofs.lemmas.List.Concat.{flat_map-append}
@@ -51,3 +52,8 @@ starts_itself before = ([], sym (append-nil before))
 -- what was appended to something that starts with it
 pub starts_on : (before mid after more : List ℕ) → mid ≡ before ++ more → StartsWith after mid → StartsWith after before
 starts_on before mid after more e s = (more ++ s.0, s.1 ∙ ap (λ (t : List ℕ). t ++ s.0) e ∙ append_assoc before more s.0)
+
+-- what was appended, or was not
+pub starts_either : {T E : Type 0} (r : Result T E) (before after more : List ℕ) → OnOk r (after ≡ before ++ more) → OnErr r (after ≡ before) → StartsWith after before
+starts_either (Ok t) before after more text same = starts_from before after more text
+starts_either (Err e) before after more text same = starts_from before after [] (same ∙ sym (append-nil before))

@@ -1,10 +1,14 @@
-use Rattle.std.proofs.Common.{◌≡◌, ◌∙◌, ◌++◌, false, ap, rules}
-use Rattle.std.specs.Prelude.{is_err}
+use Rattle.std.proofs.Common.{◌≡◌, ◌∙◌, ◌++◌, ℕ, List, [], length, take, false, refl, sym, ap, subst, append-nil, rules}
+use Rattle.std.proofs.lemmas.List.{take_at}
+use Rattle.std.specs.Prelude.{is_err, IsSome}
+use Rattle.hg_core.specs.Phases.{snapshot_in}
+use Rattle.hg_rule.specs.Facts.{StartsWith}
 use Rattle.hg_rule.specs.Seats.{session_view}
 use Rattle.hg_store.specs.Stores.{store_buckets}
 use Rattle.hg_source.specs.Records.{dump_text}
 use Rattle.hg_source.proofs.Shown.{is_the_list}
 use Rattle.hg_dump.proofs.Looking.{goes_before_end, has_read, none_open, of_ok, reading_begun}
+use Rattle.hg_dump.proofs.Texts.{starts_from}
 use Rattle.hg_dump.proofs.exports.export.Goals as goal
 
 pub write_all-written-requires-clause-reads : goal.write_all-written-requires-clause-reads
@@ -39,3 +43,17 @@ returns-clause-fresh g c = c.begin-at.ensures.begun.most
 
 pub returns-clause-starts : goal.returns-clause-starts
 returns-clause-starts g c = c.write_all-written.ensures.starts
+
+cut_back : (before after : List ℕ) (n : ℕ) → n ≡ length before → StartsWith after before → take n after ≡ before
+cut_back before after n long s = ap (take n) s.1 ∙ take_at before s.0 n (sym long)
+
+pub returns-then-is_err-clause-refused : goal.returns-then-is_err-clause-refused
+returns-then-is_err-clause-refused g c = c.truncate.ensures.items ∙
+    cut_back c.args.into.now.items c.write_all-written.new.into.items c.len-before.result (c.len-before.ensures ∙ c.args.into.now.ok.0) c.write_all-written.ensures.starts
+
+pub returns-then-is_err-clause-starts : goal.returns-then-is_err-clause-starts
+returns-then-is_err-clause-starts g c =
+    starts_from c.args.into.now.items c.truncate.new.self.items [] (returns-then-is_err-clause-refused g c ∙ sym (append-nil c.args.into.now.items))
+
+pub end-requires-clause-live : goal.end-requires-clause-live
+end-requires-clause-live g c = subst (λ phase. IsSome (snapshot_in phase)) (sym c.write_all-written.ensures.reads.live) refl
