@@ -9,4 +9,8 @@ one_more t k [] h = (tt, tt)
 one_more t k (x ∷ xs) h = (h.0, one_more t (suc k) xs h.1)
 
 pub loop-turn-preserved : goal.loop-turn-preserved
-loop-turn-preserved c = record { laid = λ t k. subst (AreLaid t k) (sym c.push_reserved.ensures.items) (one_more t k c.loop-turn.places.items (c.loop-turn.invariant.laid t k)); count = search rules; room = search rules }
+loop-turn-preserved c = record {
+  laid = λ t k. subst (AreLaid t k) (sym c.push_reserved.ensures.items) (one_more t k c.loop-turn.places.items (c.loop-turn.invariant.laid t k));
+  count = search rules;
+  room = search rules;
+}
