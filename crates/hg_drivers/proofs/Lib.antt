@@ -4,6 +4,7 @@ pub mod FreshNumbers
 pub mod Told
 -- The sessions of a list: one answers, and two meet.
 pub mod Listing
+pub mod Pairs
 pub mod Turns
 pub mod Refused
 -- Each write shows its first cause.

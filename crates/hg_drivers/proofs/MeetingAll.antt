@@ -4,7 +4,7 @@ use Rattle.std.specs.Prelude.{get_or}
 use Rattle.hg_rule.specs.declared.view.Part.{Part}
 use Rattle.hg_rule.specs.declared.view.View.{View}
 use Rattle.hg_rule.specs.Agreed.{RecordAgrees}
-use Rattle.hg_rule.specs.Facts.{IsAmong, heard}
+use Rattle.hg_rule.specs.Facts.{IsAmong}
 use Rattle.hg_rule.specs.Views.{part_number, session, session_there, first_in, pass_there}
 use Rattle.hg_session.specs.declared.engine.Engine.{Engine}
 use Rattle.hg_session.specs.declared.session.Session.{Session}

@@ -1,4 +1,4 @@
-use Rattle.std.proofs.Common.{◌≡◌, ℕ, ◌≤◌, ◌<◌, ◌+◌, ◌-◌, ◌∷◌, [], List, length, drop, get_or, suc, refl, sym, ◌∙◌, subst, arith}
+use Rattle.std.proofs.Common.{◌≡◌, ℕ, ◌≤◌, ◌<◌, ◌+◌, ◌-◌, ◌∷◌, ◌++◌, [], List, length, drop, get_or, suc, refl, sym, ap, ◌∙◌, subst, arith}
 use Rattle.std.proofs.Math.Seq.{drop-cons}
 use Rattle.std.proofs.lemmas.List.{drop_all}
 use Rattle.hg_base.specs.declared.line.Line.{Line}
@@ -21,6 +21,14 @@ at e long before now list last lines script i r going less is =
     let step : drop i script.records ≡ get_or script.records i r ∷ drop (suc i) script.records = drop-cons script.records i r less in
     let plus : suc i ≡ i + 1 = omega arith in
     subst (λ rs. Going e long before now list last lines rs script) (step ∙ (λ j. sym is j ∷ drop (plus j) script.records)) going
+
+-- the transcript has one line more
+shows_more : (script : Script) (t u : Shown) (line : Line) → u ≡ record { tables = t.tables; lines = t.lines ++ line ∷ [] } → t.tables ≡ script.tables → u.tables ≡ script.tables
+shows_more script t u line is same = ap (λ (s : Shown). s.tables) is ∙ same
+
+goes_more : (e : Engine) (long : ℕ) (before now : Collectors) (list : List Session) (last : ℕ) (t u : Shown) (line : Line) (rest : List Record) (script : Script) →
+    u ≡ record { tables = t.tables; lines = t.lines ++ line ∷ [] } → Going e long before now list last (t.lines ++ line ∷ []) rest script → Going e long before now list last u.lines rest script
+goes_more e long before now list last t u line rest script is going = subst (λ (s : Shown). Going e long before now list last s.lines rest script) (sym is) going
 
 -- all are answered
 over : (e : Engine) (long : ℕ) (before now : Collectors) (list : List Session) (last : ℕ) (lines : List Line) (script : Script) (i : ℕ) →
@@ -107,10 +115,9 @@ loop-next-preserved g c =
     let turned = going_turned e c.args.long first before c.loop-next.crew.sessions.items c.turn.new.list.items c.loop-next.last (r.session - 1) c.loop-next.transcript.lines
     (r ∷ rest) script going c.turn.ensures.logs c.turn.ensures.cursors c.turn.ensures.saw c.turn.ensures.ready c.turn.ensures.sees c.turn.ensures.own in
     record {
-      tables = subst (λ (t : Shown). t.tables ≡ script.tables) (sym c.in_ok-push.ensures.ok) c.loop-next.invariant.tables;
+      tables = shows_more script c.loop-next.transcript c.push.new.self line c.in_ok-push.ensures.ok c.loop-next.invariant.tables;
       collectors = c.reply_at.ensures.collectors;
-      going =
-          subst (λ (t : Shown). Going e c.args.long first later c.reply_at.new.crew.sessions.items (r.session - 1) t.lines rest script) (sym c.in_ok-push.ensures.ok)
+      going = goes_more e c.args.long first later c.reply_at.new.crew.sessions.items (r.session - 1) c.loop-next.transcript c.push.new.self line rest script c.in_ok-push.ensures.ok
           (going_on e c.args.long first before later c.turn.new.list.items c.reply_at.new.crew.sessions.items
           (r.session - 1) c.loop-next.transcript.lines r rest script line turned is refl refl
           (c.in_ok-reply.ensures.replied turned.seen _ _ turned.saw turned.cursors) c.in_ok-reply.ensures.ready c.in_ok-reply.ensures.told.removed c.in_ok-reply.ensures.told.rounds);
