@@ -1,10 +1,11 @@
 -- The bytes of a record are those of its first field, of the others, and a line feed.
-use Rattle.std.proofs.Common.{◌≡◌, ◌<◌, ◌+◌, length, take, drop, get_or, ◌∙◌, ℕ, List, [], ◌∷◌, ◌++◌, ◌==◌, false, inl, inr, refl, sym, ap, append_assoc}
+use Rattle.std.proofs.Common.{◌≡◌, ◌≢◌, ◌<◌, ◌+◌, length, take, drop, get_or, ◌∙◌, ℕ, List, [], ◌∷◌, ◌++◌, ◌==◌, false, inl, inr, refl, sym, ap, append_assoc, arith}
 use Rattle.std.proofs.lemmas.Bool.{cases_Bool}
+use Rattle.std.proofs.lemmas.Bool.Decides.{nat_tests}
 use Rattle.std.proofs.lemmas.List.{take_more, take_at, take-append-drop}
 use Rattle.std.specs.List.{flat_map}
 use Rattle.std.specs.Prelude.{Result, Ok, Err, OnErr}
-use Rattle.csv.specs.Writing.{escaped, fields_text, is_blank}
+use Rattle.csv.specs.Writing.{escaped, quoted, fields_text, is_blank}
 use Rattle.hg_base.specs.Text.{Field}
 use Rattle.hg_csv.specs.Bytes.{flexible_writer, record_bytes, field_bytes, further_bytes}
 
@@ -58,3 +59,22 @@ still_begins old more grown now e f =
 pub after_error : {T E P : Type 0} (r : Result T E) → P → OnErr r P
 after_error (Ok x) p = tt
 after_error (Err e) p = p
+
+-- bytes that others come after
+pub begins_with : (old more now : List ℕ) → now ≡ old ++ more → take (length old) now ≡ old
+begins_with old more now e = ap (take (length old)) e ∙ take_at old more (length old) refl
+
+-- the bytes of a field within quotes
+pub quoted_of : (old a b now : List ℕ) (field : Field) → a ≡ old ++ 34 ∷ [] → b ≡ a ++ escaped flexible_writer field → now ≡ b ++ 34 ∷ [] → now ≡ old ++ quoted flexible_writer field
+quoted_of old a b now field e f g =
+    g ∙ (ap (λ (bytes : List ℕ). bytes ++ 34 ∷ []) (f ∙ ap (λ (bytes : List ℕ). bytes ++ escaped flexible_writer field) e) ∙
+    (append_assoc (old ++ 34 ∷ []) (escaped flexible_writer field) (34 ∷ []) ∙ append_assoc old (34 ∷ []) (escaped flexible_writer field ++ 34 ∷ [])))
+
+-- a byte that is a quote
+pub escaped_quote : (b : ℕ) (old a now : List ℕ) → b ≡ 34 → a ≡ old ++ 34 ∷ [] → now ≡ a ++ b ∷ [] → now ≡ old ++ escaped flexible_writer (b ∷ [])
+unfolding escaped
+escaped_quote b old a now is e f = rw is (f ∙ (ap (λ (bytes : List ℕ). bytes ++ b ∷ []) e ∙ (append_assoc old (34 ∷ []) (b ∷ []) ∙ ap (λ (x : ℕ). old ++ 34 ∷ x ∷ []) is)))
+
+-- and one that is none
+pub escaped_plain : (b : ℕ) (old now : List ℕ) → b ≢ 34 → now ≡ old ++ b ∷ [] → now ≡ old ++ escaped flexible_writer (b ∷ [])
+escaped_plain b old now other f = f ∙ ap (λ (bytes : List ℕ). old ++ bytes) (sym (escaped_other b [] (grind (arith, nat_tests, other)) ∙ ap (λ (bytes : List ℕ). b ∷ bytes) escaped_none))

@@ -21,7 +21,6 @@ fn needs_quotes(field: &[u8]) -> bool
 }
 
 // A quote within quotes is written twice.
-#[tactic(auto, unfolding(csv::specs::Writing::escaped))]
 fn add_byte(text: &mut Vec<u8>, b: u8) -> Result<(), NoMemory>
     ensures added { OnOk result
         (text.new.items ≡ text.old.items ++ escaped flexible_writer (b ∷ [])) }
