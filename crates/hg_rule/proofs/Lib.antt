@@ -23,7 +23,8 @@ pub mod Reclaims
 pub mod Members
 pub mod Stamps
 pub mod Publication
--- Each move of a seat keeps it.
+-- A seat that is lent, and each move of a seat keeps the rule.
+pub mod Lent
 pub mod Shifts
 pub mod Turning
 pub mod Handing
