@@ -1,6 +1,8 @@
 -- The lists of a gather: how long they are, and which snapshots count for a table.
 use Rattle.std.proofs.Common.{◌≡◌, ℕ, zero, suc, ◌+◌, ◌<◌, ◌≤◌, Bool, true, false, Option, List, [], ◌∷◌, ◌++◌, length, map, filter, get_or}
-use Rattle.std.proofs.Common.{if◌then◌else◌, not, ◌||◌, refl, sym, ap, ◌∙◌, subst, arith, length-append, Vec}
+use Rattle.std.proofs.Common.{if◌then◌else◌, not, ◌||◌, refl, sym, ap, ◌∙◌, subst, arith, take, append-nil, length-append, Vec, vec_capacity, All}
+use Rattle.std.proofs.lemmas.List.{map-append}
+use Rattle.std.proofs.lemmas.List.Elements.{All-push, All-same, filter_more}
 use Rattle.std.specs.declared.alloc.Global.{Global}
 use Rattle.hg_base.specs.declared.report.Entry.{Entry}
 use Rattle.hg_core.specs.declared.loaded.Loaded.{Loaded}
@@ -142,3 +144,34 @@ none_listed t ranked (list ∷ lists) none h = (
 pub empty_snoc : (lists : List (Vec ℕ Global)) (list : Vec ℕ Global) → AreEmpty lists → length list.items ≡ 0 → AreEmpty (lists ++ list ∷ [])
 empty_snoc [] list h e = (e, tt)
 empty_snoc (l ∷ lists) list h e = (h.0, empty_snoc lists list h.1 e)
+
+-- one list more, with its room and nothing in it
+pub one_list_more : (sessions n : ℕ) (lists now : List (Vec ℕ Global)) (list : Vec ℕ Global) → now ≡ lists ++ list ∷ [] → sessions ≤ vec_capacity list → list.items ≡ []
+    → (length lists ≡ n) × All (λ l. sessions ≤ vec_capacity l) lists × AreEmpty lists → (length now ≡ n + 1) × All (λ l. sessions ≤ vec_capacity l) now × AreEmpty now
+one_list_more sessions n lists now list e room none h = (
+  omega (arith, ap length e, length-append lists (list ∷ []), h.0),
+  All-same (λ l. sessions ≤ vec_capacity l) now (lists ++ list ∷ []) e (All-push (λ l. sessions ≤ vec_capacity l) lists list h.1 room),
+  subst AreEmpty (sym e) (empty_snoc lists list h.2 (ap length none)),
+)
+
+-- ---- item by item
+
+-- an entry more that a filter keeps, and one that it drops
+pub keeps_next : (p : Entry → Bool) (es : List Entry) (i : ℕ) (d : Entry) → i < length es → p (get_or es i d) ≡ true → filter p (take (i + 1) es) ≡ filter p (take i es) ++ get_or es i d ∷ []
+keeps_next p es i d inside kept = filter_more p es i d inside ∙ ap (λ (b : Bool). filter p (take i es) ++ (if b then get_or es i d ∷ [] else [])) kept
+
+pub drops_next : (p : Entry → Bool) (es : List Entry) (i : ℕ) (d : Entry) → i < length es → p (get_or es i d) ≡ false → filter p (take (i + 1) es) ≡ filter p (take i es)
+drops_next p es i d inside dropped = filter_more p es i d inside ∙ (ap (λ (b : Bool). filter p (take i es) ++ (if b then get_or es i d ∷ [] else [])) dropped ∙ append-nil (filter p (take i es)))
+
+-- and their numbers
+pub keeps_number : (p : Entry → Bool) (es : List Entry) (i : ℕ) (d : Entry) → i < length es → p (get_or es i d) ≡ true
+    → map (λ (e : Entry). e.number) (filter p (take (i + 1) es)) ≡ map (λ (e : Entry). e.number) (filter p (take i es)) ++ (get_or es i d).number ∷ []
+keeps_number p es i d inside kept = ap (map (λ (e : Entry). e.number)) (keeps_next p es i d inside kept) ∙ map-append (λ (e : Entry). e.number) (filter p (take i es)) (get_or es i d ∷ [])
+
+-- a push that did not fail, and so appended
+pub pushed : {A : Type 0} (ok failed : Bool) (now more old : List A) → now ≡ (if ok then more else old) → ok ≡ not failed → failed ≡ false → now ≡ more
+pushed ok failed now more old e is went = e ∙ ap (λ (b : Bool). if b then more else old) (is ∙ ap not went)
+
+-- what was appended comes after what was there
+pub appended : {A : Type 0} (front part next : List A) (x : A) → front ≡ part → next ≡ part ++ x ∷ [] → front ++ x ∷ [] ≡ next
+appended {A} front part next x e f = ap (λ (l : List A). l ++ x ∷ []) e ∙ sym f
