@@ -32,17 +32,17 @@ deal-requires-2-clause-parts c =
     let p : List Part = run pass_part 0 3 ++ new_part commit_key ∷ [] in
     let b : List Part = run bucket_part 0 c.args.buckets ++ p in
     let e : (view c.deal.new.maker).parts ≡ drop c.args.sessions (run session_part 1 c.args.sessions ++ b) =
-        parts_left c.args.sessions (record { sessions = c.args.sessions; tables = c.args.tables; buckets = c.args.buckets; quota = c.args.quota }) c.in_ok-table.maker c.deal.new.maker c.in_ok-table.ensures.4 c.in_ok-passes.ensures.left.1 in
+    parts_left c.args.sessions (record { sessions = c.args.sessions; tables = c.args.tables; buckets = c.args.buckets; quota = c.args.quota }) c.in_ok-table.maker c.deal.new.maker c.in_ok-table.ensures.4 c.in_ok-passes.ensures.left.1 in
     (p, e ∙ run_past session_part 1 c.args.sessions b)
 
 left_two : (c : goal.After-drop-words-2) → ((view c.deal-2.new.maker).parts ≡ passes_left) × ((view c.deal-2.new.maker).events ≡ [])
 left_two c =
     let b : List Part = run bucket_part 0 c.args.buckets ++ passes_left in
     let e : (view c.deal.new.maker).parts ≡ drop c.args.sessions (run session_part 1 c.args.sessions ++ b) =
-        parts_left c.args.sessions (record { sessions = c.args.sessions; tables = c.args.tables; buckets = c.args.buckets; quota = c.args.quota }) c.in_ok-table.maker c.deal.new.maker c.in_ok-table.ensures.4 c.in_ok-passes.ensures.left.1 in
+    parts_left c.args.sessions (record { sessions = c.args.sessions; tables = c.args.tables; buckets = c.args.buckets; quota = c.args.quota }) c.in_ok-table.maker c.deal.new.maker c.in_ok-table.ensures.4 c.in_ok-passes.ensures.left.1 in
     let f : (view c.deal-2.new.maker).parts ≡ drop c.args.buckets (view c.deal.new.maker).parts = ap (λ (v : View). v.parts) c.in_ok-seats.ensures.left.1 in
     let g : (view c.deal.new.maker).events ≡ [] =
-        ap (λ (v : View). v.events) c.in_ok-passes.ensures.left.1 ∙ ap (λ (m : View × List (ℕ × ℕ)). m.0.events) c.in_ok-table.ensures.4 in
+    ap (λ (v : View). v.events) c.in_ok-passes.ensures.left.1 ∙ ap (λ (m : View × List (ℕ × ℕ)). m.0.events) c.in_ok-table.ensures.4 in
     let h : (view c.deal-2.new.maker).events ≡ (view c.deal.new.maker).events = ap (λ (v : View). v.events) c.in_ok-seats.ensures.left.1 in
     (f ∙ (ap (drop c.args.buckets) (e ∙ run_past session_part 1 c.args.sessions b) ∙ run_past bucket_part 0 c.args.buckets passes_left), h ∙ g)
 
