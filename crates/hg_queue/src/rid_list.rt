@@ -1,28 +1,31 @@
 //! Lists of records.
 
 ghost use Rattle.std.specs.Prelude.{◌≡◌, ◌+◌, ◌-◌, ◌<◌, ◌≤◌, ◌==◌, ◌++◌, ◌∷◌, [], length, OnOk, OnErr, option_to_list, IsSome, ◌↔◌};
+ghost use Rattle.std.specs.Vec.{vec_capacity};
 ghost use Rattle.hg_queue.specs.Rids.{no_rids};
 
 use hg_base::{NoMemory, Rid};
-use smallvec::SmallVec;
 use std::alloc::Global;
 use std::marker::Model;
+use std::slice;
 
-/// Records by their ids. A place can be reserved before it is used, so that what comes between can't fail. One record lies in
+/// Records by their ids. A place can be reserved before it is used, so that what comes between can't fail. A lone record lies in
 /// the list itself: the transaction of a lone statement takes no block of the heap.
 #[derive(Drop)]
 pub struct RidList {
-    rids: SmallVec<Rid, 1>,
+    lone: Option<Rid>,
+    rids: Vec<Rid>,
+    ghost either: { 0 < vec_capacity rids → option_to_list lone ≡ [] },
 }
 
 impl Model for RidList {
-    ghost use Rattle.std.specs.Prelude.{◌-◌};
-    ghost use Rattle.smallvec.specs.SmallVec.{small_vec_len};
-    ghost use Rattle.hg_queue.specs.Rids.{Rids};
+    ghost use Rattle.std.specs.Prelude.{◌++◌, option_to_list};
+    ghost use Rattle.std.specs.Vec.{vec_capacity};
+    ghost use Rattle.hg_queue.specs.Rids.{Rids, rids_of};
 
     ghost Value = { Rids };
 
-    ghost view = { λ a. record { list = a.rids.items; room = a.rids.capacity - small_vec_len a.rids } };
+    ghost view = { λ a. rids_of (option_to_list a.lone ++ a.rids.items) (vec_capacity a.rids) };
 }
 
 impl RidList {
@@ -31,7 +34,8 @@ impl RidList {
         ensures { result ≡ no_rids }
     {
         RidList {
-            rids: SmallVec::new(alloc),
+            lone: None,
+            rids: Vec::new(alloc),
         }
     }
 
@@ -41,16 +45,24 @@ impl RidList {
         ensures room { OnOk result (0 < self.new.room) }
         ensures refused { OnErr result (self.old.room ≡ 0) }
     {
-        self.rids.reserve(1)?;
-        Ok(())
+        self.reserve_many(1)
     }
 
     /// Makes room for so many more. No memory is taken where there is room.
     pub fn reserve_many(&mut self, count: usize) -> Result<(), NoMemory>
         ensures same { self.new.list ≡ self.old.list }
         ensures room { OnOk result (count ≤ self.new.room) }
+        ensures refused { OnErr result (self.old.room < count) }
     {
-        self.rids.reserve(count)?;
+        match self.lone {
+            Some(rid) if 0 < count => {
+                self.rids.reserve(count.saturating_add(1))?;
+                self.lone = None;
+                self.rids.push_reserved(rid);
+            }
+            None if 1 < count || 0 < self.rids.capacity() => self.rids.reserve(count)?,
+            _ => {}
+        }
         Ok(())
     }
 
@@ -59,25 +71,32 @@ impl RidList {
         ensures pushed { self.new.list ≡ self.old.list ++ rid ∷ [] }
         ensures less { self.new.room + 1 ≡ self.old.room }
     {
-        self.rids.push_reserved(rid);
+        if self.rids.capacity() == 0 {
+            self.lone = Some(rid);
+        } else {
+            self.rids.push_reserved(rid);
+        }
     }
 
     pub fn as_slice(&self) -> &[Rid]
         ensures { result.now ≡ self.now.list }
     {
-        self.rids.as_slice()
+        match &self.lone {
+            Some(rid) => slice::from_ref(rid),
+            None => self.rids.as_slice(),
+        }
     }
 
     pub fn len(&self) -> usize
         ensures { result ≡ length self.now.list }
     {
-        self.rids.len()
+        self.as_slice().len()
     }
 
     pub fn is_empty(&self) -> bool
         ensures { result ≡ (length self.now.list == 0) }
     {
-        self.rids.is_empty()
+        self.as_slice().is_empty()
     }
 
     /// Takes the last one out. The room that it had stays.
@@ -85,6 +104,9 @@ impl RidList {
         ensures last { self.old.list ≡ self.new.list ++ option_to_list result }
         ensures some { IsSome result ↔ (0 < length self.old.list) }
     {
-        self.rids.pop()
+        match self.lone.take() {
+            Some(rid) => Some(rid),
+            None => self.rids.pop(),
+        }
     }
 }

@@ -21,23 +21,6 @@ returns-then-len-capacity-clause-popped c =
       enough = λ e. absurd cc;
     }
 
-pub loop-context-preserved-else-len-capacity : goal.loop-context-preserved-else-len-capacity
-loop-context-preserved-else-len-capacity c =
-    let p = c.loop-context.invariant.popped in
-    let old = c.args.into.now.items in
-    let new = c.in-Some.context.records.list in
-    record {
-      popped = (
-        p.0 ++ c.in-Some.context ∷ [],
-        (
-          c.push_all.ensures.pushed ∙ ((λ i. p.1.0 i ++ c.as_slice.ensures i) ∙ (append_assoc old (records_of p.0) new ∙ ap (λ l. old ++ l) (sym (records_more p.0 c.in-Some.context)))),
-          pops_more (pass_view c.args.pass.now) (pass_view c.loop-context.pass) (pass_view c.pop_below.new.pass) c.args.bound p.0 c.in-Some.context p.1.1 c.in-Some.ensures.popped,
-        ),
-      );
-      contexts = c.in-Some.ensures.contexts;
-      own = c.in-Some.ensures.own;
-    }
-
 pub loop-context-preserved : goal.loop-context-preserved
 loop-context-preserved c =
     let p = c.loop-context.invariant.popped in

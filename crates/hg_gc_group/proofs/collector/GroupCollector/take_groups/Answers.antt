@@ -30,14 +30,6 @@ overflow_add-gone-in-Some g c =
     c.loop-last.invariant.takes c.in-Some.ensures.taken c.cut_batch-gone.ensures.cuts c.as_slice.ensures c.cut_all-gone.ensures.cuts c.cut_all-gone.ensures.few in
     omega (arith, few)
 
-pub loop-last-preserved-in-Some : goal.loop-last-preserved-in-Some
-loop-last-preserved-in-Some g c =
-    let more = turn (sizes_of c.args.board.now).buckets c.args.bound (pass_view c.args.self.now.rounds.pass) (pass_view c.loop-last.pass) (pass_view c.take_some.new.pass)
-    (pass_view c.cut_batch-gone.new.pass) (pass_view c.cut_all-gone.new.pass) c.loop-last.gone c.cut_batch-gone.result c.cut_all-gone.result c.loop-last.rids.items
-    c.take_some.new.into.items c.as_slice.result.now c.in-Some.last
-    c.loop-last.invariant.takes c.in-Some.ensures.taken c.cut_batch-gone.ensures.cuts c.as_slice.ensures c.cut_all-gone.ensures.cuts in
-    record { takes = more; few = c.cut_all-gone.ensures.few; own = c.cut_all-gone.ensures.own }
-
 pub loop-last-preserved : goal.loop-last-preserved
 loop-last-preserved g c =
     let more = turn (sizes_of c.args.board.now).buckets c.args.bound (pass_view c.args.self.now.rounds.pass) (pass_view c.loop-last.pass) (pass_view c.take_some.new.pass)
@@ -45,12 +37,6 @@ loop-last-preserved g c =
     c.take_some.new.into.items c.as_slice.result.now c.in-Some.last
     c.loop-last.invariant.takes c.in-Some.ensures.taken c.cut_batch-gone.ensures.cuts c.as_slice.ensures c.cut_all-gone.ensures.cuts in
     record { takes = more; few = c.cut_all-gone.ensures.few; own = c.cut_all-gone.ensures.own }
-
-pub loop-last-smaller-in-Some : goal.loop-last-smaller-in-Some
-loop-last-smaller-in-Some g c = turn_ends (sizes_of c.args.board.now).buckets c.args.bound (pass_view c.args.self.now.rounds.pass) (pass_view c.loop-last.pass)
-    (pass_view c.take_some.new.pass) (pass_view c.cut_batch-gone.new.pass) (pass_view c.cut_all-gone.new.pass) c.loop-last.gone c.cut_batch-gone.result c.cut_all-gone.result
-    c.loop-last.rids.items c.take_some.new.into.items c.as_slice.result.now c.in-Some.last
-    c.loop-last.invariant.takes c.in-Some.ensures.taken c.cut_batch-gone.ensures.cuts c.as_slice.ensures c.cut_all-gone.ensures.cuts
 
 pub loop-last-smaller : goal.loop-last-smaller
 loop-last-smaller g c = turn_ends (sizes_of c.args.board.now).buckets c.args.bound (pass_view c.args.self.now.rounds.pass) (pass_view c.loop-last.pass)
