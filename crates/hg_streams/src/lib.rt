@@ -1,11 +1,12 @@
-//! What a call of the server reads from, what it writes to, and how it says that it ended.
+//! What a call of the server is asked, what it reads from, what it writes to, and how it says that it ended.
 //!
 //!     source -> read_all -> bytes -> part -> script, text
 //!     text -> write_all -> sink
 //!
 //! A source is read to its end (`read_all`), and a text is written to a sink (`write_all`). Both count their faults, and may show their
 //! bytes. What was read is a prefix of what the source had (`HasGiven`), and what a sink took is a prefix of the text: the whole text,
-//! unless the sink failed. The bytes of an audit are split at a line `====` (`part`). `Status` says how a call ended.
+//! unless the sink failed. The bytes of an audit are split at a line `====` (`part`). The words that the program was called with are read by
+//! `words_of`. `Status` says how a call ended.
 //!
 //! Nothing here knows what a script means, or how it is run.
 #![tactic(auto)]
@@ -15,9 +16,11 @@ mod sink;
 mod source;
 mod standard;
 mod status;
+mod words;
 
 pub use parts::part;
 pub use sink::write_all;
 pub use source::{ReadError, read_all};
 pub use standard::{StdinSource, StdoutSink};
 pub use status::Status;
+pub use words::words_of;
