@@ -124,10 +124,10 @@ fn commit_beside<R: Threads + Wait + Sync>(
 // (tests/generated.py, `eight_workers_commit_beside_the_collectors`).
 #[test]
 fn eight_threads_commit_on_their_own_keys(rt: HostRuntime) -> Result<(), Fail> {
-    let tally = Tally::new(rt.alloc(), 1600)?;
     let tables = [TableDecl { columns: 1 }];
     let (engine, sessions, _) = Engine::open(rt.alloc(), 8, &tables[..], 8, 400)?;
     let mut sessions = sessions.into_vec();
+    let tally = Tally::new(rt.alloc(), 1600)?;
     let all = sessions.as_mut_slice();
     commit_beside(&rt, rt.alloc(), &engine, all, 1000, &tally);
     assert_eq!(rt; tally.once(), 1600);
