@@ -1,6 +1,6 @@
 //! Two sessions commit through the queue.
 
-ghost use Rattle.std.specs.Prelude.{◌≡◌, ◌∷◌, [], ◌<◌, true, false, IfOk, IfSome};
+ghost use Rattle.std.specs.Prelude.{◌≡◌, ◌∷◌, [], ◌<◌, true, false, IfSome};
 ghost use Rattle.hg_core.specs.declared.log.LogEntry.TheVariants.{Wrote};
 ghost use Rattle.hg_core.specs.declared.phase.Phase.TheVariants.{Idle};
 ghost use Rattle.hg_rule.specs.declared.view.Part.TheVariants.{OfSession};
@@ -16,14 +16,13 @@ ghost use Rattle.hg_queue.specs.Handing.{MayCommit};
 ghost use Rattle.hg_trials.specs.Between.{HasBegun};
 
 use crate::entering_tests::begin;
-use hg_base::{Image, NoMemory, Rid, Row, Scope, Snapshot, TableId, Writer};
+use hg_base::{Image, Rid, Row, Scope, Snapshot, TableId, Writer};
 use hg_group::{GroupList, OpenTx, Receipt, RidList, Submitted};
 use hg_rule::{Board, CollectorPass, SessionPass};
 use hg_store::{Author, Store};
 use std::alloc::Global;
 use std::process::Abort;
 use std::sync::Wait;
-use std::test::Fail;
 
 // Writes an image of a record in its bucket. The answer says who writes, and whether it was stored.
 fn write<R: Wait>(
@@ -153,31 +152,34 @@ fn finish<R: Wait>(
 fn opened<R: Abort>(
     rt: &R,
     alloc: Global,
-) -> Result<
-    (
-        Board,
-        Store,
-        GroupList,
-        (SessionPass, SessionPass),
-        CollectorPass,
-    ),
-    NoMemory,
->
-    ensures sizes { IfOk result (λ r.
-        sizes_of r.0 ≡ record { sessions = 2; tables = 1; buckets = 2; quota = 4 }) }
-    ensures engine { IfOk result (λ r. AreOfOne r.0 r.1 r.2) }
-    ensures first { IfOk result (λ r. IsNewSession (board_id r.0) 1 r.3.0) }
-    ensures second { IfOk result (λ r. IsNewSession (board_id r.0) 2 r.3.1) }
-    ensures pass { IfOk result (λ r. IsNewPass (board_id r.0) 0 r.4) }
+) -> (
+    Board,
+    Store,
+    GroupList,
+    (SessionPass, SessionPass),
+    CollectorPass,
+)
+    ensures sizes { sizes_of result.0 ≡
+        record { sessions = 2; tables = 1; buckets = 2; quota = 4 } }
+    ensures engine { AreOfOne result.0 result.1 result.2 }
+    ensures first { IsNewSession (board_id result.0) 1 result.3.0 }
+    ensures second { IsNewSession (board_id result.0) 2 result.3.1 }
+    ensures pass { IsNewPass (board_id result.0) 0 result.4 }
 {
-    let (board, seats) = Board::new(alloc, 2, 1, 2, 4)?;
-    let store = Store::new(alloc, seats.buckets)?;
-    let groups = GroupList::new(alloc, seats.commit, 2)?;
+    let Ok((board, seats)) = Board::new(alloc, 2, 1, 2, 4) else {
+        panic!(rt; "no board");
+    };
+    let Ok(store) = Store::new(alloc, seats.buckets) else {
+        panic!(rt; "no store");
+    };
+    let Ok(groups) = GroupList::new(alloc, seats.commit, 2) else {
+        panic!(rt; "no groups");
+    };
     let mut sessions = seats.sessions.into_vec();
     let (Some(second), Some(first)) = (sessions.pop(), sessions.pop()) else {
         panic!(rt; "no seats");
     };
-    Ok((board, store, groups, (first, second), seats.group))
+    (board, store, groups, (first, second), seats.group)
 }
 
 // The receipts of session 2 and of session 1; the oldest context's number and its records; and that no other is left.
@@ -186,9 +188,9 @@ const COMMITTED: &str =
 
 // Session 2 is first in the queue, so its transaction has the first place.
 #[test]
-fn two_sessions_commit_in_one_group(rt: HostRuntime) -> Result<(), Fail> {
+fn two_sessions_commit_in_one_group(rt: HostRuntime) {
     let alloc = rt.alloc();
-    let (board, store, groups, passes, mut collector) = opened(&rt, alloc)?;
+    let (board, store, groups, passes, mut collector) = opened(&rt, alloc);
     let (mut first, mut second) = passes;
     let tx = put(&rt, alloc, &board, &store, &mut first, 5).expect(&rt, "a put");
     let other = put(&rt, alloc, &board, &store, &mut second, 6).expect(&rt, "a put");
@@ -199,7 +201,6 @@ fn two_sessions_commit_in_one_group(rt: HostRuntime) -> Result<(), Fail> {
     let receipts = (first_done, second_done);
     let told = tell(&rt, alloc, &board, &groups, &mut collector, receipts);
     assert_eq!(rt; told.as_str(), COMMITTED);
-    Ok(())
 }
 
 // The receipts, the context of the oldest group, and whether no other is left. Where memory runs out the text is cut short.

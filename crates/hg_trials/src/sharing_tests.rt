@@ -12,7 +12,6 @@ use std::alloc::Global;
 use std::sync::Wait;
 use std::sync::atomic::AtomicU64;
 use std::sync::atomic::Ordering::SeqCst;
-use std::test::Fail;
 use std::thread;
 use std::thread::Threads;
 
@@ -123,13 +122,14 @@ fn commit_beside<R: Threads + Wait + Sync>(
 // Nobody is refused, and each place below the count of commits is answered once. What numbers the groups have is told by a row
 // (tests/generated.py, `eight_workers_commit_beside_the_collectors`).
 #[test]
-fn eight_threads_commit_on_their_own_keys(rt: HostRuntime) -> Result<(), Fail> {
+fn eight_threads_commit_on_their_own_keys(rt: HostRuntime) {
     let tables = [TableDecl { columns: 1 }];
-    let (engine, sessions, _) = Engine::open(rt.alloc(), 8, &tables[..], 8, 400)?;
+    let Ok((engine, sessions, _)) = Engine::open(rt.alloc(), 8, &tables[..], 8, 400) else {
+        panic!(rt; "no engine");
+    };
     let mut sessions = sessions.into_vec();
-    let tally = Tally::new(rt.alloc(), 1600)?;
+    let tally = Tally::new(rt.alloc(), 1600).expect(&rt, "a tally");
     let all = sessions.as_mut_slice();
     commit_beside(&rt, rt.alloc(), &engine, all, 1000, &tally);
     assert_eq!(rt; tally.once(), 1600);
-    Ok(())
 }

@@ -9,7 +9,6 @@ use hg_store::Store;
 use std::sync::Wait;
 use std::sync::atomic::AtomicU64;
 use std::sync::atomic::Ordering::SeqCst;
-use std::test::Fail;
 use std::thread::{join, yield_now};
 
 // How often a thread looks for another before it gives up.
@@ -49,9 +48,13 @@ fn hold_beside<R: Wait>(
 }
 
 #[test]
-fn two_buckets_are_held_at_once(rt: HostRuntime) -> Result<(), Fail> {
-    let (board, seats) = Board::new(rt.alloc(), 1, 1, 2, 1)?;
-    let store = Store::new(rt.alloc(), seats.buckets)?;
+fn two_buckets_are_held_at_once(rt: HostRuntime) {
+    let Ok((board, seats)) = Board::new(rt.alloc(), 1, 1, 2, 1) else {
+        panic!(rt; "no board");
+    };
+    let Ok(store) = Store::new(rt.alloc(), seats.buckets) else {
+        panic!(rt; "no store");
+    };
     let buckets = store.buckets();
     let (group, table) = (seats.group, seats.table);
     let (first, second) = (AtomicU64::new(0), AtomicU64::new(0));
@@ -61,5 +64,4 @@ fn two_buckets_are_held_at_once(rt: HostRuntime) -> Result<(), Fail> {
         || hold_beside(&rt, &store, &board, 1, table, (&second, &first)),
     );
     assert_eq!(rt; (buckets, seen.0, seen.1), (2, true, true));
-    Ok(())
 }

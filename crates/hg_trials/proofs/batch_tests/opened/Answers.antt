@@ -4,6 +4,6 @@ use Rattle.hg_trials.proofs.batch_tests.opened.Goals as goal
 
 pub returns-clause-engine : goal.returns-clause-engine
 returns-clause-engine g c = (
-  (c.in_ok-store.ensures.board (board_id c.in_ok-board.board) c.in_ok-board.ensures.buckets.1, search rules, search rules),
-  (c.in_ok-groups.ensures.board (board_id c.in_ok-board.board) c.in_ok-board.ensures.commit, search rules),
+  (c.in-Ok-new.store-1-ensures.0 (board_id c.in-Ok.board) c.in-Ok.board-1-ensures.1.1.0.1, search rules, search rules),
+  (c.in-Ok-new-2.groups-1-ensures.0 (board_id c.in-Ok.board) c.in-Ok.board-1-ensures.1.1.1.0, search rules),
 )

@@ -6,5 +6,5 @@ use Rattle.hg_trials.proofs.sharing_tests.eight_threads_commit_on_their_own_keys
 
 pub commit_beside-requires-clause-ready : goal.commit_beside-requires-clause-ready
 commit_beside-requires-clause-ready g c =
-    let row : EachFrom (IsNewOf c.in_ok-engine.engine 400) 1 c.as_mut_slice-all.result.now = search rules in
-    λ lifetimes. may_run c.in_ok-engine.engine 400 400 1 c.as_mut_slice-all.result.now (omega arith) row
+    let row : EachFrom (IsNewOf c.in-Ok.engine 400) 1 c.as_mut_slice-all.result.now = search rules in
+    λ lifetimes. may_run c.in-Ok.engine 400 400 1 c.as_mut_slice-all.result.now (omega arith) row

@@ -5,7 +5,7 @@ use crate::order_tests::written_in_order;
 use hg_audit::{Verdict, audit};
 use hg_script::read_script;
 use std::alloc::Global;
-use std::test::Fail;
+use std::process::Abort;
 
 // The numbers by which a gate knows the collectors.
 const GROUP: u32 = 101;
@@ -15,9 +15,9 @@ const TABLE: u32 = 102;
 const INTERVAL: u32 = 103;
 
 // Whether an audit finds a text sound for its script.
-fn is_sound(alloc: Global, script: &str, text: &[u8]) -> Result<bool, Fail> {
-    let script = read_script(alloc, script.as_bytes())?;
-    Ok(audit(alloc, &script, text)? == Verdict::Sound)
+fn is_sound<R: Abort>(rt: &R, alloc: Global, script: &str, text: &[u8]) -> bool {
+    let script = read_script(alloc, script.as_bytes()).expect(rt, "a script");
+    audit(alloc, &script, text).expect(rt, "a verdict") == Verdict::Sound
 }
 
 // Session 1 reads at snapshot 1, and stays while session 2 commits twice more and the interval collector makes its first round.
@@ -59,11 +59,10 @@ total,left,1
 ";
 
 #[test]
-fn a_round_beside_a_reader(rt: HostRuntime) -> Result<(), Fail> {
+fn a_round_beside_a_reader(rt: HostRuntime) {
     let words = "run --rounds 2";
-    let sink = written_in_order(&rt, rt.alloc(), words, BESIDE, &BESIDE_HOLDS)?;
+    let sink = written_in_order(&rt, rt.alloc(), words, BESIDE, &BESIDE_HOLDS);
     assert_eq!(rt; sink.bytes(), BESIDE_TEXT);
-    Ok(())
 }
 
 // Session 1 declares the second table at the first snapshot, and stays while session 2 commits three times to the first table and the
@@ -106,11 +105,10 @@ total,left,1
 ";
 
 #[test]
-fn a_held_round_moves_a_long_snapshot(rt: HostRuntime) -> Result<(), Fail> {
+fn a_held_round_moves_a_long_snapshot(rt: HostRuntime) {
     let words = "run --long 1 --rounds 2";
-    let sink = written_in_order(&rt, rt.alloc(), words, MOVED, &MOVED_HOLDS)?;
+    let sink = written_in_order(&rt, rt.alloc(), words, MOVED, &MOVED_HOLDS);
     assert_eq!(rt; sink.bytes(), MOVED_TEXT);
-    Ok(())
 }
 
 // Session 1 fetches once at snapshot 2. It is held before its second fetch until session 2 has committed twice more and each collector
@@ -163,10 +161,9 @@ total,left,2
 ";
 
 #[test]
-fn rounds_are_made_between_two_fetches(rt: HostRuntime) -> Result<(), Fail> {
+fn rounds_are_made_between_two_fetches(rt: HostRuntime) {
     let words = "run --long 1 --rounds 3";
-    let sink = written_in_order(&rt, rt.alloc(), words, FETCHED, &FETCHED_HOLDS)?;
+    let sink = written_in_order(&rt, rt.alloc(), words, FETCHED, &FETCHED_HOLDS);
     assert_eq!(rt; sink.bytes(), FETCHED_TEXT);
-    assert!(rt; is_sound(rt.alloc(), FETCHED, FETCHED_TEXT)?);
-    Ok(())
+    assert!(rt; is_sound(&rt, rt.alloc(), FETCHED, FETCHED_TEXT));
 }

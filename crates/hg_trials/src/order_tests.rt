@@ -8,7 +8,6 @@ use hg_run::{Status, serve};
 use std::alloc::{AllocError, Global};
 use std::process::Abort;
 use std::sync::Wait;
-use std::test::Fail;
 use std::thread::Threads;
 
 // The number by which a gate knows the reader of a dump.
@@ -41,13 +40,13 @@ fn written<R: Threads + Wait + Sync + Abort, G: Gate + Sync>(
     words: &str,
     script: &str,
     gate: &G,
-) -> Result<MemorySink, Fail> {
-    let words = split(alloc, words)?;
-    let mut source = source_of(alloc, script)?;
-    let mut sink = room(alloc)?;
+) -> MemorySink {
+    let words = split(alloc, words).expect(rt, "words");
+    let mut source = source_of(alloc, script).expect(rt, "a source");
+    let mut sink = room(alloc).expect(rt, "a sink");
     let status = serve(rt, alloc, &words, &mut source, &mut sink, gate);
     assert_eq!(rt; status, Status::Done);
-    Ok(sink)
+    sink
 }
 
 // The same where workers are held, each of which has to see what it waits for.
@@ -57,31 +56,27 @@ pub(crate) fn written_in_order<R: Threads + Wait + Sync + Abort>(
     words: &str,
     script: &str,
     holds: &[(Step, Step)],
-) -> Result<MemorySink, Fail> {
-    let order = Order::new(alloc, holds)?;
-    let sink = written(rt, alloc, words, script, &order)?;
+) -> MemorySink {
+    let order = Order::new(alloc, holds).expect(rt, "an order");
+    let sink = written(rt, alloc, words, script, &order);
     assert!(rt; order.was_kept());
-    Ok(sink)
+    sink
 }
 
 // Session 1 is in a transaction while session 2 commits twice, and commits after it.
-pub(crate) const MEETING: &str =
+const MEETING: &str =
     "table,t,1\n1,begin\n2,put,t,5,10\n2,put,t,6,20\n1,put,t,1,30\n2,get,t,5\n1,commit\n2,gc,group\n";
 
 // Session 1 is held before its second statement until session 2 comes to its third, which is held until the first is there: so
 // both are held at once, unless one finds the other there already.
-pub(crate) const MEETING_HOLDS: [(Step, Step); 3] = [
-    ((1, 2), (2, 3)),
-    ((2, 3), (1, 2)),
-    ((1, 3), (2, 4)),
-];
+const MEETING_HOLDS: [(Step, Step); 3] = [((1, 2), (2, 3)), ((2, 3), (1, 2)), ((1, 3), (2, 4))];
 
 // After the snapshot of session 1, which may be any.
 const MEETING_LINES: &[u8] =
     b"1,5,stored\n1,7,committed,3\n2,3,at,0,stored,committed,1\n2,4,at,1,stored,committed,2\n2,6,at,2,row,10\n2,8,beside\ntotal,made,3\ntotal,undone,0\ntotal,group,0\ntotal,table,0\ntotal,interval,0\ntotal,left,3\n";
 
 // Whether a text is what is printed then: the snapshot is one digit.
-pub(crate) fn is_meeting(text: &[u8]) -> bool {
+fn is_meeting(text: &[u8]) -> bool {
     match text.strip_prefix(b"1,2,begun,") {
         Some([_, b'\n', rest @ ..]) => rest == MEETING_LINES,
         _ => false,
@@ -89,10 +84,9 @@ pub(crate) fn is_meeting(text: &[u8]) -> bool {
 }
 
 #[test]
-fn two_workers_are_held(rt: HostRuntime) -> Result<(), Fail> {
-    let sink = written_in_order(&rt, rt.alloc(), "run --rounds 0", MEETING, &MEETING_HOLDS)?;
+fn two_workers_are_held(rt: HostRuntime) {
+    let sink = written_in_order(&rt, rt.alloc(), "run --rounds 0", MEETING, &MEETING_HOLDS);
     assert!(rt; is_meeting(sink.bytes()));
-    Ok(())
 }
 
 // Two helpers of the interval collector each wait before their first bucket until the other has come to its own. If one thread made the
@@ -111,17 +105,16 @@ total,left,0
 ";
 
 #[test]
-fn two_helpers_are_held(rt: HostRuntime) -> Result<(), Fail> {
+fn two_helpers_are_held(rt: HostRuntime) {
     let words = "run --buckets 2 --rounds 1 --sweepers 2";
-    let sink = written_in_order(&rt, rt.alloc(), words, "", &HELPERS_HOLDS)?;
+    let sink = written_in_order(&rt, rt.alloc(), words, "", &HELPERS_HOLDS);
     assert_eq!(rt; sink.bytes(), HELPERS_TEXT);
-    Ok(())
 }
 
-pub(crate) const TWO_PUTS: &str = "table,t,1\n1,put,t,5,7\n1,put,t,6,8\n";
+const TWO_PUTS: &str = "table,t,1\n1,put,t,5,7\n1,put,t,6,8\n";
 
 // The reader waits until session 1 comes to its second put, which waits until the reader has read once.
-pub(crate) const BETWEEN: [(Step, Step); 2] = [((READER, 1), (1, 2)), ((1, 2), (READER, 2))];
+const BETWEEN: [(Step, Step); 2] = [((READER, 1), (1, 2)), ((1, 2), (READER, 2))];
 
 const TWO_PUTS_DUMPED: &[u8] = b"1,2,at,0,stored,committed,1
 1,3,at,1,stored,committed,2
@@ -141,9 +134,8 @@ table,t,1
 ";
 
 #[test]
-fn a_dump_between_two_puts(rt: HostRuntime) -> Result<(), Fail> {
+fn a_dump_between_two_puts(rt: HostRuntime) {
     let words = "dump --rounds 0";
-    let sink = written_in_order(&rt, rt.alloc(), words, TWO_PUTS, &BETWEEN)?;
+    let sink = written_in_order(&rt, rt.alloc(), words, TWO_PUTS, &BETWEEN);
     assert_eq!(rt; sink.bytes(), TWO_PUTS_DUMPED);
-    Ok(())
 }

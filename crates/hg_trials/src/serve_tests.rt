@@ -12,6 +12,7 @@ use hg_run::{NoGate, Status, StdinSource, StdoutSink, serve};
 use hg_script::{Code, read_script};
 use hg_steady::serve_steadily;
 use std::alloc::{AllocError, Global};
+use std::process::Abort;
 use std::sync::Wait;
 use std::test::Fail;
 use std::thread::Threads;
@@ -20,19 +21,29 @@ const OWN_WRITE: &[u8] = b"table,t,1\n1,begin\n1,put,t,5,7\n1,get,t,5\n1,commit\
 
 // One word and a script, from a source and to a sink that move eight bytes a call. Those calls fail that are listed. The answer is the
 // status, and how many bytes the sink took.
-fn call<R: Threads + Wait + Sync>(
+fn call<R: Threads + Wait + Sync + Abort>(
     rt: &R,
     alloc: Global,
     word: &str,
     failing_reads: &[u64],
     failing_writes: &[u64],
-) -> Result<(Status, usize), Fail> {
-    let words = vec![in alloc; String::from_str(alloc, word)?]?;
-    let mut source = source_of(alloc, failing_reads)?;
-    let mut sink = MemorySink::new(alloc, 8, failing_writes.to_vec(alloc)?);
-    sink.reserve(256)?;
+) -> (Status, usize) {
+    let words = one_word(alloc, word).expect(rt, "words");
+    let mut source = source_of(alloc, failing_reads).expect(rt, "a source");
+    let mut sink = sink_of(alloc, failing_writes).expect(rt, "a sink");
     let status = serve(rt, alloc, &words, &mut source, &mut sink, &NoGate);
-    Ok((status, sink.bytes().len()))
+    (status, sink.bytes().len())
+}
+
+fn one_word(alloc: Global, word: &str) -> Result<Vec<String>, AllocError> {
+    Ok(vec![in alloc; String::from_str(alloc, word)?]?)
+}
+
+// A sink with room for the text, whose listed calls fail.
+fn sink_of(alloc: Global, failing: &[u64]) -> Result<MemorySink, NoMemory> {
+    let mut sink = MemorySink::new(alloc, 8, failing.to_vec(alloc)?);
+    sink.reserve(256)?;
+    Ok(sink)
 }
 
 // The script from a source whose listed calls fail.
@@ -43,56 +54,53 @@ fn source_of(alloc: Global, failing: &[u64]) -> Result<MemorySource, AllocError>
 
 // The script has 49 bytes, which are read by seven calls and an eighth that finds the end.
 #[test]
-fn each_read_fails_in_turn(rt: HostRuntime) -> Result<(), Fail> {
+fn each_read_fails_in_turn(rt: HostRuntime) {
     for failing in 1..10 {
         let want = if failing < 9 {
             (Status::ReadFault, 0)
         } else {
             (Status::Done, 135)
         };
-        let found = call(&rt, rt.alloc(), "replay", &[failing], &[])?;
+        let found = call(&rt, rt.alloc(), "replay", &[failing], &[]);
         assert_eq!(rt; found, want, "at {failing}");
     }
-    Ok(())
 }
 
 // The text has 135 bytes, which are written by seventeen calls.
 #[test]
-fn each_write_fails_in_turn(rt: HostRuntime) -> Result<(), Fail> {
+fn each_write_fails_in_turn(rt: HostRuntime) {
     for failing in 1..19u64 {
         let want = if failing < 18 {
             (Status::WriteFault, 8 * (failing as usize - 1))
         } else {
             (Status::Done, 135)
         };
-        let found = call(&rt, rt.alloc(), "replay", &[], &[failing])?;
+        let found = call(&rt, rt.alloc(), "replay", &[], &[failing]);
         assert_eq!(rt; found, want, "at {failing}");
     }
-    Ok(())
 }
 
 // A run reads as a replay does.
 #[test]
-fn a_run_cannot_be_read(rt: HostRuntime) -> Result<(), Fail> {
-    let (status, taken) = call(&rt, rt.alloc(), "run", &[2], &[])?;
+fn a_run_cannot_be_read(rt: HostRuntime) {
+    let (status, taken) = call(&rt, rt.alloc(), "run", &[2], &[]);
     assert_eq!(rt;
         (status, taken, status.exit_code()),
         (Status::ReadFault, 0, 4)
     );
-    Ok(())
 }
 
 // A sink whose second call fails has what the first one took.
 #[test]
-fn a_sink_that_fails_keeps_what_it_took(rt: HostRuntime) -> Result<(), Fail> {
-    let words = vec![in rt.alloc(); String::from_str(rt.alloc(), "replay")?]?;
+fn a_sink_that_fails_keeps_what_it_took(rt: HostRuntime) {
+    let words = one_word(rt.alloc(), "replay").expect(&rt, "words");
+    let failing = vec![in rt.alloc(); 2].expect(&rt, "a list");
     let mut source = SteadySource::new(Vec::new(rt.alloc()), 8);
-    let mut sink = MemorySink::new(rt.alloc(), 4, vec![in rt.alloc(); 2]?);
-    sink.reserve(256)?;
+    let mut sink = MemorySink::new(rt.alloc(), 4, failing);
+    sink.reserve(256).expect(&rt, "room");
     let status = serve(&rt, rt.alloc(), &words, &mut source, &mut sink, &NoGate);
     assert_eq!(rt; (status, status.exit_code()), (Status::WriteFault, 5));
     assert_eq!(rt; sink.bytes(), b"tota".as_slice());
-    Ok(())
 }
 
 // How a replay ends that reads so many bytes `1`, and whether each call of its source and its sink was as it has to be.
@@ -123,29 +131,27 @@ fn wanted_end(length: usize) -> Status {
 
 // How a source is asked, to its end and to the limit, and how a sink is given a text.
 #[test]
-fn calls_have_their_lengths(rt: HostRuntime) -> Result<(), Fail> {
-    let words = vec![in rt.alloc(); String::from_str(rt.alloc(), "replay")?]?;
+fn calls_have_their_lengths(rt: HostRuntime) {
+    let words = one_word(rt.alloc(), "replay").expect(&rt, "words");
     for length in [0, 5_000_000, 16_777_215, 16_777_216, 16_777_217, 20_000_000] {
         let found = watched_end(&rt, rt.alloc(), &words, length);
         assert_eq!(rt; found, (wanted_end(length), true), "at {length}");
     }
-    Ok(())
 }
 
 // From a source that never fails to a sink that never fails, with room for the text.
 #[test]
-fn steady_streams_carry_a_script_and_its_text(rt: HostRuntime) -> Result<(), Fail> {
-    let words = vec![in rt.alloc(); String::from_str(rt.alloc(), "replay")?]?;
-    let bytes = Vec::from_slice(rt.alloc(), OWN_WRITE)?;
+fn steady_streams_carry_a_script_and_its_text(rt: HostRuntime) {
+    let words = one_word(rt.alloc(), "replay").expect(&rt, "words");
+    let bytes = Vec::from_slice(rt.alloc(), OWN_WRITE).expect(&rt, "bytes");
     let mut source = SteadySource::new(bytes, 8);
     let mut sink = SteadySink::new(rt.alloc(), 8);
-    sink.reserve(135)?;
+    sink.reserve(135).expect(&rt, "room");
     let status = serve_steadily(&rt, rt.alloc(), &words, &mut source, &mut sink, &NoGate);
     assert_eq!(rt;
         (status, sink.bytes().len(), sink.past()),
         (Status::Done, 135, 0)
     );
-    Ok(())
 }
 
 // Standard input of a test is empty. Standard output takes a byte.
