@@ -1,5 +1,5 @@
 -- Values that are packed are found again.
-use Rattle.std.proofs.Common.{◌≡◌, ℕ, zero, suc, ◌^◌, ◌<◌, ◌≤◌, ◌==◌, ℤ, List, [], ◌∷◌, ◌++◌, get_or, length, take, drop, false, refl, sym, ap, ◌∙◌, subst, arith}
+use Rattle.std.proofs.Common.{◌≡◌, ℕ, zero, suc, ◌^◌, ◌<◌, ◌≤◌, ◌==◌, ℤ, List, [], ◌∷◌, ◌++◌, get_or, length, take, drop, false, append_assoc, append-nil, refl, sym, ap, ◌∙◌, subst, arith}
 use Rattle.std.specs.Prelude.{FitsSigned, IsTrue}
 use Rattle.std.specs.Int.{w64, cast_signed, cast_unsigned, to_le_bytes, from_le_bytes}
 use borrow.Author.Rules.{sfits_of}
@@ -99,3 +99,9 @@ pub fit_more : (vs : List Value) (k : ℕ) (d : Value) → k < length vs → Eac
 fit_more [] k d h f g = absurd (omega (arith, h))
 fit_more (v ∷ vs) zero d h f g = (g, tt)
 fit_more (v ∷ vs) (suc k) d h f g = (f.0, fit_more vs k d (omega (arith, h)) f.1 g)
+
+-- the bytes of one more value come behind those before it
+pub bytes_more : (vs : List Value) (k : ℕ) (d : Value) → k < length vs → flat_map packed_value (take k vs) ++ packed_value (get_or vs k d) ≡ flat_map packed_value (take (suc k) vs)
+bytes_more [] k d h = absurd (omega (arith, h))
+bytes_more (v ∷ vs) zero d h = sym (append-nil (packed_value v))
+bytes_more (v ∷ vs) (suc k) d h = append_assoc (packed_value v) (flat_map packed_value (take k vs)) (packed_value (get_or vs k d)) ∙ ap (λ bytes. packed_value v ++ bytes) (bytes_more vs k d (omega (arith, h)))

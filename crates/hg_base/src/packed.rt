@@ -122,7 +122,6 @@ fn pack_value(bytes: &mut Vec<u8>, value: &Value) -> Result<(), NoMemory>
 }
 
 /// The bytes of these values.
-#[tactic(auto, using(crate::proofs::Packing::fit_more))]
 pub(crate) fn pack(alloc: Global, values: &[Value]) -> Result<Vec<u8>, NoMemory>
     requires { length values.now ≤ 8 }
     ensures bytes { IfOk result (λ bytes. bytes.items ≡ packed values.now) }
