@@ -1,6 +1,6 @@
 //! Buckets under locks.
 
-ghost use Rattle.std.specs.Prelude.{◌≡◌, ℕ, ◌<◌, ◌^◌, length, IfOk};
+ghost use Rattle.std.specs.Prelude.{◌≡◌, ℕ, ◌<◌, ◌^◌, [], length, IfOk};
 ghost use Rattle.hg_core.specs.Contents.{bucket_of};
 ghost use Rattle.hg_lock.specs.Locks.{count_of};
 
@@ -42,6 +42,19 @@ fn bucket_among(count: u64, rid: Rid) -> u64
     }
 }
 
+// An empty bucket, with its seat.
+fn slot_of(alloc: Global, seat: BucketSeat) -> Result<Slot, NoMemory>
+    ensures seat { IfOk result (λ slot. slot.seat ≡ seat) }
+    ensures empty { IfOk result (λ slot. slot.bucket.value ≡
+        record
+        { records = []; long = []; made = 0; undone = 0; group = 0; table = 0; interval = 0 }) }
+{
+    match Box::new(alloc, Bucket::new(alloc)) {
+        Ok(bucket) => Ok(Slot { bucket, seat }),
+        Err(_) => Err(NoMemory),
+    }
+}
+
 /// The buckets of a board, each under a lock of its own.
 #[derive(Drop)]
 pub struct Store {
@@ -69,8 +82,7 @@ impl Store {
         let tag = Snapshot::of(&seats[0]);
         let mut slots = Vec::with_capacity(alloc, seats.len())?;
         for seat in seats {
-            let bucket = Box::new(alloc, Bucket::new(alloc))?;
-            slots.push(Slot { bucket, seat })?;
+            slots.push(slot_of(alloc, seat)?)?;
         }
         let locks = Locks::new(alloc, slots, &tag)?;
         Ok(Store { locks })

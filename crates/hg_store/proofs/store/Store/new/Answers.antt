@@ -16,6 +16,7 @@ loop-seat-preserved c =
     let all : c.args.seats ≡ xs ++ c.in-Some.seat ∷ c.next.new.self.rest.items = j.seats ∙ ap (λ r. xs ++ r) rest in
     let here : IsNewBucket t (0 + length xs) c.in-Some.seat = each_from_at (IsNewBucket t) 0 xs c.next.new.self.rest.items c.in-Some.seat (subst (EachFrom (IsNewBucket t) 0) all row) in
     let at : IsNewBucket t (length c.loop-seat.slots.items) c.in-Some.seat = subst (λ n. IsNewBucket t n c.in-Some.seat) (omega (arith, j.count)) here in
+    let slot = c.in_ok-slot_of.field-0 in
     let first : c.index.result.now ≡ get_or c.args.seats 0 c.index.result.now = search rules in
     let tag : seat_board_id c.of-tag.result.value ≡ t = ap seat_board_id c.of-tag.ensures ∙
     (each_from_first (IsNewBucket t) 0 c.args.seats c.index.result.now c.requires.some.0 row first).1.0 in record {
@@ -23,5 +24,5 @@ loop-seat-preserved c =
       seats = all ∙ sym (append_assoc xs (c.in-Some.seat ∷ []) c.next.new.self.rest.items);
       fit = subst (EachFits (SlotFits c.of-tag.result)) (sym c.in_ok-push.ensures.items)
           (EachFits-push (SlotFits c.of-tag.result) c.loop-seat.slots.items _ j.fit
-          (fits_new t c.of-tag.result (length c.loop-seat.slots.items) c.in-Some.seat c.in_ok-bucket.bucket tag at (c.in_ok-bucket.ensures.ok ∙ c.new.ensures)));
+          (fits_new t c.of-tag.result (length c.loop-seat.slots.items) slot.seat slot.bucket tag (subst (IsNewBucket t (length c.loop-seat.slots.items)) (sym c.in_ok-slot_of.ensures.seat) at) c.in_ok-slot_of.ensures.empty));
     }
