@@ -24,7 +24,9 @@ pub fn words_of(rt: &HostRuntime) -> Result<Vec<String>, Status>
 {
     let mut words = Vec::new(rt.alloc());
     for word in env::args(rt).map_err(|error| status_of(&error))?.skip(1) {
-        words.push(word).map_err(|_| Status::NoMemory)?;
+        if words.push(word).is_err() {
+            return Err(Status::NoMemory);
+        }
     }
     Ok(words)
 }
