@@ -52,15 +52,14 @@ impl fmt::Display for Status {
     fn fmt<W: fmt::Write>(&self, f: &mut fmt::Formatter<W>) -> fmt::Result {
         match self {
             Status::Done => Ok(()),
-            Status::Usage => write!(
-                f,
-                "usage: hybridgc replay or run or load SEED or audit or dump, with --buckets N, --long N, --rounds N, --sweepers N"
+            Status::Usage => f.write_str(
+                "usage: hybridgc replay or run or load SEED or audit or dump, with --buckets N, --long N, --rounds N, --sweepers N",
             ),
             Status::BadScript { line, code } => write!(f, "script record {line}: {code}"),
-            Status::ReadFault => write!(f, "read fault"),
-            Status::WriteFault => write!(f, "write fault"),
+            Status::ReadFault => f.write_str("read fault"),
+            Status::WriteFault => f.write_str("write fault"),
             Status::TooLong => write!(f, "script longer than {MOST_SCRIPT_BYTES} bytes"),
-            Status::NoMemory => write!(f, "out of memory"),
+            Status::NoMemory => f.write_str("out of memory"),
         }
     }
 }
