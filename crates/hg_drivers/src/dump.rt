@@ -71,9 +71,13 @@ pub fn dump_on<'e, 'a, R: Threads + Wait + Sync, G: Gate + Sync>(
                 extra.entry.now extra.exit.now into.entry.now.items into.exit.now.items }
         { reader.work(rt, plan.gate, extra, into) },
     );
-    match (driven, read) {
-        (Ok(transcript), Ok(at)) => Ok((transcript, at)),
-        _ => {
+    let Ok(at) = read else {
+        into.truncate(before);
+        return Err(NoMemory);
+    };
+    match driven {
+        Ok(transcript) => Ok((transcript, at)),
+        Err(NoMemory) => {
             into.truncate(before);
             Err(NoMemory)
         }

@@ -60,45 +60,6 @@ fn meet_worker(worker: &mut IntervalWorker, engine: &Engine, session: &mut Sessi
     }
 }
 
-// It meets the group collector's pass.
-fn meet_group(collectors: &mut Collectors, engine: &Engine, session: &mut Session)
-    requires own { AreCollectors engine.now collectors.old × IsOf engine.now session.old }
-    ensures met { HasMetPass (view_in kinds.Group collectors.old) session.old session.new }
-    ensures pass { (k : Kind) →
-        HasMetSessions (view_in k collectors.old) (view_in k collectors.new) }
-    ensures heard { AreAmong (seen_by session.old) (view_in kinds.Group collectors.new).sights }
-    ensures removed { (k : Kind) → removed_of k collectors.new ≡ removed_of k collectors.old }
-    ensures own { AreCollectors engine.now collectors.new × IsOf engine.now session.new }
-{
-    session.meet_pass(engine, collectors.group.lend());
-}
-
-// It meets the table collector's pass.
-fn meet_table(collectors: &mut Collectors, engine: &Engine, session: &mut Session)
-    requires own { AreCollectors engine.now collectors.old × IsOf engine.now session.old }
-    ensures met { HasMetPass (view_in kinds.Table collectors.old) session.old session.new }
-    ensures pass { (k : Kind) →
-        HasMetSessions (view_in k collectors.old) (view_in k collectors.new) }
-    ensures heard { AreAmong (seen_by session.old) (view_in kinds.Table collectors.new).sights }
-    ensures removed { (k : Kind) → removed_of k collectors.new ≡ removed_of k collectors.old }
-    ensures own { AreCollectors engine.now collectors.new × IsOf engine.now session.new }
-{
-    session.meet_pass(engine, collectors.table.lend());
-}
-
-// It meets the interval collector's pass.
-fn meet_interval(collectors: &mut Collectors, engine: &Engine, session: &mut Session)
-    requires own { AreCollectors engine.now collectors.old × IsOf engine.now session.old }
-    ensures met { HasMetPass (view_in kinds.Interval collectors.old) session.old session.new }
-    ensures pass { (k : Kind) →
-        HasMetSessions (view_in k collectors.old) (view_in k collectors.new) }
-    ensures heard { AreAmong (seen_by session.old) (view_in kinds.Interval collectors.new).sights }
-    ensures removed { (k : Kind) → removed_of k collectors.new ≡ removed_of k collectors.old }
-    ensures own { AreCollectors engine.now collectors.new × IsOf engine.now session.new }
-{
-    meet_worker(&mut collectors.interval, engine, session);
-}
-
 // It meets the pass of the collector of that kind.
 fn meet(collectors: &mut Collectors, engine: &Engine, kind: Kind, session: &mut Session)
     requires own { AreCollectors engine.now collectors.old × IsOf engine.now session.old }
@@ -110,9 +71,9 @@ fn meet(collectors: &mut Collectors, engine: &Engine, kind: Kind, session: &mut 
     ensures own { AreCollectors engine.now collectors.new × IsOf engine.now session.new }
 {
     match kind {
-        Kind::Group => meet_group(collectors, engine, session),
-        Kind::Table => meet_table(collectors, engine, session),
-        Kind::Interval => meet_interval(collectors, engine, session),
+        Kind::Group => session.meet_pass(engine, collectors.group.lend()),
+        Kind::Table => session.meet_pass(engine, collectors.table.lend()),
+        Kind::Interval => meet_worker(&mut collectors.interval, engine, session),
     }
 }
 

@@ -5,7 +5,7 @@
 //!     gather     the lines of each session by number, and then of each collector's rounds
 //!     retire     the sessions go back to their list
 
-ghost use Rattle.std.specs.Prelude.{◌≡◌, ◌+◌, ◌++◌, ◌<◌, ◌≤◌, ◌^◌, length, false, vec_capacity, IfOk, IfErr, OnOk};
+ghost use Rattle.std.specs.Prelude.{◌≡◌, ◌+◌, ◌++◌, ◌∷◌, [], ◌<◌, ◌≤◌, ◌^◌, length, false, vec_capacity, IfOk, IfErr, OnOk};
 ghost use Rattle.hg_base.specs.Lists.{Each};
 ghost use Rattle.hg_drivers.specs.declared.work.Worker.{Worker};
 ghost use Rattle.hg_session.specs.Engines.{engine_sizes};
@@ -18,7 +18,7 @@ use crate::beside::run_beside;
 use crate::crew::Crew;
 use crate::reply::inside;
 use crate::work::Worker;
-use hg_base::{Answer, Gate, Line, NoMemory};
+use hg_base::{Answer, Gate, Line, NoMemory, Sweep};
 use hg_collectors::{Plan, RoundList, RoundLists};
 use hg_script::Script;
 use hg_session::{Engine, Session};
@@ -55,15 +55,26 @@ fn hire<'a>(
 }
 
 // The sessions of the workers, after those that are there. There are places for all.
-fn retire(workers: Vec<Worker>, sessions: Vec<Session>) -> Vec<Session>
-    requires { length sessions.items + length workers.items ≤ vec_capacity sessions }
-    ensures { result.items ≡ sessions.items ++ sessions_in workers.entry.items }
+fn retire(workers: Vec<Worker>, sessions: &mut Vec<Session>)
+    requires { length sessions.old.items + length workers.items ≤ vec_capacity sessions.old }
+    ensures { sessions.new.items ≡ sessions.old.items ++ sessions_in workers.entry.items }
 {
-    let mut sessions = sessions;
     for worker in workers {
         sessions.push_reserved(worker.session);
     }
-    sessions
+}
+
+// Adds the line of a collector's round.
+fn add_round(transcript: &mut Transcript, place: u64, sweep: Sweep) -> Result<(), NoMemory>
+    ensures lines { OnOk result
+        (transcript.new.lines ≡ transcript.old.lines ++ sweep_lines place (sweep ∷ [])) }
+    ensures tables { transcript.new.tables ≡ transcript.old.tables }
+{
+    transcript.push(&Line {
+        session: 0,
+        place,
+        reply: inside(Answer::Swept(sweep)),
+    })
 }
 
 // Adds the lines of a collector's rounds, of which none was refused memory.
@@ -79,13 +90,51 @@ fn add_rounds(transcript: &mut Transcript, told: RoundList) -> Result<(), NoMemo
     let mut place = 0;
     for sweep in told.sweeps {
         place += 1;
-        transcript.push(&Line {
-            session: 0,
-            place,
-            reply: inside(Answer::Swept(sweep)),
-        })?;
+        add_round(transcript, place, sweep)?;
     }
     Ok(())
+}
+
+// Adds those of all collectors.
+fn add_all_rounds(transcript: &mut Transcript, told: RoundLists) -> Result<(), NoMemory>
+    ensures lines { OnOk result (transcript.new.lines ≡
+        transcript.old.lines ++
+        (sweep_lines 1 told.group.sweeps.items ++
+        (sweep_lines 1 told.table.sweeps.items ++
+        sweep_lines 1 told.interval.sweeps.items))) }
+    ensures tables { transcript.new.tables ≡ transcript.old.tables }
+    ensures willing { OnOk result ((told.group.refused ≡ false) ×
+        (told.table.refused ≡ false) × (told.interval.refused ≡ false)) }
+{
+    let RoundLists {
+        group,
+        table,
+        interval,
+    } = told;
+    add_rounds(transcript, group)?;
+    add_rounds(transcript, table)?;
+    add_rounds(transcript, interval)
+}
+
+// The lines of each session by number. None was refused memory.
+fn gather_lines<'a>(
+    alloc: Global,
+    script: &'a Script,
+    workers: &[Worker<'a>],
+) -> Result<Transcript<'a>, NoMemory>
+    requires { Each (λ (w : Worker). w.transcript.tables ≡ script.now.tables) workers.now }
+    ensures lines { IfOk result (λ transcript. transcript.lines ≡ lines_in workers.now) }
+    ensures tables { IfOk result (λ transcript. transcript.tables ≡ script.now.tables) }
+    ensures willing { OnOk result (Each (λ (w : Worker). w.refused ≡ false) workers.now) }
+{
+    let mut transcript = Transcript::new(alloc, script);
+    for worker in workers {
+        if worker.refused {
+            return Err(NoMemory);
+        }
+        transcript.append(&worker.transcript)?;
+    }
+    Ok(transcript)
 }
 
 // All lines: those of each session by number, and then those of each collector's rounds. Nobody was refused memory.
@@ -105,22 +154,11 @@ fn gather<'a>(
     ensures tables { IfOk result (λ transcript. transcript.tables ≡ script.now.tables) }
     ensures willing { OnOk result (AreWilling workers.now told) }
 {
-    let mut transcript = Transcript::new(alloc, script);
-    for worker in workers {
-        if worker.refused {
-            return Err(NoMemory);
-        }
-        transcript.append(&worker.transcript)?;
+    let mut transcript = gather_lines(alloc, script, workers)?;
+    match add_all_rounds(&mut transcript, told) {
+        Ok(()) => Ok(transcript),
+        Err(NoMemory) => Err(NoMemory),
     }
-    let RoundLists {
-        group,
-        table,
-        interval,
-    } = told;
-    add_rounds(&mut transcript, group)?;
-    add_rounds(&mut transcript, table)?;
-    add_rounds(&mut transcript, interval)?;
-    Ok(transcript)
 }
 
 /// The driver of `run`: each session runs its own records in a thread of its own, and concurrently each collector makes its
@@ -145,11 +183,8 @@ pub fn run_on<'a, R: Threads + Wait + Sync, G: Gate + Sync>(
     ensures collectors { AreCollectors engine.now crew.new.collectors }
 {
     let mut told = RoundLists::with_places(alloc, plan.rounds)?;
-    let list = mem::replace(&mut crew.sessions, Vec::new(alloc));
-    let Ok(back) = Vec::with_capacity(alloc, list.len()) else {
-        crew.sessions = list;
-        return Err(NoMemory);
-    };
+    let back = Vec::with_capacity(alloc, crew.sessions.len())?;
+    let list = mem::replace(&mut crew.sessions, back);
     let mut workers = match hire(alloc, script, list) {
         Ok(workers) => workers,
         Err(list) => {
@@ -166,6 +201,6 @@ pub fn run_on<'a, R: Threads + Wait + Sync, G: Gate + Sync>(
         &mut told,
     );
     let transcript = gather(alloc, script, workers.as_slice(), told);
-    crew.sessions = retire(workers, back);
+    retire(workers, &mut crew.sessions);
     transcript
 }

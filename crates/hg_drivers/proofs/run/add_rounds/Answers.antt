@@ -5,22 +5,20 @@ use Rattle.hg_collectors.specs.Telling.{sweep_lines}
 use Rattle.hg_drivers.proofs.Hiring.{length_more, sweep_line, sweeps_more}
 use Rattle.hg_drivers.proofs.run.add_rounds.Goals as goal
 
-pub loop-sweep-preserved-in_ok-push-5 : goal.loop-sweep-preserved-in_ok-push-5
-loop-sweep-preserved-in_ok-push-5 c =
+pub loop-sweep-preserved : goal.loop-sweep-preserved
+loop-sweep-preserved c =
     let done : List Sweep = c.loop-sweep.yielded in
     let s : Sweep = c.in-Some.sweep in
     let first : List Line = c.args.transcript.now.lines in
     let inv = c.loop-sweep.invariant in
     let n : ℕ = c.loop-sweep.place + 1 in
     let rest : c.loop-sweep.sweep-iterator.rest.items ≡ s ∷ c.next.new.self.rest.items = search rules in
-    let line : Line = record { session = 0; place = n; reply = c.inside.result } in
-    let pushed : c.push.new.self.lines ≡ c.loop-sweep.transcript.lines ++ line ∷ [] = ap (λ t. t.lines) c.in_ok-push.ensures.ok in
-    let same : line ≡ sweep_line n s = (λ i. record { session = 0; place = n; reply = c.inside.ensures i }) in
+    let pushed : c.add_round.new.transcript.lines ≡ c.loop-sweep.transcript.lines ++ sweep_line n s ∷ [] = c.in_ok-add_round.ensures.lines in
     let many = length_more done s in (
       inv.0 ∙ ap (λ r. done ++ r) rest ∙ sym (append_assoc done (s ∷ []) c.next.new.self.rest.items),
-      pushed ∙ ap (λ (l : Line). c.loop-sweep.transcript.lines ++ l ∷ []) same ∙ ap (λ (l : List Line). l ++ sweep_line n s ∷ []) inv.1 ∙ append_assoc first (sweep_lines 1 done) (sweep_line n s ∷ [])
+      pushed ∙ ap (λ (l : List Line). l ++ sweep_line n s ∷ []) inv.1 ∙ append_assoc first (sweep_lines 1 done) (sweep_line n s ∷ [])
           ∙ ap (λ (l : List Line). first ++ l) (sym (sweeps_more 1 done s n (let k = inv.3 in omega (arith, k)))),
-      ap (λ t. t.tables) c.in_ok-push.ensures.ok ∙ inv.2,
+      c.add_round.ensures.tables ∙ inv.2,
       (let k = inv.3 in omega (arith, k, many)),
       inv.4,
     )

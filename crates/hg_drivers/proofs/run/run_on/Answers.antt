@@ -18,10 +18,8 @@ use Rattle.hg_drivers.proofs.run.run_on.Goals as goal
 pub returns-in_err-told-clause-back : goal.returns-in_err-told-clause-back
 returns-in_err-told-clause-back g c = new_back c.args.engine.now (engine_sizes c.args.engine.now).quota c.args.crew.now.sessions.items c.args.crew.now.sessions.items refl c.requires.new
 
-pub returns-in_default-clause-back : goal.returns-in_default-clause-back
-returns-in_default-clause-back g c =
-    let same : c.replace-list.result.items ≡ c.args.crew.now.sessions.items = ap (λ v. v.items) c.replace-list.ensures.value in
-    new_back c.args.engine.now (engine_sizes c.args.engine.now).quota c.args.crew.now.sessions.items c.replace-list.result.items same c.requires.new
+pub returns-in_err-back-clause-back : goal.returns-in_err-back-clause-back
+returns-in_err-back-clause-back g c = new_back c.args.engine.now (engine_sizes c.args.engine.now).quota c.args.crew.now.sessions.items c.args.crew.now.sessions.items refl c.requires.new
 
 pub returns-in-Err-clause-back : goal.returns-in-Err-clause-back
 returns-in-Err-clause-back g c =
@@ -36,9 +34,9 @@ run_beside-requires-clause-hired g c κs within =
     let old : List Session = c.args.crew.now.sessions.items in
     let list : List Session = c.replace-list.result.items in
     let is : list ≡ old = ap (λ v. v.items) c.replace-list.ensures.value in
-    let was : List Worker = c.in-Ok-hire.workers.items in
+    let was : List Worker = c.in-Ok.workers.items in
     let value : c.as_mut_slice.result.now ≡ was = c.as_mut_slice.ensures.value in
-    let hired_is : was ≡ hired script 1 old = c.in-Ok-hire.ensures.hired ∙ ap (λ (l : List Session). hired script 1 l) is in
+    let hired_is : was ≡ hired script 1 old = c.in-Ok.ensures.hired ∙ ap (λ (l : List Session). hired script 1 l) is in
     subst (All (IsHired e)) (sym (value ∙ hired_is)) (hired_all e z.quota script c.requires.lawful c.requires.tables c.requires.quota old c.requires.new)
 
 pub gather-transcript-requires : goal.gather-transcript-requires
@@ -49,13 +47,13 @@ gather-transcript-requires g c =
     let old : List Session = c.args.crew.now.sessions.items in
     let list : List Session = c.replace-list.result.items in
     let is : list ≡ old = ap (λ v. v.items) c.replace-list.ensures.value in
-    let was : List Worker = c.in-Ok-hire.workers.items in
+    let was : List Worker = c.in-Ok.workers.items in
     let value : c.as_mut_slice.result.now ≡ was = c.as_mut_slice.ensures.value in
-    let hired_is : was ≡ hired script 1 old = c.in-Ok-hire.ensures.hired ∙ ap (λ (l : List Session). hired script 1 l) is in
+    let hired_is : was ≡ hired script 1 old = c.in-Ok.ensures.hired ∙ ap (λ (l : List Session). hired script 1 l) is in
     let now : List Worker = c.run_beside.new.workers in
     let same : length now ≡ length was = c.run_beside.auto.workers ∙ ap (λ (l : List Worker). length l) value in
-    let len : c.in-Ok-hire.workers.len ≡ length now = sym c.as_mut_slice.ensures.len ∙ sym c.run_beside.auto.workers in
-    let taken : List Worker = take c.in-Ok-hire.workers.len (now ++ drop (length now) was) in
+    let len : c.in-Ok.workers.len ≡ length now = sym c.as_mut_slice.ensures.len ∙ sym c.run_beside.auto.workers in
+    let taken : List Worker = take c.in-Ok.workers.len (now ++ drop (length now) was) in
     let all : taken ≡ now = ap (λ (m : ℕ). take m (now ++ drop (length now) was)) len ∙ take_whole now (drop (length now) was) in
     let ran : (k : ℕ) (d : Worker) → k < length was → HasEnded e (get_or was k d) (get_or now k d) = subst (λ (l : List Worker). (k : ℕ) (d : Worker) → k < length l →
     HasEnded e (get_or l k d) (get_or now k d)) value c.run_beside.ensures.ended in
@@ -71,20 +69,19 @@ retire-requires g c =
     let old : List Session = c.args.crew.now.sessions.items in
     let list : List Session = c.replace-list.result.items in
     let is : list ≡ old = ap (λ v. v.items) c.replace-list.ensures.value in
-    let was : List Worker = c.in-Ok-hire.workers.items in
+    let was : List Worker = c.in-Ok.workers.items in
     let value : c.as_mut_slice.result.now ≡ was = c.as_mut_slice.ensures.value in
-    let hired_is : was ≡ hired script 1 old = c.in-Ok-hire.ensures.hired ∙ ap (λ (l : List Session). hired script 1 l) is in
+    let hired_is : was ≡ hired script 1 old = c.in-Ok.ensures.hired ∙ ap (λ (l : List Session). hired script 1 l) is in
     let now : List Worker = c.run_beside.new.workers in
     let same : length now ≡ length was = c.run_beside.auto.workers ∙ ap (λ (l : List Worker). length l) value in
-    let len : c.in-Ok-hire.workers.len ≡ length now = sym c.as_mut_slice.ensures.len ∙ sym c.run_beside.auto.workers in
-    let taken : List Worker = take c.in-Ok-hire.workers.len (now ++ drop (length now) was) in
+    let len : c.in-Ok.workers.len ≡ length now = sym c.as_mut_slice.ensures.len ∙ sym c.run_beside.auto.workers in
+    let taken : List Worker = take c.in-Ok.workers.len (now ++ drop (length now) was) in
     let all : taken ≡ now = ap (λ (m : ℕ). take m (now ++ drop (length now) was)) len ∙ take_whole now (drop (length now) was) in
     let many : length now ≡ length old = same ∙ ap (λ (l : List Worker). length l) hired_is ∙ hired_many script 1 old in
-    let none : length c.in-Ok.back.items ≡ 0 = ap (λ (l : List Session). length l) c.in-Ok.ensures.items in
-    let room : length list ≤ vec_capacity c.in-Ok.back = search rules in
+    let none : length c.replace-list.new.dest.items ≡ 0 = ap (λ v. length v.items) c.replace-list.ensures.after ∙ ap (λ (l : List Session). length l) c.in_ok-back.ensures.items in
+    let room : length old ≤ vec_capacity c.replace-list.new.dest = search rules in
     let long : length taken ≡ length now = ap (λ (l : List Worker). length l) all in
-    let first : length list ≡ length old = ap (λ (l : List Session). length l) is in
-    omega (arith, none, room, long, first, many)
+    omega (arith, none, room, long, many)
 
 pub returns-clause-driven : goal.returns-clause-driven
 returns-clause-driven g c =
@@ -94,20 +91,20 @@ returns-clause-driven g c =
     let old : List Session = c.args.crew.now.sessions.items in
     let list : List Session = c.replace-list.result.items in
     let is : list ≡ old = ap (λ v. v.items) c.replace-list.ensures.value in
-    let was : List Worker = c.in-Ok-hire.workers.items in
+    let was : List Worker = c.in-Ok.workers.items in
     let value : c.as_mut_slice.result.now ≡ was = c.as_mut_slice.ensures.value in
-    let hired_is : was ≡ hired script 1 old = c.in-Ok-hire.ensures.hired ∙ ap (λ (l : List Session). hired script 1 l) is in
+    let hired_is : was ≡ hired script 1 old = c.in-Ok.ensures.hired ∙ ap (λ (l : List Session). hired script 1 l) is in
     let now : List Worker = c.run_beside.new.workers in
     let same : length now ≡ length was = c.run_beside.auto.workers ∙ ap (λ (l : List Worker). length l) value in
-    let len : c.in-Ok-hire.workers.len ≡ length now = sym c.as_mut_slice.ensures.len ∙ sym c.run_beside.auto.workers in
-    let taken : List Worker = take c.in-Ok-hire.workers.len (now ++ drop (length now) was) in
+    let len : c.in-Ok.workers.len ≡ length now = sym c.as_mut_slice.ensures.len ∙ sym c.run_beside.auto.workers in
+    let taken : List Worker = take c.in-Ok.workers.len (now ++ drop (length now) was) in
     let all : taken ≡ now = ap (λ (m : ℕ). take m (now ++ drop (length now) was)) len ∙ take_whole now (drop (length now) was) in
     let ran : (k : ℕ) (d : Worker) → k < length was → HasEnded e (get_or was k d) (get_or now k d) = subst (λ (l : List Worker). (k : ℕ) (d : Worker) → k < length l →
     HasEnded e (get_or l k d) (get_or now k d)) value c.run_beside.ensures.ended in
     let ended : AreEnded e (hired script 1 old) now = subst (λ (vs : List Worker). AreEnded e vs now) hired_is (ended_each e was now same ran) in
     let many : length now ≡ length old = same ∙ ap (λ (l : List Worker). length l) hired_is ∙ hired_many script 1 old in
-    let none : c.in-Ok.back.items ≡ [] = c.in-Ok.ensures.items in
-    let new_is : c.retire.result.items ≡ sessions_in now = c.retire.ensures ∙ (ap (λ (l : List Session). l ++ sessions_in taken) none ∙ ap (λ (ws : List Worker). sessions_in ws) all) in
+    let none : c.replace-list.new.dest.items ≡ [] = ap (λ v. v.items) c.replace-list.ensures.after ∙ c.in_ok-back.ensures.items in
+    let new_is : c.retire.new.sessions.items ≡ sessions_in now = c.retire.ensures ∙ (ap (λ (l : List Session). l ++ sessions_in taken) none ∙ ap (λ (ws : List Worker). sessions_in ws) all) in
     let value-2 : c.as_slice.result.now ≡ now = c.as_slice.ensures.value ∙ all in
     let told = c.run_beside.new.told in
     let long : ℕ = c.args.plan.now.long in
@@ -129,23 +126,23 @@ returns-clause-back g c =
     let old : List Session = c.args.crew.now.sessions.items in
     let list : List Session = c.replace-list.result.items in
     let is : list ≡ old = ap (λ v. v.items) c.replace-list.ensures.value in
-    let was : List Worker = c.in-Ok-hire.workers.items in
+    let was : List Worker = c.in-Ok.workers.items in
     let value : c.as_mut_slice.result.now ≡ was = c.as_mut_slice.ensures.value in
-    let hired_is : was ≡ hired script 1 old = c.in-Ok-hire.ensures.hired ∙ ap (λ (l : List Session). hired script 1 l) is in
+    let hired_is : was ≡ hired script 1 old = c.in-Ok.ensures.hired ∙ ap (λ (l : List Session). hired script 1 l) is in
     let now : List Worker = c.run_beside.new.workers in
     let same : length now ≡ length was = c.run_beside.auto.workers ∙ ap (λ (l : List Worker). length l) value in
-    let len : c.in-Ok-hire.workers.len ≡ length now = sym c.as_mut_slice.ensures.len ∙ sym c.run_beside.auto.workers in
-    let taken : List Worker = take c.in-Ok-hire.workers.len (now ++ drop (length now) was) in
+    let len : c.in-Ok.workers.len ≡ length now = sym c.as_mut_slice.ensures.len ∙ sym c.run_beside.auto.workers in
+    let taken : List Worker = take c.in-Ok.workers.len (now ++ drop (length now) was) in
     let all : taken ≡ now = ap (λ (m : ℕ). take m (now ++ drop (length now) was)) len ∙ take_whole now (drop (length now) was) in
     let ran : (k : ℕ) (d : Worker) → k < length was → HasEnded e (get_or was k d) (get_or now k d) = subst (λ (l : List Worker). (k : ℕ) (d : Worker) → k < length l →
     HasEnded e (get_or l k d) (get_or now k d)) value c.run_beside.ensures.ended in
     let ended : AreEnded e (hired script 1 old) now = subst (λ (vs : List Worker). AreEnded e vs now) hired_is (ended_each e was now same ran) in
     let many : length now ≡ length old = same ∙ ap (λ (l : List Worker). length l) hired_is ∙ hired_many script 1 old in
-    let none : c.in-Ok.back.items ≡ [] = c.in-Ok.ensures.items in
-    let new_is : c.retire.result.items ≡ sessions_in now = c.retire.ensures ∙ (ap (λ (l : List Session). l ++ sessions_in taken) none ∙ ap (λ (ws : List Worker). sessions_in ws) all) in
-    let closed : EachFrom (IsClosed e) 1 c.retire.result.items = subst (EachFrom (IsClosed e) 1) (sym new_is) (closed_from e z.quota script 1 old now c.requires.new ended) in
+    let none : c.replace-list.new.dest.items ≡ [] = ap (λ v. v.items) c.replace-list.ensures.after ∙ c.in_ok-back.ensures.items in
+    let new_is : c.retire.new.sessions.items ≡ sessions_in now = c.retire.ensures ∙ (ap (λ (l : List Session). l ++ sessions_in taken) none ∙ ap (λ (ws : List Worker). sessions_in ws) all) in
+    let closed : EachFrom (IsClosed e) 1 c.retire.new.sessions.items = subst (EachFrom (IsClosed e) 1) (sym new_is) (closed_from e z.quota script 1 old now c.requires.new ended) in
     record {
       many = ap (λ (l : List Session). length l) new_is ∙ (sessions_many now ∙ many);
       closed = closed;
-      cursors = closed_cursors e 1 c.retire.result.items closed;
+      cursors = closed_cursors e 1 c.retire.new.sessions.items closed;
     }
