@@ -63,6 +63,15 @@ pub struct Pace<'a, G> {
     given_up: AtomicU64,
 }
 
+// So many words, each 0.
+fn zeros(alloc: Global, count: usize) -> Result<Vec<AtomicU64>, NoMemory> {
+    let mut words = Vec::new(alloc);
+    for _ in 0..count {
+        words.push(AtomicU64::new(0))?;
+    }
+    Ok(words)
+}
+
 impl<'a, G: Gate> Pace<'a, G> {
     ghost use Rattle.std.specs.Prelude.{◌≡◌, IfOk};
     ghost use Rattle.hg_collectors.specs.Pacing.{records_in, rounds_in};
@@ -77,12 +86,7 @@ impl<'a, G: Gate> Pace<'a, G> {
     ) -> Result<Pace<'a, G>, NoMemory>
         ensures { IfOk result (λ pace. (rounds_in pace ≡ rounds) × (records_in pace ≡ records)) }
     {
-        let mut begun = Vec::new(alloc);
-        for _ in 0..=sessions {
-            for _ in 0..LINE {
-                begun.push(AtomicU64::new(0))?;
-            }
-        }
+        let begun = zeros(alloc, LINE * (sessions as usize + 1))?;
         Ok(Pace {
             gate,
             rounds,
@@ -108,6 +112,23 @@ impl<'a, G: Gate> Pace<'a, G> {
         self.records.saturating_mul(part) / parts
     }
 
+    // Whether a wait is over: so many are begun, or nobody waits. `still` counts from when `last` rose.
+    fn is_over(&self, due: u64, last: &mut u64, still: &mut u64) -> bool {
+        let begun = self.begun();
+        if begun >= due || begun < self.given_up.load(SeqCst) {
+            return true;
+        }
+        if begun > *last {
+            *last = begun;
+            *still = 0;
+        }
+        if *still >= LONGEST_STILL {
+            self.given_up.store(begun.wrapping_add(1), SeqCst);
+            return true;
+        }
+        false
+    }
+
     // Waits until so many are begun, or nobody waits.
     fn wait<R: Wait>(&self, rt: &R, due: u64) {
         let never_woken = AtomicU64::new(0);
@@ -115,16 +136,7 @@ impl<'a, G: Gate> Pace<'a, G> {
         let mut pause = FIRST_PAUSE;
         let mut still = 0u64;
         for _ in rt.forever() {
-            let begun = self.begun();
-            if begun >= due || begun < self.given_up.load(SeqCst) {
-                return;
-            }
-            if begun > last {
-                last = begun;
-                still = 0;
-            }
-            if still >= LONGEST_STILL {
-                self.given_up.store(begun.wrapping_add(1), SeqCst);
+            if self.is_over(due, &mut last, &mut still) {
                 return;
             }
             never_woken.park_timeout(rt, 0, Duration::from_micros(pause));
