@@ -22,6 +22,44 @@ use std::sync::Wait;
 use std::thread;
 use std::thread::Threads;
 
+// The run, and concurrently what the reader reads.
+fn run_and_read<'e, 'a, R: Threads + Wait + Sync, G: Gate + Sync>(
+    rt: &R,
+    reader: &Reader<'e, 'a>,
+    plan: &Plan<G>,
+    crew: &mut Crew,
+    extra: &mut SessionPass,
+    into: &mut Vec<u8>,
+) -> (Result<Transcript<'a>, NoMemory>, Result<u64, NoMemory>)
+    requires may { MayDrive (engine_in reader.now) (script_in reader.now) crew.old.sessions.items
+        crew.old.collectors }
+    requires extra { MayExport (engine_board_id (engine_in reader.now))
+        (engine_sizes (engine_in reader.now)) extra.old }
+    ensures driven { HasDriven (engine_in reader.now) plan.now.long plan.now.rounds
+        (script_in reader.now) crew.old.sessions.items crew.old.collectors result.0
+        crew.new.sessions.items crew.new.collectors }
+    ensures read { HasTried (engine_in reader.now) (script_in reader.now) result.1 extra.old
+        extra.new into.old.items into.new.items }
+{
+    thread::join_mut(
+        rt,
+        &mut ||
+            requires { MayDrive (engine_in reader.now) (script_in reader.now)
+                crew.now.sessions.items crew.now.collectors }
+            ensures { HasDriven (engine_in reader.entry.now) plan.entry.now.long
+                plan.entry.now.rounds (script_in reader.entry.now) crew.entry.now.sessions.items
+                crew.entry.now.collectors result crew.exit.now.sessions.items
+                crew.exit.now.collectors }
+        { run_on(rt, reader.alloc, reader.script, plan, reader.engine, crew) },
+        &mut ||
+            requires { MayExport (engine_board_id (engine_in reader.now))
+                (engine_sizes (engine_in reader.now)) extra.now }
+            ensures { HasTried (engine_in reader.entry.now) (script_in reader.entry.now) result
+                extra.entry.now extra.exit.now into.entry.now.items into.exit.now.items }
+        { reader.work(rt, plan.gate, extra, into) },
+    )
+}
+
 /// The driver of `dump`: that of `run`, and concurrently the reader exports all tables once, whose pass is `extra`. The engine has one
 /// session more than the script. A refusal leaves `into` as it was.
 pub fn dump_on<'e, 'a, R: Threads + Wait + Sync, G: Gate + Sync>(
@@ -54,23 +92,7 @@ pub fn dump_on<'e, 'a, R: Threads + Wait + Sync, G: Gate + Sync>(
         (engine_sizes (engine_in reader.now)) extra.new }
 {
     let before = into.len();
-    let (driven, read) = thread::join_mut(
-        rt,
-        &mut ||
-            requires { MayDrive (engine_in reader.now) (script_in reader.now)
-                crew.now.sessions.items crew.now.collectors }
-            ensures { HasDriven (engine_in reader.entry.now) plan.entry.now.long
-                plan.entry.now.rounds (script_in reader.entry.now) crew.entry.now.sessions.items
-                crew.entry.now.collectors result crew.exit.now.sessions.items
-                crew.exit.now.collectors }
-        { run_on(rt, reader.alloc, reader.script, plan, reader.engine, crew) },
-        &mut ||
-            requires { MayExport (engine_board_id (engine_in reader.now))
-                (engine_sizes (engine_in reader.now)) extra.now }
-            ensures { HasTried (engine_in reader.entry.now) (script_in reader.entry.now) result
-                extra.entry.now extra.exit.now into.entry.now.items into.exit.now.items }
-        { reader.work(rt, plan.gate, extra, into) },
-    );
+    let (driven, read) = run_and_read(rt, reader, plan, crew, extra, into);
     let Ok(at) = read else {
         into.truncate(before);
         return Err(NoMemory);
