@@ -9,7 +9,6 @@ ghost use Rattle.hg_base.specs.declared.report.Kind.TheVariants as kinds;
 ghost use Rattle.hg_gc_group.specs.Collectors as by_group;
 ghost use Rattle.hg_gc_table.specs.Collectors as by_table;
 ghost use Rattle.hg_gc_interval.specs.Collectors as by_one;
-ghost use Rattle.hg_sweep.specs.Teams as by_team;
 ghost use Rattle.hg_collectors.specs.Workers as by_worker;
 
 use crate::interval::IntervalWorker;
@@ -20,7 +19,6 @@ use hg_gc_group::GroupCollector;
 use hg_gc_interval::IntervalCollector;
 use hg_gc_table::TableCollector;
 use hg_rule::CollectorPass;
-use hg_sweep::SweepTeam;
 use std::alloc::Global;
 use std::marker::Brand;
 use std::sync::Wait;
@@ -195,28 +193,8 @@ fn sweep_intervals<R: Wait, L: Ledger>(
     collector.rounds.report.told()
 }
 
-// A round of a team, whose helpers ask the gate before each bucket.
-fn sweep_beside<R: Threads + Wait + Sync, G: Gate + Sync>(
-    team: &mut SweepTeam,
-    rt: &R,
-    lent: &Lent,
-    gate: &G,
-) -> Result<Sweep, NoMemory>
-    requires own { by_team.IsTeamOf (lent_board_id lent.now) (lent_sizes lent.now) team.old }
-    ensures round { IfOk result (λ sweep.
-        IsRoundBy kinds.Interval (lent_sizes lent.now) 0 (by_team.view_of team.old) sweep
-        (by_team.view_of team.new)) }
-    ensures made { (sweep : Sweep) ×
-        IsRoundBy kinds.Interval (lent_sizes lent.now) 0 (by_team.view_of team.old) sweep
-        (by_team.view_of team.new) }
-    ensures own { by_team.IsTeamOf (lent_board_id lent.now) (lent_sizes lent.now) team.new }
-{
-    team.collect(rt, lent.trackers, lent.store, gate);
-    team.rounds.report.told()
-}
-
-/// A round of the interval collector, or of its team, and what its report says. If memory for that runs out, the round was made all the
-/// same.
+/// A round of the interval collector, or of its team, whose helpers ask the gate before each bucket, and what its report says. If memory
+/// for that runs out, the round was made all the same.
 pub(crate) fn sweep_round<R: Threads + Wait + Sync, G: Gate + Sync>(
     rt: &R,
     lent: &Lent,
@@ -236,6 +214,9 @@ pub(crate) fn sweep_round<R: Threads + Wait + Sync, G: Gate + Sync>(
 {
     match worker {
         IntervalWorker::One(one) => sweep_intervals::<R, Brand>(one, rt, lent, Blank::new(1)),
-        IntervalWorker::Team(team) => sweep_beside(team, rt, lent, gate),
+        IntervalWorker::Team(team) => {
+            team.collect(rt, lent.trackers, lent.store, gate);
+            team.rounds.report.told()
+        }
     }
 }
