@@ -23,7 +23,7 @@ use std::thread;
 use std::thread::Threads;
 
 // The run, and concurrently what the reader reads.
-fn run_and_read<'e, 'a, R: Threads + Wait + Sync, G: Gate + Sync>(
+fn drive_and_read<'e, 'a, R: Threads + Wait + Sync, G: Gate + Sync>(
     rt: &R,
     reader: &Reader<'e, 'a>,
     plan: &Plan<G>,
@@ -92,7 +92,7 @@ pub fn dump_on<'e, 'a, R: Threads + Wait + Sync, G: Gate + Sync>(
         (engine_sizes (engine_in reader.now)) extra.new }
 {
     let before = into.len();
-    let (driven, read) = run_and_read(rt, reader, plan, crew, extra, into);
+    let (driven, read) = drive_and_read(rt, reader, plan, crew, extra, into);
     let Ok(at) = read else {
         into.truncate(before);
         return Err(NoMemory);
