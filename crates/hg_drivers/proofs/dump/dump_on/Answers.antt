@@ -1,10 +1,11 @@
-use Rattle.std.proofs.Common.{◌≡◌, subst}
+use Rattle.std.proofs.Common.{rules, ◌≡◌, ◌∙◌, length, take, subst}
 use Rattle.std.specs.Prelude.{Result, Ok, IfOk}
 use Rattle.hg_rule.specs.Seats.{session_view}
 use Rattle.hg_session.specs.Engines.{engine_sizes}
 use Rattle.hg_transcript.specs.LinesText.{Shown}
 use Rattle.hg_drivers.specs.Driven.{HasDrivenAll}
 use Rattle.hg_drivers.specs.Reader.{HasDumped, engine_in, script_in}
+use Rattle.hg_drivers.proofs.Hiring.{take_whole}
 use Rattle.hg_drivers.proofs.dump.dump_on.Goals as goal
 
 -- what is said of an answer that is there
@@ -52,3 +53,17 @@ pub returns-in-Ok-driven-clause-dumped : goal.returns-in-Ok-driven-clause-dumped
 returns-in-Ok-driven-clause-dumped g c =
     said (λ at. HasDumped (engine_in c.args.reader.now) (script_in c.args.reader.now) at (session_view c.args.extra.now) (session_view c.drive_and_read-driven.new.extra)
     c.args.into.now.items c.drive_and_read-driven.new.into.items) _ _ c.in-Ok.is c.drive_and_read-driven.ensures.read.dumped
+
+pub returns-in_default-clause-refused : goal.returns-in_default-clause-refused
+returns-in_default-clause-refused g c =
+    let text = c.args.into.now.items in
+    let starts = c.drive_and_read-driven.ensures.read.starts in
+    let len : c.len-before.result ≡ length text = search rules in
+    c.truncate.ensures.items ∙ ((λ i. take (len i) (starts.1 i)) ∙ take_whole text starts.0)
+
+pub returns-in-Err-clause-refused : goal.returns-in-Err-clause-refused
+returns-in-Err-clause-refused g c =
+    let text = c.args.into.now.items in
+    let starts = c.drive_and_read-driven.ensures.read.starts in
+    let len : c.len-before.result ≡ length text = search rules in
+    c.truncate-in-Err.ensures.items ∙ ((λ i. take (len i) (starts.1 i)) ∙ take_whole text starts.0)
