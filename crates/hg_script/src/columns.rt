@@ -123,21 +123,13 @@ impl Columns {
     pub(crate) fn is_no(&self) -> bool
         ensures { result ≡ is_no_columns self.now }
     {
-        match self {
-            Columns::No => true,
-            Columns::Over => false,
-            Columns::Are(_) => false,
-        }
+        matches!(self, Columns::No)
     }
 
     pub(crate) fn is_over(&self) -> bool
         ensures { result ≡ is_over_columns self.now }
     {
-        match self {
-            Columns::No => false,
-            Columns::Over => true,
-            Columns::Are(_) => false,
-        }
+        matches!(self, Columns::Over)
     }
 
     /// The kinds that they are.

@@ -1,7 +1,8 @@
 //! The loop over the records of a text.
 
 ghost use Rattle.std.specs.Prelude.{◌≡◌, ◌≤◌, ◌<◌, ◌+◌, [], length, Some, None, OnOk, IfOk, IfErr, false, true};
-ghost use Rattle.csv.specs.Reading.{NotLengths, ReadRecord, Ready, error_kind, is_flexible, reader_trim, took_first};
+ghost use Rattle.csv.specs.Reading.{NotLengths, ReadRecord, Ready, default_config, error_kind, is_flexible, reader_config, reader_state, reader_trim, source_of, strip_bom, took_first};
+ghost use Rattle.csv.specs.declared.parser.State.TheVariants as state;
 ghost use Rattle.csv.specs.declared.reader.Trim.TheVariants as trim;
 ghost use Rattle.csv.specs.Records.{fields_of};
 ghost use Rattle.hg_script.specs.declared.refusal.ScriptRefusal.TheVariants as refusal;
@@ -10,7 +11,7 @@ ghost use Rattle.hg_script.specs.Fields.{rows_of, unread, word_of};
 ghost use Rattle.hg_base.specs.Number.{value_of};
 ghost use Rattle.hg_script.specs.Draft.{draft_of};
 ghost use Rattle.hg_script.specs.Rules.{KeepsRules, ask_number_breaks, ask_range_breaks, ask_value_breaks, count_breaks};
-ghost use Rattle.hg_script.specs.Meaning.{TellsCode, TellsRefusal, first_code, refusal_of, script_of, with_draft, with_row};
+ghost use Rattle.hg_script.specs.Meaning.{TellsCode, TellsRefusal, first_code, nothing, refusal_of, script_of, with_draft, with_row};
 ghost use Rattle.hg_script.specs.Lawful.{IsLawful};
 ghost use Rattle.hg_script.specs.Numbered.{next_place};
 ghost use Rattle.hg_script.specs.Sessions.{KnowsSessions};
@@ -153,6 +154,51 @@ fn read_row(reader: &mut Reader<&[u8]>, row: &mut ByteRecord) -> Result<bool, Sc
     }
 }
 
+// Reads all records of the bytes into a script of none.
+fn read_all(alloc: Global, bytes: &[u8], script: &mut Script) -> Result<(), ScriptRefusal>
+    requires none { script.old ≡ nothing }
+    ensures valid { OnOk result (refusal_of (rows_of bytes.now) ≡ None) }
+    ensures script { OnOk result (script.new ≡ script_of (rows_of bytes.now)) }
+    ensures at { IfErr result (TellsRefusal (refusal_of (rows_of bytes.now))) }
+{
+    let mut row = new_row(alloc)?;
+    let mut reader = ReaderBuilder::new()
+        .has_headers(false)
+        .flexible(true)
+        .from_reader(alloc, bytes);
+    read_rows(alloc, bytes, &mut reader, &mut row, script)
+}
+
+// The same, by a reader over the bytes that has read none. Only clauses name the bytes.
+fn read_rows(
+    alloc: Global,
+    bytes: &[u8],
+    reader: &mut Reader<&[u8]>,
+    row: &mut ByteRecord,
+    script: &mut Script,
+) -> Result<(), ScriptRefusal>
+    requires flexible { is_flexible reader.old ≡ true }
+    requires trim { reader_trim reader.old ≡ trim.None }
+    requires ready { Ready reader.old }
+    requires config { reader_config reader.old ≡ default_config }
+    requires state { reader_state reader.old ≡ state.StartRecord }
+    requires source { source_of unread reader.old ≡ Some (strip_bom bytes.now) }
+    requires none { script.old ≡ nothing }
+    ensures valid { OnOk result (refusal_of (rows_of bytes.now) ≡ None) }
+    ensures script { OnOk result (script.new ≡ script_of (rows_of bytes.now)) }
+    ensures at { IfErr result (TellsRefusal (refusal_of (rows_of bytes.now))) }
+{
+    let mut sessions = OpenSessions::new();
+    for place in 1..MOST_RECORDS + 2 {
+        match read_row(reader, row) {
+            Ok(true) => take(alloc, place, script, &mut sessions, row)?,
+            Ok(false) => return Ok(()),
+            Err(e) => return Err(e),
+        }
+    }
+    unreachable!()
+}
+
 /// Reads a script: the one that its records give, or the first record that breaks a rule.
 pub fn read_script(alloc: Global, bytes: &[u8]) -> Result<Script, ScriptRefusal>
     ensures valid { OnOk result (refusal_of (rows_of bytes.now) ≡ None) }
@@ -162,21 +208,11 @@ pub fn read_script(alloc: Global, bytes: &[u8]) -> Result<Script, ScriptRefusal>
     // So a table is declared, a row has its table's columns, numbers have their widths, and places ascend.
     ensures lawful { IfOk result IsLawful }
 {
-    let mut row = new_row(alloc)?;
-    let mut reader = ReaderBuilder::new()
-        .has_headers(false)
-        .flexible(true)
-        .from_reader(alloc, bytes);
     let mut script = Script::new(alloc);
-    let mut sessions = OpenSessions::new();
-    for place in 1..MOST_RECORDS + 2 {
-        match read_row(&mut reader, &mut row) {
-            Ok(true) => take(alloc, place, &mut script, &mut sessions, &row)?,
-            Ok(false) => return Ok(script),
-            Err(e) => return Err(e),
-        }
+    match read_all(alloc, bytes, &mut script) {
+        Ok(()) => Ok(script),
+        Err(e) => Err(e),
     }
-    unreachable!()
 }
 
 // Records may differ in length, and bytes are not read as text. No clause of the CSV reader rules out its `Io` over bytes

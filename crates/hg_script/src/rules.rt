@@ -61,17 +61,13 @@ impl Ask {
         ensures { result ≡ ask_number_breaks self.now }
     {
         match self {
-            Ask::Begin { .. } => false,
-            Ask::Get { key, .. } => key.is_no(),
+            Ask::Get { key, .. } | Ask::Del { key, .. } => key.is_no(),
             Ask::Put { key, values, .. } => key.is_no() || values.is_no(),
-            Ask::Del { key, .. } => key.is_no(),
-            Ask::Scan { low, high, .. } => low.is_no() || high.is_no(),
-            Ask::CursorOpen { low, high, .. } => low.is_no() || high.is_no(),
+            Ask::Scan { low, high, .. } | Ask::CursorOpen { low, high, .. } => {
+                low.is_no() || high.is_no()
+            }
             Ask::Fetch { most } => most.is_no(),
-            Ask::CursorClose => false,
-            Ask::Commit => false,
-            Ask::Rollback => false,
-            Ask::Gc { .. } => false,
+            _ => false,
         }
     }
 
@@ -79,17 +75,13 @@ impl Ask {
         ensures { result ≡ ask_range_breaks self.now }
     {
         match self {
-            Ask::Begin { .. } => false,
-            Ask::Get { key, .. } => key.is_over(),
+            Ask::Get { key, .. } | Ask::Del { key, .. } => key.is_over(),
             Ask::Put { key, values, .. } => key.is_over() || values.is_over(),
-            Ask::Del { key, .. } => key.is_over(),
-            Ask::Scan { low, high, .. } => low.is_over() || high.is_over(),
-            Ask::CursorOpen { low, high, .. } => low.is_over() || high.is_over(),
+            Ask::Scan { low, high, .. } | Ask::CursorOpen { low, high, .. } => {
+                low.is_over() || high.is_over()
+            }
             Ask::Fetch { most } => !most.is_between(1, MOST_FETCHED),
-            Ask::CursorClose => false,
-            Ask::Commit => false,
-            Ask::Rollback => false,
-            Ask::Gc { .. } => false,
+            _ => false,
         }
     }
 
@@ -98,16 +90,13 @@ impl Ask {
     {
         match self {
             Ask::Begin { scope } => !scope.is_some(),
-            Ask::Get { table, .. } => !table.is_some(),
-            Ask::Put { table, .. } => !table.is_some(),
-            Ask::Del { table, .. } => !table.is_some(),
-            Ask::Scan { table, .. } => !table.is_some(),
-            Ask::CursorOpen { table, .. } => !table.is_some(),
-            Ask::Fetch { .. } => false,
-            Ask::CursorClose => false,
-            Ask::Commit => false,
-            Ask::Rollback => false,
+            Ask::Get { table, .. }
+            | Ask::Put { table, .. }
+            | Ask::Del { table, .. }
+            | Ask::Scan { table, .. }
+            | Ask::CursorOpen { table, .. } => !table.is_some(),
             Ask::Gc { kind } => !kind.is_some(),
+            _ => false,
         }
     }
 
@@ -115,17 +104,8 @@ impl Ask {
         ensures { result ≡ ask_columns_breaks tables.now self.now }
     {
         match self {
-            Ask::Begin { .. } => false,
-            Ask::Get { .. } => false,
             Ask::Put { table, values, .. } => { kinds_at(tables, *table).len() != values.count() }
-            Ask::Del { .. } => false,
-            Ask::Scan { .. } => false,
-            Ask::CursorOpen { .. } => false,
-            Ask::Fetch { .. } => false,
-            Ask::CursorClose => false,
-            Ask::Commit => false,
-            Ask::Rollback => false,
-            Ask::Gc { .. } => false,
+            _ => false,
         }
     }
 
@@ -133,17 +113,8 @@ impl Ask {
         ensures { result ≡ ask_value_breaks self.now }
     {
         match self {
-            Ask::Begin { .. } => false,
-            Ask::Get { .. } => false,
             Ask::Put { values, .. } => values.is_bad(),
-            Ask::Del { .. } => false,
-            Ask::Scan { .. } => false,
-            Ask::CursorOpen { .. } => false,
-            Ask::Fetch { .. } => false,
-            Ask::CursorClose => false,
-            Ask::Commit => false,
-            Ask::Rollback => false,
-            Ask::Gc { .. } => false,
+            _ => false,
         }
     }
 
@@ -151,16 +122,10 @@ impl Ask {
         ensures { result ≡ ask_order_breaks within reading self.now }
     {
         match self {
-            Ask::Begin { .. } => within || reading,
-            Ask::Get { .. } => reading,
-            Ask::Put { .. } => reading,
-            Ask::Del { .. } => reading,
-            Ask::Scan { .. } => reading,
-            Ask::CursorOpen { .. } => within || reading,
-            Ask::Fetch { .. } => !reading,
-            Ask::CursorClose => !reading,
-            Ask::Commit => !within,
-            Ask::Rollback => !within,
+            Ask::Begin { .. } | Ask::CursorOpen { .. } => within || reading,
+            Ask::Get { .. } | Ask::Put { .. } | Ask::Del { .. } | Ask::Scan { .. } => reading,
+            Ask::Fetch { .. } | Ask::CursorClose => !reading,
+            Ask::Commit | Ask::Rollback => !within,
             Ask::Gc { .. } => false,
         }
     }

@@ -138,34 +138,19 @@ impl Values {
     pub(crate) fn is_no(&self) -> bool
         ensures { result ≡ is_no_values self.now }
     {
-        match self {
-            Values::No => true,
-            Values::Over => false,
-            Values::Bad(_) => false,
-            Values::Are(_) => false,
-        }
+        matches!(self, Values::No)
     }
 
     pub(crate) fn is_over(&self) -> bool
         ensures { result ≡ is_over_values self.now }
     {
-        match self {
-            Values::No => false,
-            Values::Over => true,
-            Values::Bad(_) => false,
-            Values::Are(_) => false,
-        }
+        matches!(self, Values::Over)
     }
 
     pub(crate) fn is_bad(&self) -> bool
         ensures { result ≡ is_bad_values self.now }
     {
-        match self {
-            Values::No => false,
-            Values::Over => false,
-            Values::Bad(_) => true,
-            Values::Are(_) => false,
-        }
+        matches!(self, Values::Bad(_))
     }
 
     /// The row that they are.

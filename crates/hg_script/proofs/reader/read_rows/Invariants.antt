@@ -5,7 +5,7 @@ use Rattle.csv.specs.declared.reader.Trim.TheVariants as trim
 use Rattle.hg_script.specs.Meaning.{refusal_of, script_of}
 use Rattle.hg_script.specs.Numbered.{next_place}
 use Rattle.hg_script.specs.Sessions.{KnowsSessions}
-use Rattle.hg_script.proofs.reader.read_script.Given as goal
+use Rattle.hg_script.proofs.reader.read_rows.Given as goal
 
 abbrev pub invariant-loop-place : goal.invariant-loop-place
 invariant-loop-place l = record {
