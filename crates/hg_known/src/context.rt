@@ -254,7 +254,6 @@ impl Context {
     {
         keep_stored(&mut self.stored, wants.stored, said)?;
         keep_number(&mut self.numbers, wants.numbers, said)?;
-        keep_point(&mut self.points, wants.points, said)?;
-        Ok(())
+        keep_point(&mut self.points, wants.points, said)
     }
 }

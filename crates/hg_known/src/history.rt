@@ -17,7 +17,7 @@ ghost use Rattle.hg_known.specs.Context.{IsContext, wants_of};
 ghost use Rattle.hg_known.specs.Ended.{IsOpen};
 ghost use Rattle.hg_known.specs.Joined.{IsJoined, Clashes};
 ghost use Rattle.hg_known.specs.Shown.{Shows, Adds, printed};
-ghost use Rattle.hg_known.specs.Tallied.{IsTally};
+ghost use Rattle.hg_known.specs.Tallied.{AreTallied, IsTally};
 
 use crate::context::{Context, find_wants};
 use crate::gathered::{Gathered, gather};
@@ -151,20 +151,14 @@ pub(crate) fn has_each(commits: &Commits) -> bool
     true
 }
 
-/// The history that the lines give, if the printed numbers give one.
-pub fn read_history(alloc: Global, all: &Lines<'_>, is_run: bool) -> Result<Option<Past>, NoMemory>
-    requires { EachAfter IsOpen [] all.now }
-    ensures { IfOk result (λ found.
-        MatchOption found (¬ IsWhole all.now) (λ past.
-        IsWhole all.now × IsOfHistory (history_of all.now) past.writes ×
-        (length (history_of all.now) ≡ past.groups) × IsTally past.tally all.now ×
-        IsContext (wants_of is_run all.now) past.context (onto all.now []))) }
+// What is kept of what was gathered of all lines.
+fn past_of(gathered: Gathered) -> Past
+    ensures writes { result.writes ≡ gathered.commits.writes }
+    ensures groups { result.groups ≡ gathered.commits.greatest }
+    ensures tally { (all : List script.Said) → AreTallied gathered.versions (onto all []) →
+        IsTally result.tally all }
+    ensures context { result.context ≡ gathered.context }
 {
-    let wants = find_wants(all, is_run);
-    let mut gathered = Gathered::new(alloc);
-    if !gather(alloc, all, wants, &mut gathered)? {
-        return Ok(None);
-    }
     let Gathered {
         context,
         own: _,
@@ -177,12 +171,30 @@ pub fn read_history(alloc: Global, all: &Lines<'_>, is_run: bool) -> Result<Opti
         numbers: _,
         greatest,
     } = commits;
-    Ok(Some(Past {
+    Past {
         writes,
         groups: greatest,
         tally: versions.tally(),
         context,
-    }))
+    }
+}
+
+/// The history that the lines give, if the printed numbers give one.
+pub fn read_history(alloc: Global, all: &Lines<'_>, is_run: bool) -> Result<Option<Past>, NoMemory>
+    requires { EachAfter IsOpen [] all.now }
+    ensures { IfOk result (λ found.
+        MatchOption found (¬ IsWhole all.now) (λ past.
+        IsWhole all.now × IsOfHistory (history_of all.now) past.writes ×
+        (length (history_of all.now) ≡ past.groups) × IsTally past.tally all.now ×
+        IsContext (wants_of is_run all.now) past.context (onto all.now []))) }
+{
+    let wants = find_wants(all, is_run);
+    let mut gathered = Gathered::new(alloc);
+    match gather(alloc, all, wants, &mut gathered) {
+        Ok(true) => Ok(Some(past_of(gathered))),
+        Ok(false) => Ok(None),
+        Err(e) => Err(e),
+    }
 }
 
 // Whether no write of the record is numbered over a snapshot and below a number.

@@ -54,3 +54,17 @@ returns-clause-rests c =
     let some : nat_lt 0 c.stand-now.result.transaction ≡ true = grind (arith, nat_tests) in
     rests_more c.args.lasts.now c.insert.new.self earlier c.args.asked c.args.reply.now (said_of c.stand-now.result) c.left.result c.stand-now.result.rest is rests some rest
     c.left.ensures.rest c.in_ok-insert.ensures.updates.0
+
+pub returns-clause-said : goal.returns-clause-said
+returns-clause-said c =
+    λ earlier lasts.
+    let j = c.args.asked.session in
+    let last : c.copied-last.result ≡ get nat_cmp c.args.lasts.now j = c.copied-last.ensures ∙ c.get.ensures.value in
+    c.stand-now.ensures.said (last_of j earlier) (sym (ap (option_map without_rest) last ∙ lasts j))
+
+pub returns-then-now-eq0-clause-said : goal.returns-then-now-eq0-clause-said
+returns-then-now-eq0-clause-said c =
+    λ earlier lasts.
+    let j = c.args.asked.session in
+    let last : c.copied-last.result ≡ get nat_cmp c.args.lasts.now j = c.copied-last.ensures ∙ c.get.ensures.value in
+    c.stand-now.ensures.said (last_of j earlier) (sym (ap (option_map without_rest) last ∙ lasts j))
