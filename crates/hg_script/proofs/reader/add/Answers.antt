@@ -2,6 +2,9 @@ use Rattle.std.proofs.Common.{◌∙◌, sym, ap, refl}
 use Rattle.csv.specs.Records.{fields_of}
 use Rattle.hg_script.specs.Draft.{table_named}
 use Rattle.hg_script.specs.Numbered.{next_place}
+use Rattle.std.proofs.lemmas.Bool.{or_parts}
+use Rattle.hg_base.specs.declared.limits.TheConstants.{MOST_SESSIONS}
+use Rattle.hg_script.proofs.Growth.{lies}
 use Rattle.hg_script.proofs.Declared.{MayDeclare, may_declare}
 use Rattle.hg_script.proofs.Lawful.{version-first}
 use Rattle.hg_script.proofs.reader.add.Goals as goal
@@ -22,3 +25,8 @@ declare-requires-clause-fresh c = ap (table_named c.args.script.now.tables) (ap 
 
 pub declare-requires-clause-first : goal.declare-requires-clause-first
 declare-requires-clause-first c = (may c).first
+
+pub add_asked-requires-clause-session : goal.add_asked-requires-clause-session
+add_asked-requires-clause-session c =
+    let kept = rw c.in-Session.is at c.requires.kept in
+    (lies 1 MOST_SESSIONS c.in-Session.session (or_parts _ _ kept.1).0).most
