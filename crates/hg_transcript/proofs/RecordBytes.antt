@@ -24,3 +24,9 @@ pub fields_more : {X : Type 0} (field : X → Field) (old front now : List ℕ) 
     front ≡ old ++ flat_map further_bytes (map field (take i row)) → now ≡ front ++ further_bytes (field (get_or row i d))
     → now ≡ old ++ flat_map further_bytes (map field (take (i + 1) row))
 fields_more field old front now row i d h e f = rw (f, e, take_more row i d h, map-append, flat_map-append) (simp (append_assoc, append-nil))
+
+-- the records of one item more
+pub records_more : {X : Type 0} (records : X → List (List Field)) (old front now : List ℕ) (xs : List X) (i : ℕ) (d : X) → i < length xs →
+    front ≡ old ++ flat_map record_bytes (flat_map records (take i xs)) → now ≡ front ++ flat_map record_bytes (records (get_or xs i d))
+    → now ≡ old ++ flat_map record_bytes (flat_map records (take (i + 1) xs))
+records_more records old front now xs i d h e f = rw (f, e, take_more xs i d h, flat_map-append, flat_map-append) (simp (append_assoc, append-nil))
