@@ -30,3 +30,9 @@ pub records_more : {X : Type 0} (records : X → List (List Field)) (old front n
     front ≡ old ++ flat_map record_bytes (flat_map records (take i xs)) → now ≡ front ++ flat_map record_bytes (records (get_or xs i d))
     → now ≡ old ++ flat_map record_bytes (flat_map records (take (i + 1) xs))
 records_more records old front now xs i d h e f = rw (f, e, take_more xs i d h, flat_map-append, flat_map-append) (simp (append_assoc, append-nil))
+
+-- the record of one item more, where each has one
+pub record_more : {X : Type 0} (whole : List Field → List Field) (fields : X → List Field) (old front now : List ℕ) (xs : List X) (i : ℕ) (d : X) → i < length xs →
+    front ≡ old ++ flat_map record_bytes (map whole (map fields (take i xs))) → now ≡ front ++ record_bytes (whole (fields (get_or xs i d)))
+    → now ≡ old ++ flat_map record_bytes (map whole (map fields (take (i + 1) xs)))
+record_more whole fields old front now xs i d h e f = rw (f, e, take_more xs i d h) (simp (map-append, flat_map-append, append_assoc, append-nil))
