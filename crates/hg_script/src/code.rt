@@ -35,7 +35,7 @@ impl fmt::Display for Code {
             Code::Value => "Value",
             Code::Order => "Order",
         };
-        write!(f, "{name}")
+        f.write_str(name)
     }
 }
 

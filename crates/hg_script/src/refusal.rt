@@ -5,7 +5,7 @@ use hg_base::NoMemory;
 use thiserror::Error;
 
 /// The first record that breaks a rule, or want of memory.
-#[derive(Clone, Copy, Debug, Error)]
+#[derive(Clone, Copy, Debug, PartialEq, Eq, Error)]
 pub enum ScriptRefusal {
     /// The record's number among all records, counted from 1, and the first rule that it breaks.
     #[error("record {line}: {code}")]
