@@ -61,7 +61,7 @@ impl fmt::Display for Why {
             Why::Fresh => "Fresh",
             Why::Totals => "Totals",
         };
-        write!(f, "{name}")
+        f.write_str(name)
     }
 }
 
@@ -73,7 +73,7 @@ impl fmt::Display for Verdict {
 
     fn fmt<W: fmt::Write>(&self, f: &mut fmt::Formatter<W>) -> fmt::Result {
         match self {
-            Verdict::Sound => write!(f, "sound"),
+            Verdict::Sound => f.write_str("sound"),
             Verdict::Unsound { line, why } => write!(f, "unsound,{line},{why}"),
         }
     }
