@@ -4,7 +4,7 @@
 //! `join_commit`) and leaves it again (`split_bucket`, `split_commit`). Each join loads the mark, and so learns all that the rule says
 //! of the view (`look_at`, `know_all`).
 
-ghost use Rattle.std.specs.Prelude.{◌≡◌, ℕ, ◌<◌, ◌^◌};
+ghost use Rattle.std.specs.Prelude.{◌≡◌, ℕ, ◌<◌, ◌^◌, []};
 ghost use Rattle.atomic_table.specs.Table.{State};
 ghost use Rattle.hg_core.specs.Invariant.{IsSteady};
 ghost use Rattle.hg_rule.specs.declared.view.View.{View};
@@ -14,15 +14,15 @@ ghost use Rattle.hg_rule.specs.Rules.{Rule, HasRoom};
 ghost use Rattle.hg_rule.specs.Moves.{first_view};
 ghost use Rattle.hg_rule.specs.Reading.{read};
 
-use crate::maker::{deal, deal_pass};
+use crate::maker::deal_all;
 use crate::moves::{Arriving, Departing, Joining, Resigning};
-use crate::passes::{BucketSeat, BucketSeatList, CommitSeat, Pass, Seats, SessionPassList};
+use crate::passes::{BucketSeat, CommitSeat, Pass, Seats};
 use crate::steps::{Looking, Sized};
 use crate::view::{Sizes, View};
 use crate::words::words_for;
-use atomic_table::{Table, TableRule};
+use atomic_table::{Seat, Table, TableRule};
 use hg_base::NoMemory;
-use std::alloc::Global;
+use std::alloc::{AllocError, Global};
 use std::marker::Brand;
 
 /// The rule over the words and the views.
@@ -48,6 +48,21 @@ impl Board {
     ghost use Rattle.std.specs.Prelude.{◌≡◌, ◌*◌, ◌^◌, ◌≤◌, length, IfOk};
     ghost use Rattle.hg_rule.specs.Seats.{board_id, sizes_of};
     ghost use Rattle.hg_rule.specs.New.{EachFrom, IsNewSession, IsNewBucket, IsNewPass, IsNewCommit};
+
+    // A board whose first seat, the maker's, has all parts.
+    fn unseated(alloc: Global, sizes: &Sizes) -> Result<(Board, Seat<u8, View>), AllocError>
+        requires room { HasRoom sizes.now }
+        requires sessions { sizes.now.sessions < 2 ^ 32 }
+        ensures sizes { IfOk result (λ b. sizes_of b.0 ≡ sizes.now) }
+        ensures maker { IfOk result (λ b.
+            (b.1.table_id ≡ board_id b.0) × (b.1.me ≡ (first_view sizes.now, []))) }
+    {
+        let words = vec![in alloc; 0u64; words_for(sizes.sessions)]?;
+        match Table::of_words(alloc, words.as_slice(), sizes) {
+            Ok((table, maker)) => Ok((Board { table }, maker)),
+            Err(e) => Err(e),
+        }
+    }
 
     /// A board of these sizes, and each of its seats. Its mark is 0, its registers are idle, its masks are 0, and no seat has made a
     /// step yet.
@@ -79,24 +94,11 @@ impl Board {
             buckets,
             quota,
         };
-        let words = vec![in alloc; 0u64; words_for(sessions)]?;
-        let (table, mut maker) = Table::of_words(alloc, words.as_slice(), &sizes)?;
-        let board = Board { table };
-        let passes = deal(&board, alloc, &mut maker, 1, sessions)?;
-        let seats = deal(&board, alloc, &mut maker, 0, buckets)?;
-        let group = deal_pass(&board, &mut maker);
-        let table = deal_pass(&board, &mut maker);
-        let interval = deal_pass(&board, &mut maker);
-        let commit = CommitSeat { seat: maker };
-        let seats = Seats {
-            sessions: SessionPassList::from(passes),
-            buckets: BucketSeatList::from(seats),
-            commit,
-            group,
-            table,
-            interval,
-        };
-        Ok((board, seats))
+        let (board, maker) = Board::unseated(alloc, &sizes)?;
+        match deal_all(&board, alloc, maker, sizes) {
+            Ok(seats) => Ok((board, seats)),
+            Err(e) => Err(NoMemory::from(e)),
+        }
     }
 }
 

@@ -5,14 +5,16 @@ ghost use Rattle.atomic_table.specs.declared.shared.Seat.{Seat};
 ghost use Rattle.hg_rule.specs.declared.view.View.{View};
 ghost use Rattle.hg_rule.specs.declared.view.Part.{Part};
 ghost use Rattle.hg_rule.specs.Views.{seeing};
-ghost use Rattle.hg_rule.specs.Moves.{run, session_part, bucket_part};
+ghost use Rattle.hg_rule.specs.Moves.{run, session_part, bucket_part, first_view};
 ghost use Rattle.hg_rule.specs.Seats.{board_id, view, IsSeatOf};
-ghost use Rattle.hg_rule.specs.New.{EachFrom, IsNew, IsNewFirst};
+ghost use Rattle.hg_rule.specs.New.{EachFrom, IsNew, IsNewFirst, IsNewSession, IsNewBucket, IsNewPass, IsNewCommit};
 
 use crate::board::Board;
 use crate::moves::Dealing;
-use crate::passes::{BucketSeat, CollectorPass, SessionPass};
-use crate::view::View;
+use crate::passes::{
+    BucketSeat, BucketSeatList, CollectorPass, CommitSeat, Seats, SessionPass, SessionPassList,
+};
+use crate::view::{Sizes, View};
 use atomic_table::Seat;
 use std::alloc::{AllocError, Global};
 
@@ -100,4 +102,42 @@ pub(crate) fn deal_pass(board: &Board, maker: &mut Seat<u8, View>) -> CollectorP
 {
     let seat = board.table.shared.split_seat::<Dealing>(maker);
     CollectorPass { seat }
+}
+
+// Each part of the maker's, which has all of a new board's, goes to the seat that it is for.
+pub(crate) fn deal_all(
+    board: &Board,
+    alloc: Global,
+    mut maker: Seat<u8, View>,
+    sizes: Sizes,
+) -> Result<Seats, AllocError>
+    requires own { (maker.table_id ≡ board_id board.now) × (maker.me ≡ (first_view sizes, [])) }
+    ensures sessions { IfOk result (λ s.
+        (length s.sessions ≡ sizes.sessions) ×
+        EachFrom (IsNewSession (board_id board.now)) 1 s.sessions) }
+    ensures buckets { IfOk result (λ s.
+        (length s.buckets ≡ sizes.buckets) ×
+        EachFrom (IsNewBucket (board_id board.now)) 0 s.buckets) }
+    ensures commit { IfOk result (λ s. IsNewCommit (board_id board.now) s.commit) }
+    ensures passes { IfOk result (λ s.
+        IsNewPass (board_id board.now) 0 s.group × IsNewPass (board_id board.now) 1 s.table ×
+        IsNewPass (board_id board.now) 2 s.interval) }
+{
+    let sessions = deal(board, alloc, &mut maker, 1, sizes.sessions)?;
+    match deal(board, alloc, &mut maker, 0, sizes.buckets) {
+        Ok(buckets) => {
+            let group = deal_pass(board, &mut maker);
+            let table = deal_pass(board, &mut maker);
+            let interval = deal_pass(board, &mut maker);
+            Ok(Seats {
+                sessions: SessionPassList::from(sessions),
+                buckets: BucketSeatList::from(buckets),
+                commit: CommitSeat { seat: maker },
+                group,
+                table,
+                interval,
+            })
+        }
+        Err(e) => Err(e),
+    }
 }
