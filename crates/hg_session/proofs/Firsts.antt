@@ -84,6 +84,12 @@ bare log was r none h = absurd (let q = subst (λ ws. IsSome (image_in r ws)) no
 first_later : (v w x : View) (r : Rid) (at : ℕ) (a : Answer) → StartsWith x.sights w.sights → ShownFirst v r at a w → ShownFirst v r at a x
 first_later v w x r at a s h = record { logs = h.logs; heard = λ k. heard_on k (h.logs k) w.sights x.sights s (h.heard k); goes = h.goes; first = h.first }
 
+-- a refusal shows what it does, whatever the answer would have been
+pub write_told : (v w : View) (r : Rid) (at : ℕ) (e : WriteRefusal) → ShowsWrite {T = Bool} v r at (Err e) w → ShowsWrite {T = ⊤} v r at (Err e) w
+write_told v w r at (Newer n) h = h
+write_told v w r at (Open j y) h = tt
+write_told v w r at NoMemory h = tt
+
 -- a refused write as the put that it refuses
 pub put_told : (T : Type 0) (v w : View) (r : Rid) (at : ℕ) (e : WriteRefusal) → ShowsWrite {T = ⊤} v r at (Err e) w → ShowsPut {T = T} v r at (Err (refused_at at e)) w
 put_told T v w r at (Newer n) h = h
@@ -126,13 +132,17 @@ module _ (v u w x : View) (b : ℕ) (rid : Rid) (image : Image) (answer : Result
       subst (ShowsAnswer k.looks.logs (session v).log (number v) at rid) is (subst (λ (q : (ℕ × SessionPart) × ℕ). ShowsAnswer k.looks.logs q.0.1.log q.0.0 q.1 rid answer)
       (λ i. ((n i, p i), sym same i)) k.first)
 
-  pub stored_shown : (at : ℕ) (t : Bool) → at ≡ snapshot u → answer ≡ Ok t → ShownFirst v rid at answers.Stored x
+  stored_shown : (at : ℕ) (t : Bool) → at ≡ snapshot u → answer ≡ Ok t → ShownFirst v rid at answers.Stored x
   stored_shown at t same is = shown at answers.Stored (answered at (Ok t) same is)
 
-  pub refused_shown : (at : ℕ) (e : WriteRefusal) → at ≡ snapshot u → answer ≡ Err e → ShowsWrite {T = ⊤} v rid at (Err e) x
+  refused_shown : (at : ℕ) (e : WriteRefusal) → at ≡ snapshot u → answer ≡ Err e → ShowsWrite {T = Bool} v rid at (Err e) x
   refused_shown at (Newer n) same is = shown at (answers.Newer n) (answered at (Err (Newer n)) same is)
   refused_shown at (Open j y) same is = tt
   refused_shown at NoMemory same is = tt
+
+  pub write_shown : (at : ℕ) (a : Result Bool WriteRefusal) → at ≡ snapshot u → answer ≡ a → ShowsWrite v rid at a x
+  write_shown at (Ok t) same is = stored_shown at t same is
+  write_shown at (Err e) same is = refused_shown at e same is
 
 -- ---- with the reply
 

@@ -1,6 +1,6 @@
 -- A session that reads: that it may, and what it has after it.
 use Rattle.std.proofs.Common.{◌≡◌, ℕ, zero, suc, List, [], ◌∷◌, ◌++◌, Bool, true, false, Option, Some, not, refl, sym, ap, ◌∙◌, subst}
-use Rattle.std.specs.Prelude.{IsTrue, if◌then◌else◌, Result, Ok, Err}
+use Rattle.std.specs.Prelude.{IsTrue, IsFalse, if◌then◌else◌, Result, Ok, Err}
 use Rattle.hg_base.specs.declared.fault.NoMemory.{NoMemory}
 use Rattle.hg_base.specs.declared.rid.Rid.{Rid}
 use Rattle.hg_base.specs.declared.rid.TableId.{TableId}
@@ -27,6 +27,7 @@ use Rattle.hg_session.specs.declared.engine.Engine.{Engine}
 use Rattle.hg_session.specs.declared.session.Session.{Session}
 use Rattle.hg_session.specs.Engines.{engine_board, engine_sizes, engine_store}
 use Rattle.hg_session.specs.Gains.{Gains}
+use Rattle.hg_session.specs.Replies.{IsRefusedIf}
 use Rattle.hg_session.specs.Sessions.{IsIn, pass_of, view_of, left_of, cursor_of, opened_of, written_of}
 use Rattle.hg_session.specs.Ties.{Ties, phase_at}
 use Rattle.hg_session.proofs.Tying.{IsQuiet, ties_quiet, ties_unwritten}
@@ -39,6 +40,16 @@ counted e store same = ap store_buckets same ∙ e.buckets_are
 pub inside_scope : (declared outside : Bool) → outside ≡ not declared → outside ≡ false → IsTrue declared
 inside_scope true outside is within = refl
 inside_scope false outside is within = absurd (let k = sym is ∙ within in cc)
+
+-- and one that is
+pub outside_scope : (declared outside : Bool) → outside ≡ not declared → outside ≡ true → IsFalse declared
+outside_scope true outside is out = absurd (let k = sym is ∙ out in cc)
+outside_scope false outside is out = refl
+
+-- a statement on a declared table is not refused for it
+pub not_undeclared : {T E : Type 0} (snapshot : Snapshot) (table : TableId) (result : Result T E) (e : E) → IsTrue (has snapshot.scope table) → (result ≡ Err e → ⊥) →
+    IsRefusedIf (Some snapshot) table result e
+not_undeclared snapshot table result e declared not_e = (λ no. absurd (let k = sym no ∙ declared in cc), λ is. absurd (not_e is))
 
 -- such a session may read it
 pub may_read : (e : Engine) (begins writes : ℕ) (s : Session) (snapshot : Snapshot) (table : TableId) → IsIn e begins writes s → opened_of s ≡ Some snapshot →

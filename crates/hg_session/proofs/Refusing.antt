@@ -1,6 +1,6 @@
 -- What a call leaves that was refused for want of memory.
 use Rattle.std.proofs.Common.{◌≡◌, inl, inr, ℕ, zero, suc, List, [], ◌∷◌, ◌++◌, Bool, true, false, None, refl, sym, ap, ◌∙◌, subst, append_assoc}
-use Rattle.std.specs.Prelude.{is_some, Some, Err, ⊤, if◌then◌else◌, ◌||◌}
+use Rattle.std.specs.Prelude.{is_some, Some, Result, Err, ⊤, if◌then◌else◌, ◌||◌}
 use Rattle.hg_base.specs.declared.rid.Rid.{Rid}
 use Rattle.hg_base.specs.declared.rid.TableId.{TableId}
 use Rattle.hg_base.specs.declared.image.Image.{Image}
@@ -24,6 +24,13 @@ use Rattle.hg_session.specs.Gains.{Gains, entries_of}
 use Rattle.hg_session.specs.Refused.{IsLookAt, HasLooked, HasGivenUp, taken_back, LeavesNoWrite}
 use Rattle.hg_session.specs.Replies.{refused_at}
 use Rattle.hg_session.proofs.Settling.{gains_on}
+
+-- what refuses a write is not that its table is undeclared
+pub told_apart : {T : Type 0} (at : ℕ) (e : WriteRefusal) (table : TableId) (told : PutRefusal) → told ≡ refused_at at e → (r : Result T PutRefusal) → r ≡ Err told →
+    r ≡ Err (put.Undeclared table) → ⊥
+told_apart at (Open j x) table told is r was same = cc
+told_apart at (Newer n) table told is r was same = cc
+told_apart at NoMemory table told is r was same = cc
 
 -- ---- looks
 

@@ -1,6 +1,6 @@
 -- What a write leaves, by its answer.
 use Rattle.std.proofs.Common.{◌≡◌, ℕ, ◌<◌, List, ◌++◌, Bool, true, false, cond, Option, Some, None, refl, sym, ap, ◌∙◌, subst, arith}
-use Rattle.std.specs.Prelude.{IsFalse, ◌==◌, IfErr, OnOk, OnErr, IfSome, Result, Ok, Err, nat_le, option_and_then}
+use Rattle.std.specs.Prelude.{IsFalse, ◌==◌, IfErr, OnOk, OnErr, IfSome, Result, Ok, Err, nat_le, option_and_then, ⊤}
 use Rattle.std.proofs.lemmas.Option.{none-some}
 use Rattle.std.proofs.lemmas.Bool.Decides.{nat_tests}
 use Rattle.hg_base.specs.declared.rid.Rid.{Rid}
@@ -69,12 +69,18 @@ refused_log n u rid image NoMemory rows c =
     let found : Result Bool WriteRefusal = Ok true in
     ap (λ o. with_refusal rid o (session u).log) (free_at n u rid found true refl (subst (λ o. IfSome o (λ e. found ≡ Err e)) (sym c.0) tt))
 
+-- what a refusal logs, whatever the answer would have been
+pub refused_entries : (rid : Rid) (image : Image) (e : WriteRefusal) → entries_of {T = Bool} rid image (Err e) ≡ entries_of {T = ⊤} rid image (Err e)
+refused_entries rid image (Open j x) = refl
+refused_entries rid image (Newer n) = refl
+refused_entries rid image NoMemory = refl
+
 module _ (j b : ℕ) (part : SessionPart) (old : List Sight) (rid : Rid) (image : Image) (answer : Result Bool WriteRefusal) (u w x : View) (h : Beside j part b old u)
     (k : Writes u rid image answer w) (gives : x ≡ without_bucket w) where
   same_part : session u ≡ part
   same_part = first_session u j part _ h.parts
 
-  pub trip_refused : (e : WriteRefusal) → answer ≡ Err e → Trip j (with_log (entries_of {T = Bool} rid image (Err e) ++ part.log) part) b old w x
+  trip_refused : (e : WriteRefusal) → answer ≡ Err e → Trip j (with_log (entries_of {T = Bool} rid image (Err e) ++ part.log) part) b old w x
   trip_refused e is =
       let cause = subst (λ a. IfErr a (IsCause k.mark u rid)) is k.cause in
       let stays = subst (λ a. OnErr a (w ≡ k.looked)) is k.stays in
@@ -85,7 +91,7 @@ module _ (j b : ℕ) (part : SessionPart) (old : List Sight) (rid : Rid) (image 
       let heard = subst (λ (v : View). IsAmong (Heard j (entries_of {T = Bool} rid image (Err e) ++ part.log)) v.sights) (sym stays) (subst (λ y. IsAmong (Heard j y) k.looked.sights) log l.1) in
       trip j b _ old w x here heard gives
 
-  pub trip_stored : (t : Bool) → answer ≡ Ok t → Trip j (with_entry (Wrote rid image) part) b old w x
+  trip_stored : (t : Bool) → answer ≡ Ok t → Trip j (with_entry (Wrote rid image) part) b old w x
   trip_stored t is =
       let none = free_at k.mark u rid answer t is k.refuses in
       let stored = subst (λ a. OnOk a (Installs k.looked rid image w)) is k.stored in
@@ -95,7 +101,7 @@ module _ (j b : ℕ) (part : SessionPart) (old : List Sight) (rid : Rid) (image 
       let i = installed j part b old rid image k.looked w there stored in
       trip j b _ old w x i.0 i.1 gives
 
-  pub refused_told : (z : Sizes) (v : View) (at : ℕ) (e : WriteRefusal) → answer ≡ Err e → number v ≡ j → old ≡ v.sights → at ≡ snapshot u →
+  refused_told : (z : Sizes) (v : View) (at : ℕ) (e : WriteRefusal) → answer ≡ Err e → number v ≡ j → old ≡ v.sights → at ≡ snapshot u →
       IfErr answer (IsAnothers z (number u)) → IsRefusedBy z v at e
   refused_told z v at (Open i y) is n s a owner =
       let o : Writer = record { session = i; transaction = y } in
@@ -108,3 +114,12 @@ module _ (j b : ℕ) (part : SessionPart) (old : List Sight) (rid : Rid) (image 
       subst (λ y. y < m) (sym a) (over_snapshot k.mark (snapshot u) m (writer u) (unpublished k.mark (held u rid)) (newest_at k.mark (held u rid))
       (told_newer (refusal k.mark (writer u) (snapshot u) (held u rid)) m cause))
   refused_told z v at NoMemory is n s a owner = tt
+
+  pub trip_written : (a : Result Bool WriteRefusal) → answer ≡ a → Trip j (with_log (entries_of {T = Bool} rid image a ++ part.log) part) b old w x
+  trip_written (Ok t) is = trip_stored t is
+  trip_written (Err e) is = trip_refused e is
+
+  pub told : (z : Sizes) (v : View) (at : ℕ) (a : Result Bool WriteRefusal) → answer ≡ a → number v ≡ j → old ≡ v.sights → at ≡ snapshot u → IfErr answer (IsAnothers z (number u)) →
+      IfErr a (IsRefusedBy z v at)
+  told z v at (Ok t) is n s same owner = tt
+  told z v at (Err e) is n s same owner = refused_told z v at e is n s same owner

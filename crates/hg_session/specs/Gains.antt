@@ -73,6 +73,11 @@ pub record HasUndone (old : View) (rids : List Rid) (new : View) : Type 0 where
   pub alone : Alone (number old) (with_log (map Undid rids ++ (session old).log) (session old)) old.sights new
   pub heard : (rids ≡ []) ⊎ IsAmong (Heard (number old) (map Undid rids ++ (session old).log)) new.sights
 
+-- a view that has the session's part alone, whose log has what a write leaves there by its answer
+pub record HasWritten (old : View) (rid : Rid) (image : Image) (answer : Result Bool WriteRefusal) (new : View) : Type 0 where
+  pub alone : Alone (number old) (with_log (entries_of rid image answer ++ (session old).log) (session old)) old.sights new
+  pub heard : IsAmong (Heard (number old) (entries_of rid image answer ++ (session old).log)) new.sights
+
 -- The receipt of a commit says its place: the commit is there in a history that the session has seen.
 pub record HasPlace (old new : View) (receipt : Receipt) : Type 0 where
   pub history : History

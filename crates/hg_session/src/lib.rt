@@ -37,6 +37,7 @@ mod session_list;
 mod settlement;
 mod statements;
 mod totals;
+mod write;
 
 pub use answers::{Deleted, Ended, GetRefusal, PutRefusal, Read, Scanned, Written};
 pub use engine::{Engine, Passes, TableDecl};

@@ -28,11 +28,11 @@ use crate::put::{put_alone, put_inside};
 use crate::rollback::undo_open;
 use crate::scan::{scan_alone, scan_inside};
 use crate::session::Session;
+use crate::write::write_one;
 use hg_base::{Image, NoMemory, Rid, Row, Scope, Snapshot, TableId};
 use hg_bucket::WriteRefusal;
 use hg_cursor::Range;
 use hg_rule::Ask;
-use hg_store::Author;
 use std::sync::Wait;
 
 // What a transaction that is one statement declares.
@@ -243,19 +243,15 @@ impl Session {
         ensures own { IsIn engine.now 0 0 self.new }
     {
         self.written.reserve()?;
-        let board = engine.board();
-        let author = Author {
-            writer: self.pass.writer(),
-            snapshot: snapshot.at,
-        };
-        let bucket = engine.store.bucket_of(rid);
-        let mut held = engine.store.take(rt, board, bucket, &mut self.pass);
-        let written = held.write(board, &mut self.pass, rid, image, author);
-        held.give(board, &mut self.pass);
-        if written? {
-            self.written.push_reserved(rid);
+        let tables = engine.tables();
+        match write_one(rt, &tables, &mut self.pass, rid, image, snapshot.at) {
+            Ok(true) => {
+                self.written.push_reserved(rid);
+                Ok(())
+            }
+            Ok(false) => Ok(()),
+            Err(refusal) => Err(refusal),
         }
-        Ok(())
     }
 
     // Writes, and commits the transaction, which is this one write.

@@ -17,7 +17,7 @@ use Rattle.hg_core.specs.Shown.{HasOpen, reads_at}
 use Rattle.hg_base.specs.declared.line.Answer.TheVariants as answers
 use Rattle.hg_session.proofs.Replying.{undeclared_inside}
 use Rattle.hg_session.proofs.Putting.{stored_inside, refused_inside}
-use Rattle.hg_session.proofs.Reading.{inside_scope, no_more_writes}
+use Rattle.hg_session.proofs.Reading.{inside_scope, no_more_writes, outside_scope}
 use Rattle.hg_session.proofs.Ranged.{dels, with_found, saw_found, found_row, no_row, nothing_inside}
 use Rattle.hg_session.proofs.Refusing.{looked_before}
 use Rattle.hg_session.proofs.Settling.{gains_on, refused_before}
@@ -29,7 +29,7 @@ pub returns-then-is_outside-clause-reply : goal.returns-then-is_outside-clause-r
 returns-then-is_outside-clause-reply g c =
     let z = engine_sizes c.args.engine.now in
     let v = view_of c.args.session.now in
-    let opened : current (session v).log ≡ Some c.args.snapshot = search rules in
+    let opened : current (session v).log ≡ Some c.args.snapshot = c.requires.own.ties.opens ∙ c.requires.opened in
     let gains = subst (λ b. Gains v (outside_entries b c.args.rid.table) (view_of c.is_outside.new.self)) c.if-is_outside.true c.is_outside.ensures.gains in
     record { answers = undeclared_inside z v (view_of c.is_outside.new.self) c.args.snapshot (say.Del c.args.rid) c.args.rid.table opened refl refl tt refl gains; first = tt }
 
@@ -39,7 +39,7 @@ returns-then-not-see_there-clause-reply g c =
     let v = view_of c.args.session.now in
     let m = view_of c.is_outside.new.self in
     let w = view_of c.see_there.new.session in
-    let opened : current (session v).log ≡ Some c.args.snapshot = search rules in
+    let opened : current (session v).log ≡ Some c.args.snapshot = c.requires.own.ties.opens ∙ c.requires.opened in
     let none = subst (λ b. Gains v (outside_entries b c.args.rid.table) m) c.if-is_outside.false c.is_outside.ensures.gains in
     let absent : false ≡ is_some c.see_there.ensures.gains.0 = search rules in
     let row = no_row c.see_there.ensures.gains.0 absent in
@@ -54,7 +54,7 @@ returns-in-Ok-clause-reply g c =
     let n = view_of c.see_there.new.session in
     let w = view_of c.write_row.new.self in
     let rid = c.args.rid in
-    let opened : current (session v).log ≡ Some c.args.snapshot = search rules in
+    let opened : current (session v).log ≡ Some c.args.snapshot = c.requires.own.ties.opens ∙ c.requires.opened in
     let none = subst (λ b. Gains v (outside_entries b rid.table) m) c.if-is_outside.false c.is_outside.ensures.gains in
     let there : true ≡ is_some c.see_there.ensures.gains.0 = search rules in
     let row = found_row c.see_there.ensures.gains.0 there in
@@ -76,7 +76,7 @@ returns-in-Err-clause-reply g c =
     let n = view_of c.see_there.new.session in
     let w = view_of c.write_row.new.self in
     let rid = c.args.rid in
-    let opened : current (session v).log ≡ Some c.args.snapshot = search rules in
+    let opened : current (session v).log ≡ Some c.args.snapshot = c.requires.own.ties.opens ∙ c.requires.opened in
     let none = subst (λ b. Gains v (outside_entries b rid.table) m) c.if-is_outside.false c.is_outside.ensures.gains in
     let there : true ≡ is_some c.see_there.ensures.gains.0 = search rules in
     let row = found_row c.see_there.ensures.gains.0 there in
@@ -143,3 +143,9 @@ returns-in-Err-clause-kept g c = (
   c.write_row.ensures.kept.1 ∙ (c.see_there.ensures.kept.2 ∙ c.is_outside.ensures.kept.2),
   c.write_row.ensures.kept.2 ∙ (c.see_there.ensures.kept.3 ∙ c.is_outside.ensures.kept.3),
 )
+
+pub returns-then-is_outside-clause-undeclared : goal.returns-then-is_outside-clause-undeclared
+returns-then-is_outside-clause-undeclared g c = (λ _. refl, λ _. outside_scope (has c.args.snapshot.scope c.args.rid.table) c.is_outside.result c.is_outside.ensures.is c.if-is_outside.true)
+
+pub returns-then-is_outside-clause-own : goal.returns-then-is_outside-clause-own
+returns-then-is_outside-clause-own g c = no_more_writes c.args.engine.now c.is_outside.new.self c.is_outside.ensures.own

@@ -1,4 +1,4 @@
-use Rattle.std.proofs.Common.{◌≡◌, Some, refl, sym, ◌∙◌, subst, rules}
+use Rattle.std.proofs.Common.{◌≡◌, Some, refl, sym, ◌∙◌, subst, rules, ap}
 use Rattle.std.specs.Prelude.{Ok, Err, OnErr}
 use Rattle.hg_base.specs.declared.statement.Statement.TheVariants as say
 use Rattle.hg_base.specs.declared.line.Answer.TheVariants.{Rows}
@@ -13,6 +13,9 @@ use Rattle.hg_session.specs.Sessions.{view_of, cursor_of}
 use Rattle.hg_session.specs.Ties.{snapshot_of}
 use Rattle.hg_session.proofs.Cursors.{fits_some, reads_at, fetched, fetch_replies, fetch_moves, looked_on}
 use Rattle.hg_session.proofs.Reading.{counted}
+use Rattle.hg_core.specs.Logs.{current}
+use Rattle.hg_rule.specs.Views.{session}
+use Rattle.hg_rule.specs.declared.view.View.{View}
 use Rattle.hg_session.proofs.session.Session.fetch.Goals as goal
 
 pub fetch-requires-clause-reads : goal.fetch-requires-clause-reads
@@ -84,3 +87,27 @@ returns-clause-spent g c =
       c.spend.ensures.left,
       c.spend.ensures.retries,
     )
+
+pub fetch-requires-clause-own : goal.fetch-requires-clause-own
+fetch-requires-clause-own g c = subst (λ (b : Board). IsSessionOf (board_id b) (sizes_of b) c.spend.new.self.pass) (sym c.tables-tables.ensures.board)
+    (c.spend.ensures.own c.args.engine.now c.requires.own).pass
+
+pub returns-in_err-rows-clause-open : goal.returns-in_err-rows-clause-open
+returns-in_err-rows-clause-open g c =
+    let e = c.args.engine.now in
+    let cursor = c.in-Some.cursor in
+    let own = c.spend.ensures.own e c.requires.own in
+    let pass = subst (λ (b : Board). IsSessionOf (board_id b) (sizes_of b) c.fetch.new.pass) c.tables-tables.ensures.board c.fetch.ensures.own in
+    let new = fetched e c.spend.new.self (record c.spend.new.self { pass = c.fetch.new.pass }) cursor cursor _ c.args.most _ own c.in-Some.is c.in-Some.is refl refl refl refl refl pass c.fetch.ensures.looks
+    c.fetch.ensures.reads.only (c.fetch.ensures.heard own.heard) in
+    new.ties.opens ∙ (sym own.ties.opens ∙ ap (λ (v : View). current (session v).log) c.spend.ensures.kept.0)
+
+pub returns-clause-open : goal.returns-clause-open
+returns-clause-open g c =
+    let e = c.args.engine.now in
+    let cursor = c.in-Some.cursor in
+    let own = c.spend.ensures.own e c.requires.own in
+    let pass = subst (λ (b : Board). IsSessionOf (board_id b) (sizes_of b) c.fetch.new.pass) c.tables-tables.ensures.board c.fetch.ensures.own in
+    let new = fetched e c.spend.new.self (record c.spend.new.self { pass = c.fetch.new.pass; cursor = Some c.fetch.new.self }) cursor c.fetch.new.self _ c.args.most _ own c.in-Some.is refl c.in_ok-rows.ensures.moved.0 c.in_ok-rows.ensures.moved.1 refl refl refl pass c.fetch.ensures.looks
+    c.fetch.ensures.reads.only (c.fetch.ensures.heard own.heard) in
+    new.ties.opens ∙ (sym own.ties.opens ∙ ap (λ (v : View). current (session v).log) c.spend.ensures.kept.0)
