@@ -5,6 +5,9 @@ use Rattle.hg_core.specs.Logs.{open_in}
 use Rattle.hg_rule.specs.Views.{session}
 use Rattle.hg_rule.specs.Seats.{session_view}
 use Rattle.hg_session.proofs.Undoing.{undid_none, undone_writer, undone_log, undone_more, open_undone, last_apart, last_among}
+use Rattle.hg_session.proofs.Trips.{alone_only}
+use Rattle.hg_cursor.proofs.Trips.{first_session}
+use Rattle.hg_rule.specs.declared.view.SessionPart.{SessionPart}
 use Rattle.hg_session.proofs.rollback.undo_each.Goals as goal
 
 pub loop-rid-init : goal.loop-rid-init
@@ -37,3 +40,16 @@ loop-rid-preserved g c =
       undone = undone_more (session_view c.args.pass.now) (session_view c.loop-rid.pass) (session_view c.undo_one.new.pass) i.gone r i.undone c.undo_one.ensures.undone;
       own = c.undo_one.ensures.own;
     }
+
+pub undo_one-requires-clause-own : goal.undo_one-requires-clause-own
+undo_one-requires-clause-own g c = c.loop-rid.invariant.own
+
+pub undo_one-requires-clause-only : goal.undo_one-requires-clause-only
+undo_one-requires-clause-only g c = alone_only (session_view c.loop-rid.pass) _ _ _ c.loop-rid.invariant.undone.alone
+
+pub undo_one-requires-clause-unstamped : goal.undo_one-requires-clause-unstamped
+undo_one-requires-clause-unstamped g c =
+    ap (λ (p : SessionPart). p.stamped) (first_session (session_view c.loop-rid.pass) _ _ [] c.loop-rid.invariant.undone.alone.parts) ∙ c.requires.unstamped
+
+pub returns-clause-own : goal.returns-clause-own
+returns-clause-own g c = c.loop-rid.invariant.own

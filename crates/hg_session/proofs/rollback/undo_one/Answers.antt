@@ -32,3 +32,9 @@ undo-requires-clause-mine g c =
 pub returns-clause-undone : goal.returns-clause-undone
 returns-clause-undone g c = undid_once (session_view c.args.pass.now) (session_view c.take-held.new.pass) (session_view c.undo.new.pass)
     (session_view c.give.new.pass) c.bucket_of-bucket.result c.args.rid c.requires.only c.take-held.ensures.view c.undo.ensures.step c.give.ensures.view
+
+pub give-requires-clause-own : goal.give-requires-clause-own
+give-requires-clause-own g c = c.undo.ensures.holds.0.0.0
+
+pub give-requires-clause-holds : goal.give-requires-clause-holds
+give-requires-clause-holds g c = c.undo.ensures.holds.0.1

@@ -24,3 +24,18 @@ returns-clause-visited g c = (visited g c, removed_still (pass_view c.args.pass.
 pub returns-clause-ended : goal.returns-clause-ended
 returns-clause-ended g c = ended_still (pass_view c.args.pass.now) (pass_view c.split_commit-seat.new.pass) (sizes_of c.args.board.now).buckets c.requires.own.1 (visited g c)
     (sizes_of c.args.board.now) c.requires.ended
+
+pub counted-totals-requires-clause-store : goal.counted-totals-requires-clause-store
+counted-totals-requires-clause-store g c = c.requires.store
+
+pub counted-totals-requires-clause-commit : goal.counted-totals-requires-clause-commit
+counted-totals-requires-clause-commit g c = c.join_commit.ensures.holds
+
+pub counted-totals-requires-clause-backed : goal.counted-totals-requires-clause-backed
+counted-totals-requires-clause-backed g c = (c.join_commit.result, c.join_commit.ensures.backed)
+
+pub split_commit-seat-requires-clause-own : goal.split_commit-seat-requires-clause-own
+split_commit-seat-requires-clause-own g c = c.counted-totals.ensures.own.0
+
+pub split_commit-seat-requires-clause-holds : goal.split_commit-seat-requires-clause-holds
+split_commit-seat-requires-clause-holds g c = c.counted-totals.ensures.commit.0
