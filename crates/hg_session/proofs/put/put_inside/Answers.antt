@@ -1,4 +1,4 @@
-use Rattle.std.proofs.Common.{◌≡◌, [], ◌∷◌, false, Some, Err, refl, sym, ap, ◌∙◌, subst, rules, append_assoc}
+use Rattle.std.proofs.Common.{◌≡◌, [], ◌∷◌, false, Some, Err, refl, sym, ap, ◌∙◌, subst, append_assoc}
 use Rattle.std.specs.Prelude.{IfSome, IfErr, ⊤}
 use Rattle.hg_base.specs.declared.statement.Statement.TheVariants as say
 use Rattle.hg_base.specs.Transcript.{has}

@@ -1,4 +1,4 @@
-use Rattle.std.proofs.Common.{◌≡◌, refl, sym, ap, ◌∙◌, subst}
+use Rattle.std.proofs.Common.{◌≡◌, refl, sym, ◌∙◌, subst}
 use Rattle.std.specs.Prelude.{IfOk, IsTrue, not, is_some, ◌<◌}
 use Rattle.hg_base.specs.Transcript.{has}
 use Rattle.hg_core.specs.Logs.{open_in, wrotes}

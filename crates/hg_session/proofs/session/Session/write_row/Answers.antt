@@ -17,7 +17,7 @@ use Rattle.hg_rule.specs.declared.view.SessionPart.{SessionPart}
 use Rattle.hg_session.specs.Ties.{Ties, phase_at}
 use Rattle.hg_session.specs.Sessions.{view_of, written_of}
 use Rattle.hg_session.specs.Engines.{engine_sizes}
-use Rattle.hg_session.specs.Gains.{IsRefusedBy, entries_of}
+use Rattle.hg_session.specs.Gains.{IsRefusedBy}
 use Rattle.hg_session.proofs.Tying.{with_written, ties_unwritten, ties_refused, ties_wrote}
 use Rattle.hg_session.proofs.Settling.{settled, gained}
 use Rattle.hg_session.proofs.Storing.{refused_entries}
