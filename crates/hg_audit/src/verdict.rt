@@ -23,7 +23,7 @@ use std::alloc::Global;
 use std::fmt;
 
 /// What fails first.
-#[derive(Clone, Copy, Debug, PartialEq, Eq)]
+#[derive(Clone, Copy, PartialEq, Eq)]
 pub enum Why {
     /// The bytes are not the text of lines and totals.
     Text,
@@ -40,7 +40,7 @@ pub enum Why {
 }
 
 /// Whether a text is sound, and else the first record of the text that shows what fails, counted from 1.
-#[derive(Clone, Copy, Debug, PartialEq, Eq)]
+#[derive(Clone, Copy, PartialEq, Eq)]
 pub enum Verdict {
     Sound,
     Unsound { line: u64, why: Why },
