@@ -64,6 +64,9 @@ impl GroupList {
         })
     }
 
+    /// Frees the list, with whatever waits in its queue.
+    pub fn free(self) {}
+
     /// The transaction joins the queue at its back, with the session's part, and the session's lock is held. A refusal hands it
     /// back as it was.
     pub fn submit<R: Wait>(

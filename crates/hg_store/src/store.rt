@@ -88,6 +88,9 @@ impl Store {
         Ok(Store { locks })
     }
 
+    /// Frees the buckets, with every version in them.
+    pub fn free(self) {}
+
     /// How many there are.
     pub fn buckets(&self) -> u32
         ensures { result ≡ store_buckets self.now }
