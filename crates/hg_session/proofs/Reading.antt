@@ -34,7 +34,7 @@ use Rattle.hg_session.proofs.Tying.{IsQuiet, ties_quiet, ties_unwritten}
 
 -- an engine's store has the buckets of its board
 pub counted : (e : Engine) (store : Store) → store ≡ engine_store e → store_buckets store ≡ (engine_sizes e).buckets
-counted e store same = ap store_buckets same ∙ e.buckets_are
+counted e store same = ap store_buckets same ∙ e.shared.value.buckets_are
 
 -- a table that is not outside of those that the open transaction declared
 pub inside_scope : (declared outside : Bool) → outside ≡ not declared → outside ≡ false → IsTrue declared

@@ -9,7 +9,7 @@ use Rattle.hg_session.specs.declared.engine.Engine.{Engine}
 
 -- the board of an engine
 abbrev pub engine_board : Engine → Board
-engine_board e = board_of e.trackers
+engine_board e = board_of e.shared.value.trackers
 
 -- the identity of an engine's board
 abbrev pub engine_board_id : Engine → BoardId
@@ -21,8 +21,8 @@ engine_sizes e = sizes_of (engine_board e)
 
 -- its buckets
 abbrev pub engine_store : Engine → Store
-engine_store e = e.store
+engine_store e = e.shared.value.store
 
 -- its list of groups
 abbrev pub engine_groups : Engine → GroupList
-engine_groups e = e.groups
+engine_groups e = e.shared.value.groups

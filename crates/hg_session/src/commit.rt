@@ -52,8 +52,8 @@ pub(crate) fn commit_open<R: Wait>(
         records,
     };
     match engine
-        .groups
-        .commit(rt, engine.board(), &engine.store, tx, &mut session.pass)
+        .groups()
+        .commit(rt, engine.board(), engine.store(), tx, &mut session.pass)
     {
         Ok(receipt) => {
             engine.board().end(&mut session.pass);

@@ -31,9 +31,9 @@ pub struct Passes {
     pub interval: CollectorPass,
 }
 
-/// The words of a board, its buckets, and what commits.
+// The words of a board, its buckets, and what commits.
 #[derive(Drop)]
-pub struct Engine {
+pub(crate) struct Shared {
     pub(crate) trackers: Trackers,
     pub(crate) store: Store,
     pub(crate) groups: GroupList,
@@ -42,6 +42,25 @@ pub struct Engine {
     ghost sessions_are: { groups_sessions groups ≡ (sizes_of (board_of trackers)).sessions },
     ghost buckets_are: { store_buckets store ≡ (sizes_of (board_of trackers)).buckets },
     ghost some: { 0 < store_buckets store },
+}
+
+impl Shared {
+    fn free(self) {
+        let Shared {
+            trackers: _,
+            store,
+            groups,
+        } = self;
+        store.free();
+        groups.free();
+    }
+}
+
+/// The words of a board, its buckets, and what commits. They are in a box, so that the proof of a function that names an engine does not go
+/// through their types.
+#[derive(Drop)]
+pub struct Engine {
+    pub(crate) shared: Box<Shared>,
 }
 
 impl Engine {
@@ -94,7 +113,10 @@ impl Engine {
             interval,
         };
         let engine = Engine::over(alloc, board, seats, commit, sessions)?;
-        let sessions = seat_all(alloc, places.into_vec(), quota)?;
+        let Ok(sessions) = seat_all(alloc, places.into_vec(), quota) else {
+            engine.free();
+            return Err(NoMemory);
+        };
         Ok((engine, SessionList::from(sessions), passes))
     }
 
@@ -114,40 +136,55 @@ impl Engine {
         ensures { IfOk result (λ engine. engine_board engine ≡ board) }
     {
         let store = Store::new(alloc, buckets)?;
-        let groups = GroupList::new(alloc, commit, sessions)?;
-        Ok(Engine {
+        let Ok(groups) = GroupList::new(alloc, commit, sessions) else {
+            store.free();
+            return Err(NoMemory);
+        };
+        let shared = Shared {
             trackers: Trackers::new(board),
             store,
             groups,
-        })
+        };
+        match Box::new(alloc, shared) {
+            Ok(shared) => Ok(Engine { shared }),
+            Err(refused) => {
+                refused.value.free();
+                Err(NoMemory)
+            }
+        }
+    }
+
+    /// Frees the engine, with all versions that are left.
+    pub fn free(self) {
+        Box::into_inner(self.shared).free();
     }
 
     /// The board, with the calls that take and give snapshots.
     pub fn trackers(&self) -> &Trackers
         ensures { board_of result.now ≡ engine_board self.now }
     {
-        &self.trackers
+        &self.shared.trackers
     }
 
     /// The words that all share.
     pub fn board(&self) -> &Board
         ensures { result.now ≡ engine_board self.now }
     {
-        self.trackers.board()
+        self.shared.trackers.board()
     }
 
     /// The list of groups.
     pub fn groups(&self) -> &GroupList
         ensures { result.now ≡ engine_groups self.now }
     {
-        &self.groups
+        &self.shared.groups
     }
 
     /// The locked buckets.
     pub fn store(&self) -> &Store
         ensures { result.now ≡ engine_store self.now }
     {
-        &self.store
+        &self.shared.store
     }
 
     // What its sessions read.
@@ -157,7 +194,7 @@ impl Engine {
     {
         Tables {
             board: self.board(),
-            store: &self.store,
+            store: self.store(),
         }
     }
 
@@ -166,7 +203,7 @@ impl Engine {
         ensures own { result ≡ bucket_of (engine_sizes self.now).buckets rid }
         ensures within { result < (engine_sizes self.now).buckets }
     {
-        self.store.bucket_of(rid)
+        self.store().bucket_of(rid)
     }
 
     /// The sums of all buckets' counts. They are those of some history that contains each group of the logs once (`totals`). All
@@ -183,8 +220,8 @@ impl Engine {
         ensures ended { IsEnded (engine_sizes self.now) (pass_view pass.new) }
         ensures own { IsPassOf (engine_board_id self.now) pass.new }
     {
-        let (held, seat) = self.groups.take(rt);
-        let (totals, seat) = totals_with(rt, self.board(), &self.store, seat, pass);
+        let (held, seat) = self.groups().take(rt);
+        let (totals, seat) = totals_with(rt, self.board(), self.store(), seat, pass);
         held.give(seat);
         totals
     }

@@ -33,7 +33,7 @@ fn undo_one<R: Wait>(rt: &R, engine: &Engine, pass: &mut SessionPass, rid: Rid, 
 {
     let board = engine.board();
     let bucket = engine.bucket_of(rid);
-    let mut held = engine.store.take(rt, board, bucket, pass);
+    let mut held = engine.store().take(rt, board, bucket, pass);
     held.undo(board, pass, rid, by);
     held.give(board, pass);
 }
@@ -75,6 +75,6 @@ pub(crate) fn undo_open<R: Wait>(rt: &R, engine: &Engine, session: &mut Session)
 {
     let by = session.pass.writer();
     undo_each(rt, engine, &mut session.pass, &mut session.written, by);
-    engine.trackers.end(&mut session.pass);
+    engine.trackers().end(&mut session.pass);
     session.opened = None;
 }

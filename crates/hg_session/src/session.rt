@@ -60,7 +60,7 @@ impl Session {
         ensures kept { KeepsCounts self.old self.new }
         ensures own { IsIn engine.now 0 1 self.new }
     {
-        let snapshot = engine.trackers.begin(&mut self.pass, scope);
+        let snapshot = engine.trackers().begin(&mut self.pass, scope);
         self.opened = Some(snapshot);
         snapshot
     }
@@ -75,7 +75,7 @@ impl Session {
         ensures kept { KeepsCounts self.old self.new }
         ensures own { IsIn engine.now 0 0 self.new }
     {
-        engine.trackers.end(&mut self.pass);
+        engine.trackers().end(&mut self.pass);
         self.opened = None;
     }
 

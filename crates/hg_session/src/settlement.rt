@@ -45,5 +45,5 @@ pub fn settle<R: Wait>(rt: &R, engine: &Engine, collector: &mut TableCollector)
         collector.new }
 {
     // No snapshot is in use, so none is moved, however long one would have to be in use.
-    collector.collect(rt, engine.trackers(), &engine.store, u64::MAX);
+    collector.collect(rt, engine.trackers(), engine.store(), u64::MAX);
 }

@@ -21,6 +21,7 @@ use Rattle.hg_base.specs.declared.rid.Rid.{Rid}
 use Rattle.hg_base.specs.History.{NoneTwice, is_among}
 use Rattle.hg_rule.specs.declared.board.Board.{Board}
 use Rattle.hg_group.specs.Frames.{AreOfOne}
+use Rattle.hg_store.specs.declared.store.Store.{Store}
 use Rattle.hg_session.proofs.commit.commit_open.Goals as goal
 
 pub returns-then-is_empty-clause-wrote : goal.returns-then-is_empty-clause-wrote
@@ -85,8 +86,11 @@ writer-requires-clause-open g c = subst (λ (p : Phase). IsSome (snapshot_in p))
 
 pub commit-requires-clause-engine : goal.commit-requires-clause-engine
 commit-requires-clause-engine g c =
-    let e = c.args.engine.now in
-    subst (λ (b : Board). AreOfOne b e.store e.groups) (sym c.board.ensures) ((e.store_is, e.some, e.buckets_are), (e.groups_are, e.sessions_are))
+    let s = c.args.engine.now.shared.value in
+    let board : AreOfOne c.board.result.now s.store s.groups = subst (λ (b : Board). AreOfOne b s.store s.groups) (sym c.board.ensures)
+    ((s.store_is, s.some, s.buckets_are), (s.groups_are, s.sessions_are)) in
+    let store : AreOfOne c.board.result.now c.store.result.now s.groups = subst (λ (t : Store). AreOfOne c.board.result.now t s.groups) (sym c.store.ensures) board in
+    subst (AreOfOne c.board.result.now c.store.result.now) (sym c.groups.ensures) store
 
 pub commit-requires-clause-own : goal.commit-requires-clause-own
 commit-requires-clause-own g c = subst (λ (b : Board). IsSessionOf (board_id b) (sizes_of b) c.args.session.now.pass) (sym c.board.ensures) c.requires.own.pass

@@ -33,7 +33,7 @@ returns-clause-sessions c =
     let count : length ps ≡ c.args.sessions = ap length c.into_vec.ensures ∙ c.in_ok-board.ensures.sessions.0 in
     let quota : (engine_sizes engine).quota ≡ c.args.quota = ap (λ (z : Sizes). z.quota) sizes in
     let sessions : (engine_sizes engine).sessions ≡ c.args.sessions = ap (λ (z : Sizes). z.sessions) sizes in
-    opened_row engine c.args.alloc c.args.quota ps _ (c.from.ensures ∙ c.in_ok-sessions.ensures) (omega (arith, quota)) (omega (arith, count, sessions)) row
+    opened_row engine c.args.alloc c.args.quota ps _ (c.from.ensures ∙ c.in-Ok.ensures) (omega (arith, quota)) (omega (arith, count, sessions)) row
 
 pub returns-clause-alone : goal.returns-clause-alone
 returns-clause-alone c =
