@@ -14,7 +14,7 @@
 //! Its laws are that this text is sound, and that a sound text is this one if its commit numbers ascend and each write is refused for
 //! the first conflict (`IsFirst`). So what a driver has to show of a line besides is small. `ShowsFirsts` (`Shown` of `hg_core`) says it of
 //! logs, which a driver knows: before a write is stored, no other session has the record open, and no newer group wrote it. The driver of
-//! a replay shows it (`hg_drivers`). The worked examples of `hg_decide` are evaluated, and four sound texts that are not replayed.
+//! a replay shows it (`hg_run`). The worked examples of `hg_decide` are evaluated, and four sound texts that are not replayed.
 #![tactic(auto)]
 
 mod laws;

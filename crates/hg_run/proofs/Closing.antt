@@ -14,8 +14,8 @@ use Rattle.hg_session.specs.declared.engine.Engine.{Engine}
 use Rattle.hg_session.specs.declared.session.Session.{Session}
 use Rattle.hg_session.specs.Engines.{engine_sizes}
 use Rattle.hg_collectors.specs.declared.collectors.Collectors.{Collectors}
-use Rattle.hg_drivers.specs.Driven.{IsOpenedFor}
-use Rattle.hg_drivers.proofs.Closes.{new_logs}
+use Rattle.hg_run.specs.Driven.{IsOpenedFor}
+use Rattle.hg_run.proofs.Closes.{new_logs}
 use Rattle.hg_exact.proofs.Shown.{shown_at_end}
 use Rattle.hg_headline.specs.Following.{told_removed, AreTotalsBy}
 use Rattle.hg_headline.proofs.Closing.{following_last}

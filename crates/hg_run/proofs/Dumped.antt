@@ -33,12 +33,12 @@ use Rattle.hg_source.specs.Records.{dump_text}
 use Rattle.hg_source.specs.Rows.{rows_at}
 use Rattle.hg_store.proofs.Filling.{each_from_at}
 use Rattle.hg_collectors.specs.declared.collectors.Collectors.{Collectors}
-use Rattle.hg_run.specs.declared.dump.Dumps.{Dumps}
+use Rattle.hg_run.specs.declared.dump_text.Dumps.{Dumps}
 use Rattle.hg_run.specs.Dumping.{HasReadBoth, IsDumpedFor, part_text, printed_history}
 use Rattle.hg_run.specs.Words.{Settings}
-use Rattle.hg_drivers.specs.Reader.{HasDumped, IsOpenedBeside, IsReadAndClosed, list_with}
-use Rattle.hg_drivers.proofs.Readers.{began_within, log_in, looks_begans}
-use Rattle.hg_drivers.proofs.Opened.{log_last}
+use Rattle.hg_run.specs.Reader.{HasDumped, IsOpenedBeside, IsReadAndClosed, list_with}
+use Rattle.hg_run.proofs.Readers.{began_within, log_in, looks_begans}
+use Rattle.hg_run.proofs.Opened.{log_last}
 
 -- ---- a new engine
 

@@ -1,3 +1,34 @@
+-- What a session that has heard all logs knows, and what its reply shows.
+mod Hearing
+mod FreshNumbers
+mod Told
+-- The sessions of a list: one answers, and two meet.
+mod Listing
+mod Pairs
+mod Turns
+mod Refused
+-- Each write shows its first cause.
+mod Firsts
+mod Caught
+-- A round of a collector: what it found, and what meetings with its pass leave.
+mod Gathering
+mod Alone
+mod Meetings
+mod MeetingAll
+mod Sweeping
+-- A whole script.
+mod Cursors
+mod Going
+mod Asking
+mod Begun
+mod Closes
+mod Brought
+mod Opened
+mod Dumps
+mod Readers
+-- A session's worker.
+mod Working
+mod Hiring
 -- When each status comes.
 mod Exactly
 -- What is printed of a run, and of one that is read.

@@ -20,10 +20,10 @@ use Rattle.hg_session.specs.Opened.{seated}
 use Rattle.hg_source.specs.Records.{dump_text}
 use Rattle.hg_source.specs.Rows.{rows_at}
 use Rattle.hg_collectors.specs.declared.collectors.Collectors.{Collectors}
-use Rattle.hg_drivers.specs.Reader.{IsOpenedBeside}
-use Rattle.hg_drivers.proofs.Closes.{new_logs}
-use Rattle.hg_drivers.proofs.Readers.{read_is_closed}
-use Rattle.hg_run.specs.declared.dump.Dumps.{Dumps}
+use Rattle.hg_run.specs.Reader.{IsOpenedBeside}
+use Rattle.hg_run.proofs.Closes.{new_logs}
+use Rattle.hg_run.proofs.Readers.{read_is_closed}
+use Rattle.hg_run.specs.declared.dump_text.Dumps.{Dumps}
 use Rattle.hg_run.specs.Dumping.{HasReadBoth, HasRunAndRead}
 use Rattle.hg_run.proofs.Dumped.{all_read, first_text, last_closed, last_text, no_log, read_once, read_twice}
 use Rattle.hg_run.proofs.WholeDump.{groups_printed, rows_printed, sound_with_reader}

@@ -35,16 +35,16 @@ use Rattle.hg_session.specs.declared.engine.Engine.{Engine}
 use Rattle.hg_session.specs.declared.session.Session.{Session}
 use Rattle.hg_session.specs.Engines.{engine_sizes}
 use Rattle.hg_session.specs.Finished.{logs_of}
-use Rattle.hg_drivers.proofs.Opened.{log_else, log_last}
+use Rattle.hg_run.proofs.Opened.{log_else, log_last}
 use Rattle.hg_session.specs.Opened.{seated}
 use Rattle.hg_collectors.specs.declared.collectors.Collectors.{Collectors}
-use Rattle.hg_drivers.specs.Closed.{IsClosedBy}
+use Rattle.hg_run.specs.Closed.{IsClosedBy}
 use Rattle.hg_collectors.specs.Collecting.{removed_of, view_in}
-use Rattle.hg_drivers.specs.Driven.{HasDrivenAll}
-use Rattle.hg_drivers.specs.Reader.{list_with}
+use Rattle.hg_run.specs.Driven.{HasDrivenAll}
+use Rattle.hg_run.specs.Reader.{list_with}
 use Rattle.hg_collectors.specs.Rounding.{BeganIn}
 use Rattle.hg_collectors.specs.Telling.{sweep_lines}
-use Rattle.hg_drivers.proofs.Begun.{began_before}
+use Rattle.hg_run.proofs.Begun.{began_before}
 use Rattle.hg_run.proofs.WholeRun.{lines_told, reports_of, told_all}
 
 -- ---- logs of one session more

@@ -40,13 +40,13 @@ use Rattle.hg_session.specs.declared.session.Session.{Session}
 use Rattle.hg_session.specs.Engines.{engine_sizes}
 use Rattle.hg_session.specs.Finished.{logs_of}
 use Rattle.hg_collectors.specs.declared.collectors.Collectors.{Collectors}
-use Rattle.hg_drivers.specs.Closed.{IsClosedBy}
+use Rattle.hg_run.specs.Closed.{IsClosedBy}
 use Rattle.hg_collectors.specs.Collecting.{HaveMade, view_in, removed_of}
-use Rattle.hg_drivers.specs.Driven.{HasDrivenAll}
+use Rattle.hg_run.specs.Driven.{HasDrivenAll}
 use Rattle.hg_collectors.specs.Telling.{sweeps_of, sweep_lines}
 use Rattle.hg_collectors.specs.Rounding.{BeganIn, IsRoundBy, AreRounds}
 use Rattle.hg_collectors.specs.Swept.{HasSwept, swept_by}
-use Rattle.hg_drivers.proofs.Begun.{began_before}
+use Rattle.hg_run.proofs.Begun.{began_before}
 use Rattle.hg_collectors.proofs.Driving.{swept_of, removed_rounds, told_append, told_lines}
 use Rattle.hg_collectors.proofs.Reported.{rounds_map, reported, lines_removed}
 

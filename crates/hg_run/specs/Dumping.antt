@@ -19,9 +19,9 @@ use Rattle.hg_session.specs.declared.engine.Engine.{Engine}
 use Rattle.hg_session.specs.declared.session.Session.{Session}
 use Rattle.hg_session.specs.Engines.{engine_board_id, engine_sizes}
 use Rattle.hg_collectors.specs.declared.collectors.Collectors.{Collectors}
-use Rattle.hg_drivers.specs.Driven.{HasDrivenAll}
-use Rattle.hg_drivers.specs.Reader.{HasDumped, IsReadAndClosed}
-use Rattle.hg_run.specs.declared.dump.Dumps.{Dumps}
+use Rattle.hg_run.specs.Driven.{HasDrivenAll}
+use Rattle.hg_run.specs.Reader.{HasDumped, IsReadAndClosed}
+use Rattle.hg_run.specs.declared.dump_text.Dumps.{Dumps}
 use Rattle.hg_run.specs.Printing.{ReportsRoundsWith}
 use Rattle.hg_fit.specs.Modes.{rounds_beside}
 use Rattle.hg_run.specs.Words.{Settings}

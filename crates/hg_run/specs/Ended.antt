@@ -7,9 +7,9 @@ use Rattle.hg_session.specs.declared.engine.Engine.{Engine}
 use Rattle.hg_session.specs.declared.session.Session.{Session}
 use Rattle.hg_session.specs.Engines.{engine_sizes}
 use Rattle.hg_collectors.specs.declared.collectors.Collectors.{Collectors}
-use Rattle.hg_drivers.specs.Closed.{IsClosedBy}
-use Rattle.hg_drivers.specs.Driven.{HasDrivenAll, HasDrivenOne}
-use Rattle.hg_drivers.specs.Played.{HasPlayedOut}
+use Rattle.hg_run.specs.Closed.{IsClosedBy}
+use Rattle.hg_run.specs.Driven.{HasDrivenAll, HasDrivenOne}
+use Rattle.hg_run.specs.Played.{HasPlayedOut}
 
 -- A run printed these lines of the sessions and the collectors that an engine had before, and the totals are those of what it left.
 pub record HasRunToEnd (e : Engine) (long rounds : ℕ) (script : Script) (old : List Session) (before : Collectors) (lines : List Line) (totals : Totals) : Type 0 where

@@ -15,7 +15,7 @@ use Rattle.hg_session.specs.declared.session.Session.{Session}
 use Rattle.hg_session.specs.Engines.{engine_sizes}
 use Rattle.hg_collectors.specs.declared.collectors.Collectors.{Collectors}
 use Rattle.hg_collectors.specs.Collecting.{HaveMade}
-use Rattle.hg_drivers.specs.Driven.{IsOpenedWith, sessions_in}
+use Rattle.hg_run.specs.Driven.{IsOpenedWith, sessions_in}
 use Rattle.hg_collectors.specs.Telling.{sweeps_of}
 use Rattle.hg_run.specs.Words.{Settings}
 

@@ -1,173 +1,107 @@
-//! What is printed for a script whose tables are read while it runs.
+//! A run during which all tables are read.
 //!
-//!     dump_on       the run, and concurrently the reader exports all tables once
-//!     close_read    the reader exports them again, after all others ended
-//!
-//! The text is that of the run, and then each dump under the number of its snapshot.
+//!     run_on     the sessions and the collectors, as in a run
+//!     reader     concurrently one more session, the reader, exports all tables once
 
-ghost use Rattle.std.specs.Prelude.{◌≡◌, [], ◌++◌, IfOk, OnOk, codes, decimal, string_bytes};
-ghost use Rattle.hg_base.specs.Script.{Script, run};
-ghost use Rattle.hg_base.specs.Text.{text_of};
-ghost use Rattle.hg_csv.specs.Bytes.{record_bytes};
-ghost use Rattle.hg_script.specs.Lawful.{IsLawful};
-ghost use Rattle.hg_session.specs.Engines.{engine_sizes};
-ghost use Rattle.hg_words.specs.Options.{AreWithin};
-ghost use Rattle.hg_drivers.specs.Driven.{MayDrive};
-ghost use Rattle.hg_drivers.specs.Reader.{IsOpenedBeside, alloc_in, engine_in, script_in};
-ghost use Rattle.hg_run.specs.Dumping.{HasReadBoth, HasRunAndRead, IsDumpedFor, part_text};
-ghost use Rattle.hg_run.specs.Words.{settings_in};
+ghost use Rattle.std.specs.Prelude.{◌≡◌, suc, length, IfOk, OnErr};
+ghost use Rattle.hg_dump.specs.Exports.{MayExport};
+ghost use Rattle.hg_rule.specs.Seats.{session_view, IsSessionOf};
+ghost use Rattle.hg_session.specs.Engines.{engine_board_id, engine_sizes};
+ghost use Rattle.hg_run.specs.Collecting.{AreCollectors};
+ghost use Rattle.hg_run.specs.Driven.{AreBack, HasDrivenAll, HasDriven, MayDrive};
+ghost use Rattle.hg_run.specs.Reader.{HasDumped, HasTried, engine_in, script_in};
 
-use crate::ended::{Ended, free_crew};
+use crate::crew::Crew;
+use crate::reader::Reader;
+use crate::run::run_on;
 use hg_base::{Gate, NoMemory};
-use hg_collectors::{Pace, Plan};
-use hg_drivers::{Crew, Reader, close_read, dump_on, free_engine, free_pass, open_beside};
+use hg_collectors::Plan;
 use hg_rule::SessionPass;
-use hg_script::Script;
-use hg_words::Options;
-use std::alloc::{AllocError, Global};
+use hg_transcript::Transcript;
 use std::sync::Wait;
+use std::thread;
 use std::thread::Threads;
 
-// The title of a part: `snapshot,` and a number.
-fn title(alloc: Global, at: u64) -> Result<String, AllocError>
-    ensures { IfOk result
-        (λ text. string_bytes text ≡ codes "snapshot," ++ (decimal at ++ codes "\n")) }
-{
-    format!(in alloc; "snapshot,{at}\n")
-}
-
-// Adds a dump under the number of its snapshot.
-fn add_part(alloc: Global, text: &mut Vec<u8>, at: u64, dump: &[u8]) -> Result<(), NoMemory>
-    ensures { OnOk result (text.new.items ≡ text.old.items ++ part_text at dump.now) }
-{
-    let title = title(alloc, at)?;
-    text.extend_from_slice(title.as_bytes())?;
-    text.extend_from_slice(dump)?;
-    Ok(())
-}
-
-/// Two dumps, each with its snapshot.
-#[derive(Drop)]
-pub(crate) struct Dumps {
-    pub(crate) first: Vec<u8>,
-    pub(crate) at: u64,
-    pub(crate) last: Vec<u8>,
-    pub(crate) end: u64,
-}
-
-// Takes the crew of an engine through a script in threads while the reader reads, and closes it after the reader has read once more.
-fn read_crew<'e, 'a, R: Threads + Wait + Sync, G: Gate + Sync>(
+// The run, and concurrently what the reader reads.
+fn drive_and_read<'e, 'a, R: Threads + Wait + Sync, G: Gate + Sync>(
     rt: &R,
     reader: &Reader<'e, 'a>,
     plan: &Plan<G>,
-    crew: Crew,
-    extra: SessionPass,
-    dumps: &mut Dumps,
-) -> Result<Ended<'a>, NoMemory>
-    requires may { MayDrive (engine_in reader.now) (script_in reader.now) crew.sessions.items
-        crew.collectors }
-    requires opened { IsOpenedBeside (script_in reader.now)
-        (engine_sizes (engine_in reader.now)).buckets (engine_in reader.now)
-        crew.sessions.items crew.collectors extra }
-    ensures ended { IfOk result (λ o.
-        HasRunAndRead (alloc_in reader.now) (engine_in reader.now) plan.now.long plan.now.rounds
-        (script_in reader.now) crew.sessions.items crew.collectors extra dumps.old
-        o.transcript.lines o.totals dumps.new) }
-    ensures tables { IfOk result (λ o. o.transcript.tables ≡ (script_in reader.now).tables) }
+    crew: &mut Crew,
+    extra: &mut SessionPass,
+    into: &mut Vec<u8>,
+) -> (Result<Transcript<'a>, NoMemory>, Result<u64, NoMemory>)
+    requires may { MayDrive (engine_in reader.now) (script_in reader.now) crew.old.sessions.items
+        crew.old.collectors }
+    requires extra { MayExport (engine_board_id (engine_in reader.now))
+        (engine_sizes (engine_in reader.now)) extra.old }
+    ensures driven { HasDriven (engine_in reader.now) plan.now.long plan.now.rounds
+        (script_in reader.now) crew.old.sessions.items crew.old.collectors result.0
+        crew.new.sessions.items crew.new.collectors }
+    ensures read { HasTried (engine_in reader.now) (script_in reader.now) result.1 extra.old
+        extra.new into.old.items into.new.items }
 {
-    let mut crew = crew;
-    let mut extra = extra;
-    match dump_on(rt, reader, plan, &mut crew, &mut extra, &mut dumps.first) {
-        Ok((transcript, at)) => {
-            dumps.at = at;
-            let (totals, end) = close_read(
-                rt,
-                reader,
-                crew.sessions,
-                crew.collectors,
-                extra,
-                &mut dumps.last,
-            )?;
-            dumps.end = end;
-            Ok(Ended { transcript, totals })
-        }
+    thread::join_mut(
+        rt,
+        &mut ||
+            requires { MayDrive (engine_in reader.now) (script_in reader.now)
+                crew.now.sessions.items crew.now.collectors }
+            ensures { HasDriven (engine_in reader.entry.now) plan.entry.now.long
+                plan.entry.now.rounds (script_in reader.entry.now) crew.entry.now.sessions.items
+                crew.entry.now.collectors result crew.exit.now.sessions.items
+                crew.exit.now.collectors }
+        { run_on(rt, reader.alloc, reader.script, plan, reader.engine, crew) },
+        &mut ||
+            requires { MayExport (engine_board_id (engine_in reader.now))
+                (engine_sizes (engine_in reader.now)) extra.now }
+            ensures { HasTried (engine_in reader.entry.now) (script_in reader.entry.now) result
+                extra.entry.now extra.exit.now into.entry.now.items into.exit.now.items }
+        { reader.work(rt, plan.gate, extra, into) },
+    )
+}
+
+/// The driver of `dump`: that of `run`, and concurrently the reader exports all tables once, whose pass is `extra`. The engine has one
+/// session more than the script. A refusal leaves `into` as it was.
+pub fn dump_on<'e, 'a, R: Threads + Wait + Sync, G: Gate + Sync>(
+    rt: &R,
+    reader: &Reader<'e, 'a>,
+    plan: &Plan<G>,
+    crew: &mut Crew,
+    extra: &mut SessionPass,
+    into: &mut Vec<u8>,
+) -> Result<(Transcript<'a>, u64), NoMemory>
+    requires may { MayDrive (engine_in reader.now) (script_in reader.now) crew.old.sessions.items
+        crew.old.collectors }
+    requires more { (engine_sizes (engine_in reader.now)).sessions ≡
+        suc (length crew.old.sessions.items) }
+    requires extra { MayExport (engine_board_id (engine_in reader.now))
+        (engine_sizes (engine_in reader.now)) extra.old }
+    ensures driven { IfOk result (λ r.
+        HasDrivenAll (engine_sizes (engine_in reader.now)) plan.now.long plan.now.rounds
+        (script_in reader.now).records crew.old.sessions.items crew.old.collectors r.0.lines
+        crew.new.sessions.items crew.new.collectors) }
+    ensures tables { IfOk result (λ r. r.0.tables ≡ (script_in reader.now).tables) }
+    ensures back { AreBack (engine_in reader.now) crew.old.sessions.items
+        crew.new.sessions.items }
+    ensures collectors { AreCollectors (engine_in reader.now) crew.new.collectors }
+    ensures dumped { IfOk result (λ r.
+        HasDumped (engine_in reader.now) (script_in reader.now) r.1 (session_view extra.old)
+        (session_view extra.new) into.old.items into.new.items) }
+    ensures refused { OnErr result (into.new.items ≡ into.old.items) }
+    ensures extra { IsSessionOf (engine_board_id (engine_in reader.now))
+        (engine_sizes (engine_in reader.now)) extra.new }
+{
+    let before = into.len();
+    let (driven, read) = drive_and_read(rt, reader, plan, crew, extra, into);
+    let Ok(at) = read else {
+        into.truncate(before);
+        return Err(NoMemory);
+    };
+    match driven {
+        Ok(transcript) => Ok((transcript, at)),
         Err(NoMemory) => {
-            free_crew(crew);
-            free_pass(extra);
+            into.truncate(before);
             Err(NoMemory)
         }
     }
-}
-
-// Opens an engine for a script, and runs the script there with a reader. The dumps are empty at first.
-fn run_and_read<'a, R: Threads + Wait + Sync, G: Gate + Sync>(
-    rt: &R,
-    alloc: Global,
-    script: &'a Script,
-    options: &Options,
-    gate: &G,
-    dumps: &mut Dumps,
-) -> Result<Ended<'a>, NoMemory>
-    requires lawful { IsLawful script.now }
-    requires within { AreWithin options.now }
-    requires empty { (dumps.old.first.items ≡ []) × (dumps.old.last.items ≡ []) }
-    ensures read { IfOk result (λ o.
-        HasReadBoth (settings_in (run options.now.rounds) options.now) script.now
-        o.transcript.lines o.totals dumps.new) }
-    ensures tables { IfOk result (λ o. o.transcript.tables ≡ script.now.tables) }
-{
-    let plan = Plan {
-        gate,
-        rounds: options.rounds,
-        long: options.long,
-    };
-    let (engine, crew, extra) = open_beside(alloc, script, options)?;
-    let reader = Reader {
-        alloc,
-        engine: &engine,
-        script,
-    };
-    let ended = read_crew(rt, &reader, &plan, crew, extra, dumps);
-    free_engine(engine);
-    ended
-}
-
-// The text of a run, and then the dumps.
-fn text_with(alloc: Global, ended: Ended, dumps: &Dumps) -> Result<Vec<u8>, NoMemory>
-    ensures { (script : Script) → script.tables ≡ ended.entry.transcript.tables →
-        IfOk result (λ text. text.items ≡
-        text_of record_bytes script
-        (record { lines = ended.entry.transcript.lines; totals = ended.entry.totals }) ++
-        (part_text dumps.now.at dumps.now.first.items ++
-        part_text dumps.now.end dumps.now.last.items)) }
-{
-    let mut text = ended.into_text()?;
-    add_part(alloc, &mut text, dumps.at, &dumps.first)?;
-    add_part(alloc, &mut text, dumps.end, &dumps.last)?;
-    Ok(text)
-}
-
-/// Runs a script in threads, and gives the text that is printed for it, with a dump that was read meanwhile and one of the end.
-pub(crate) fn dump_all<R: Threads + Wait + Sync, G: Gate + Sync>(
-    rt: &R,
-    alloc: Global,
-    script: &Script,
-    options: &Options,
-    gate: &G,
-) -> Result<Vec<u8>, NoMemory>
-    requires lawful { IsLawful script.now }
-    requires within { AreWithin options.now }
-    ensures { IfOk result (λ text.
-        IsDumpedFor (settings_in (run options.now.rounds) options.now) script.now text.items) }
-{
-    let records = script.record_count() as u64;
-    let pace = Pace::new(alloc, script.sessions(), records, options.rounds, gate)?;
-    let mut dumps = Dumps {
-        first: Vec::new(alloc),
-        at: 0,
-        last: Vec::new(alloc),
-        end: 0,
-    };
-    let ended = run_and_read(rt, alloc, script, options, &pace, &mut dumps)?;
-    text_with(alloc, ended, &dumps)
 }

@@ -7,11 +7,13 @@ ghost use Rattle.hg_csv.specs.Bytes.{record_bytes};
 ghost use Rattle.hg_rule.specs.New.{EachFrom};
 ghost use Rattle.hg_session.specs.Engines.{engine_sizes};
 ghost use Rattle.hg_session.specs.Finished.{IsClosed};
-ghost use Rattle.hg_drivers.specs.Closed.{IsClosedBy};
-ghost use Rattle.hg_drivers.specs.Collecting.{AreCollectors};
+ghost use Rattle.hg_run.specs.Closed.{IsClosedBy};
+ghost use Rattle.hg_run.specs.Collecting.{AreCollectors};
 
+use crate::crew::Crew;
+use crate::end::close;
+use crate::free::{free_collectors, free_sessions};
 use hg_base::{NoMemory, Totals};
-use hg_drivers::{Crew, close, free_collectors, free_sessions};
 use hg_session::Engine;
 use hg_transcript::Transcript;
 use std::sync::Wait;

@@ -10,7 +10,7 @@ ghost use Rattle.hg_words.specs.Options.{AreWithin};
 ghost use Rattle.hg_run.specs.Printing.{AreTotalsOf, HasTotals, HasTotalsBy};
 ghost use Rattle.hg_run.specs.Words.{settings_in};
 
-use crate::replay::replay_lines;
+use crate::replay_text::replay_lines;
 use hg_base::{NoMemory, Totals};
 use hg_script::Script;
 use hg_seed::make_script;

@@ -12,10 +12,10 @@ ghost use Rattle.hg_run.specs.Serving.{Answers, Comes, IsDecided, IsDumpFor, IsT
 ghost use Rattle.hg_streams.specs.Streams.{HasGiven, change_of};
 
 use crate::audit::audit_bytes;
-use crate::dump::dump_all;
+use crate::dump_text::dump_all;
 use crate::load::load;
-use crate::replay::replay;
-use crate::run::run_all;
+use crate::replay_text::replay;
+use crate::run_text::run_all;
 use hg_base::{Failed, Gate, MOST_SCRIPT_BYTES, NoMemory, Sink, Source};
 use hg_script::{Script, read_script};
 use hg_streams::{Status, read_all, write_all};

@@ -1,6 +1,0 @@
-use Rattle.std.proofs.Common.{◌≡◌, length}
-use Rattle.hg_drivers.proofs.Caught.{IsCatchingUp}
-use Rattle.hg_drivers.proofs.turn.catch_up.Given as goal
-
-abbrev pub invariant-loop-i : goal.invariant-loop-i
-invariant-loop-i l = IsCatchingUp l.engine l.last l.seer l.i l.initial.list.items l.list.items × (l.i-end ≡ length l.initial.list.items)
