@@ -200,6 +200,8 @@ fn two_sessions_commit_in_one_group(rt: HostRuntime) {
     let second_done = finish(&rt, &board, &store, &groups, two, &mut first);
     let receipts = (first_done, second_done);
     let told = tell(&rt, alloc, &board, &groups, &mut collector, receipts);
+    groups.free();
+    store.free();
     assert_eq!(rt; told.as_str(), COMMITTED);
 }
 

@@ -76,6 +76,10 @@ fn a_row_is_stored_and_read(rt: HostRuntime) -> Result<(), Fail> {
         table: TableId(0),
         key: 5,
     };
-    store_one(&rt, &engine, &mut session, rid, row)?;
-    read_one(&rt, &engine, &mut session, rid)
+    let read = match store_one(&rt, &engine, &mut session, rid, row) {
+        Ok(()) => read_one(&rt, &engine, &mut session, rid),
+        Err(fail) => Err(fail),
+    };
+    engine.free();
+    read
 }

@@ -131,5 +131,6 @@ fn eight_threads_commit_on_their_own_keys(rt: HostRuntime) {
     let tally = Tally::new(rt.alloc(), 1600).expect(&rt, "a tally");
     let all = sessions.as_mut_slice();
     commit_beside(&rt, rt.alloc(), &engine, all, 1000, &tally);
+    engine.free();
     assert_eq!(rt; tally.once(), 1600);
 }

@@ -63,5 +63,6 @@ fn two_buckets_are_held_at_once(rt: HostRuntime) {
         || hold_beside(&rt, &store, &board, 0, group, (&first, &second)),
         || hold_beside(&rt, &store, &board, 1, table, (&second, &first)),
     );
+    store.free();
     assert_eq!(rt; (buckets, seen.0, seen.1), (2, true, true));
 }
