@@ -1,6 +1,7 @@
 -- The places of the words, what a seat at the board has and knows, and the rule.
 pub mod Words
 pub mod Codes
+pub mod ViewCodes
 pub mod Keys
 pub mod Facts
 pub mod Rules

@@ -1,8 +1,16 @@
 //! What a seat at the board has, knows and did. No code makes a value of these types: contracts speak of them.
 
+ghost use Rattle.std.specs.Prelude.{List};
+ghost use Rattle.hg_rule.specs.declared.view.Event.{Event};
+ghost use Rattle.hg_rule.specs.declared.view.Part.{Part};
+ghost use Rattle.hg_rule.specs.declared.view.Sight.{Sight};
+ghost use Rattle.hg_rule.specs.ViewCodes.{parts_code, sights_code, events_code};
+ghost use base.Fml.{ftrue};
+
 use crate::groups::Groups;
 use hg_base::{Image, Kind, Rid, Scope};
 use hg_core::{Ask, Counters, Loaded, LogEntry, Phase, Register, Version, Visit};
+use std::marker::Model;
 
 /// A session's part of the state: its phase, its log, newest entry first, and whether a write of its open transaction has the
 /// next number.
@@ -149,11 +157,16 @@ pub enum Event {
     },
 }
 
-/// The parts that a seat has, its own first and then what was joined last; what it has seen; and the steps that it made.
+/// The parts that a seat has, its own first and then what was joined last; what it has seen; and the steps that it made. They are plain
+/// data, and no fields of Rust types, so the proof of a function that borrows a seat does not go through them.
 pub struct View {
-    pub parts: [Part; 0],
-    pub sights: [Sight; 0],
-    pub events: [Event; 0],
+    pub ghost parts: { List Part } by { parts_code },
+    pub ghost sights: { List Sight } by { sights_code },
+    pub ghost events: { List Event } by { events_code },
+}
+
+impl Model for View {
+    ghost also_owns = { λ _. ftrue };
 }
 
 /// How many of each a board is made for, and how often each session may begin, and write.

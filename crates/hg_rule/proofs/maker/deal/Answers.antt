@@ -1,5 +1,6 @@
 use Rattle.std.proofs.Common.{rules, arith, ◌≡◌, ℕ, suc, ◌+◌, ◌<◌, List, [], ◌∷◌, ◌++◌, drop, length, sym, ap, ◌∙◌, subst}
 use Rattle.hg_rule.specs.declared.view.Part.{Part}
+use Rattle.hg_rule.specs.declared.view.Sight.{Sight}
 use Rattle.hg_rule.specs.Views.{seeing}
 use Rattle.hg_rule.specs.Seats.{board_id, view}
 use Rattle.hg_rule.specs.Moves.{run, first_of, left_tail, right_first}
@@ -7,6 +8,11 @@ use Rattle.hg_rule.specs.New.{IsNew, EachFrom}
 use Rattle.hg_rule.proofs.Shifts.{deals}
 use Rattle.hg_rule.proofs.Opening.{drop_next, run_at, each_from_snoc}
 use Rattle.hg_rule.proofs.maker.deal.Goals as goal
+
+pub loop-i-init : goal.loop-i-init
+loop-i-init g c =
+    let v = view c.args.maker.now in
+    (c.requires.own.0, ap (λ (seen : List Sight). seeing v.parts seen v.events) c.requires.own.1, search rules, search rules)
 
 pub split_seat-seat-requires : goal.split_seat-seat-requires
 split_seat-seat-requires g c = (search rules, search rules, deals _ _ _)

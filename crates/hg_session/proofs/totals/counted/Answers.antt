@@ -1,9 +1,16 @@
-use Rattle.std.proofs.Common.{◌≡◌, suc, ◌+◌, ◌^◌, subst, sym, arith}
+use Rattle.std.proofs.Common.{◌≡◌, suc, ◌+◌, ◌^◌, [], refl, subst, sym, append-nil, arith}
 use Rattle.hg_rule.specs.Seats.{sizes_of, pass_view}
 use Rattle.hg_headline.proofs.Totalling.{Fits}
 use Rattle.hg_session.specs.Visited.{HasVisited}
 use Rattle.hg_session.proofs.Visiting.{SumsTell, sums_more, sums_fit, sums_all, visited_next, logs_told, newest_told}
 use Rattle.hg_session.proofs.totals.counted.Goals as goal
+
+pub loop-bucket-init : goal.loop-bucket-init
+loop-bucket-init g c = (
+  record { contents = []; each = refl; parts = c.requires.own.1; kept = ([], sym (append-nil _)); events = refl },
+  c.requires.own,
+  record { made = refl; undone = refl; group = refl; table = refl; interval = refl; left = λ _. refl; balance = refl },
+)
 
 fit : (g : _) (c : goal.After-count_bucket-counts g) → Fits (2 ^ 40) c.loop-bucket.sums c.count_bucket-counts.result
 fit g c =

@@ -33,7 +33,7 @@ returns-then-moved-clause-noted c =
     let v = pass_view c.args.pass.now in
     let w = pass_view c.move_one-moved.new.pass in
     let e = c.args.entry in
-    let is : Moves v e.session e.number _ w = subst (λ b. Moves v e.session e.number b w) c.if-moved.true c.move_one-moved.ensures.step in
+    let is : Moves v e.session e.number true w = subst (λ b. Moves v e.session e.number b w) c.if-moved.true c.move_one-moved.ensures.step in
     let same : c.index_mut.result.now ≡ e = search rules in
     noted_moved (board_sizes c.args.self.now).sessions v w c.args.gathered.now c.args.position e c.index_mut.result.now same c.requires.noted c.requires.loaded.0 c.requires.position is
 
