@@ -11,10 +11,10 @@ use Rattle.hg_base.specs.declared.report.Kind.TheVariants.{Group, Table, Interva
 use Rattle.hg_base.specs.declared.report.Sweep.{Sweep}
 use Rattle.hg_base.specs.Shape.{same_kind, report_of}
 use Rattle.hg_core.specs.Counters.{removed_all}
-use Rattle.hg_gc_group.specs.Collectors as group
-use Rattle.hg_gc_group.specs.declared.collector.GroupCollector.{GroupCollector}
-use Rattle.hg_gc_table.specs.Collectors as table
-use Rattle.hg_gc_table.specs.declared.collector.TableCollector.{TableCollector}
+use Rattle.hg_collectors.specs.GroupCollectors as group
+use Rattle.hg_collectors.specs.declared.group.GroupCollector.{GroupCollector}
+use Rattle.hg_rounds.specs.TableCollectors as table
+use Rattle.hg_rounds.specs.declared.table.TableCollector.{TableCollector}
 use Rattle.hg_collectors.specs.Workers as interval
 use Rattle.hg_collectors.specs.declared.interval.IntervalWorker.{IntervalWorker}
 use Rattle.hg_rule.specs.declared.passes.CollectorPass.{CollectorPass}

@@ -1,3 +1,10 @@
+-- The group collector takes a bucket, and cuts its records.
+pub mod Going
+pub mod Held
+pub mod One
+-- It takes groups, and makes a round of them.
+pub mod Groups
+pub mod GroupRounds
 -- One of a list, and one of three kinds.
 pub mod Among
 -- The interval collector, one or a team.

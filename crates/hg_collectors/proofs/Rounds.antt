@@ -23,13 +23,13 @@ use Rattle.hg_rule.proofs.Lists.{among_left}
 use Rattle.hg_tracker.specs.Begun.{HasGathered, SawGroups, gathering}
 use Rattle.hg_tracker.specs.Gathers.{IsFull, IsLoaded}
 use Rattle.hg_tracker.specs.Tries.{is_long, moved_by}
-use Rattle.hg_visit.specs.Visits.{GoesOn}
-use Rattle.hg_visit.specs.Reports.{Reports}
-use Rattle.hg_visit.proofs.Going.{removed_append, removed_for}
-use Rattle.hg_gc_table.specs.Collectors.{Cuts}
-use Rattle.hg_gc_interval.specs.Collectors.{Sweeps}
-use Rattle.hg_sweep.specs.Teams.{SweepsBeside}
-use Rattle.hg_gc_group.specs.Collectors.{Collects}
+use Rattle.hg_rounds.specs.Visits.{GoesOn}
+use Rattle.hg_rounds.specs.Reports.{Reports}
+use Rattle.hg_rounds.proofs.Going.{removed_append, removed_for}
+use Rattle.hg_rounds.specs.TableCollectors.{Cuts}
+use Rattle.hg_rounds.specs.IntervalCollectors.{Sweeps}
+use Rattle.hg_rounds.specs.Teams.{SweepsBeside}
+use Rattle.hg_collectors.specs.GroupCollectors.{Collects}
 use Rattle.hg_core.specs.Counters.{removed_all}
 use Rattle.hg_collectors.specs.Swept.{HasSwept, swept_by}
 

@@ -8,8 +8,8 @@ use Rattle.hg_rule.specs.Sharing.{MaySplit}
 use Rattle.hg_rule.specs.Moves.{meeting}
 use Rattle.hg_rule.specs.Views.{pass}
 use Rattle.hg_rule.specs.Seats.{BoardId, pass_view, IsPassOf}
-use Rattle.hg_sweep.specs.declared.team.SweepTeam.{SweepTeam}
-use Rattle.hg_sweep.specs.Teams.{view_of, with_pass, IsTeamOf}
+use Rattle.hg_rounds.specs.declared.team.SweepTeam.{SweepTeam}
+use Rattle.hg_rounds.specs.Teams.{view_of, with_pass, IsTeamOf}
 use Rattle.hg_collectors.specs.declared.interval.IntervalWorker.{IntervalWorker}
 use Rattle.hg_collectors.specs.declared.interval.IntervalWorker.TheVariants.{One, Team}
 use Rattle.hg_collectors.specs.Workers.{pass_of, IsCollectorOf}

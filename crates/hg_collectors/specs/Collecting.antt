@@ -10,10 +10,10 @@ use Rattle.hg_rule.specs.declared.view.Sizes.{Sizes}
 use Rattle.hg_rule.specs.Keys.{first_share}
 use Rattle.hg_rule.specs.Views.{pass}
 use Rattle.hg_rule.specs.Seats.{BoardId, pass_view, IsPassOf}
-use Rattle.hg_gc_group.specs.declared.collector.GroupCollector.{GroupCollector}
-use Rattle.hg_gc_table.specs.declared.collector.TableCollector.{TableCollector}
-use Rattle.hg_gc_group.specs.Collectors as group
-use Rattle.hg_gc_table.specs.Collectors as table
+use Rattle.hg_collectors.specs.declared.group.GroupCollector.{GroupCollector}
+use Rattle.hg_rounds.specs.declared.table.TableCollector.{TableCollector}
+use Rattle.hg_collectors.specs.GroupCollectors as group
+use Rattle.hg_rounds.specs.TableCollectors as table
 use Rattle.hg_collectors.specs.Workers as interval
 use Rattle.hg_core.specs.Counters.{removed_all}
 use Rattle.hg_collectors.specs.Rounding.{IsRoundBy, AreRounds, HasMadeAll}

@@ -11,10 +11,10 @@ use Rattle.hg_rule.specs.declared.view.Event.TheVariants.{Sample}
 use Rattle.hg_rule.specs.declared.view.View.{View}
 use Rattle.hg_rule.specs.declared.view.Sizes.{Sizes}
 use Rattle.hg_rule.specs.Facts.{HasBegun}
-use Rattle.hg_gc_group.specs.Collectors.{Collects}
-use Rattle.hg_gc_table.specs.Collectors.{Cuts}
-use Rattle.hg_gc_interval.specs.Collectors.{Sweeps}
-use Rattle.hg_sweep.specs.Teams.{SweepsBeside}
+use Rattle.hg_collectors.specs.GroupCollectors.{Collects}
+use Rattle.hg_rounds.specs.TableCollectors.{Cuts}
+use Rattle.hg_rounds.specs.IntervalCollectors.{Sweeps}
+use Rattle.hg_rounds.specs.Teams.{SweepsBeside}
 use Rattle.hg_collectors.specs.declared.round_lists.RoundLists.{RoundLists}
 use Rattle.hg_collectors.specs.declared.round_list.RoundList.{RoundList}
 use Rattle.hg_collectors.specs.Swept.{HasMetSessions}

@@ -3,8 +3,8 @@ use Rattle.hg_rule.specs.declared.passes.CollectorPass.{CollectorPass}
 use Rattle.hg_rule.specs.declared.view.View.{View}
 use Rattle.hg_rule.specs.declared.view.Sizes.{Sizes}
 use Rattle.hg_rule.specs.Seats.{BoardId, pass_view}
-use Rattle.hg_gc_interval.specs.Collectors as one
-use Rattle.hg_sweep.specs.Teams as team
+use Rattle.hg_rounds.specs.IntervalCollectors as one
+use Rattle.hg_rounds.specs.Teams as team
 use Rattle.hg_collectors.specs.declared.interval.IntervalWorker.{IntervalWorker}
 use Rattle.hg_collectors.specs.declared.interval.IntervalWorker.TheVariants.{One, Team}
 

@@ -6,31 +6,39 @@ ghost use Rattle.hg_collectors.specs.Lent.{lent_board_id, lent_sizes};
 ghost use Rattle.hg_base.specs.declared.report.Sweep.{Sweep};
 ghost use Rattle.hg_collectors.specs.Rounding.{IsRoundBy};
 ghost use Rattle.hg_base.specs.declared.report.Kind.TheVariants as kinds;
-ghost use Rattle.hg_gc_group.specs.Collectors as by_group;
-ghost use Rattle.hg_gc_table.specs.Collectors as by_table;
-ghost use Rattle.hg_gc_interval.specs.Collectors as by_one;
+ghost use Rattle.hg_collectors.specs.GroupCollectors as by_group;
+ghost use Rattle.hg_rounds.specs.TableCollectors as by_table;
+ghost use Rattle.hg_rounds.specs.IntervalCollectors as by_one;
 ghost use Rattle.hg_collectors.specs.Workers as by_worker;
 
+use crate::group::GroupCollector;
 use crate::interval::IntervalWorker;
 use crate::lent::Lent;
 use crate::pace::NoGate;
 use hg_base::{Gate, Kind, NoMemory, Steps, Sweep};
-use hg_gc_group::GroupCollector;
-use hg_gc_interval::IntervalCollector;
-use hg_gc_table::TableCollector;
+use hg_rounds::{IntervalCollector, TableCollector};
 use hg_rule::CollectorPass;
 use std::alloc::Global;
-use std::marker::Brand;
+use std::marker::{Brand, Model};
 use std::sync::Wait;
 use std::sync::ledger::{Blank, Ledger};
 use std::thread::Threads;
 
-/// The three, each with the room that its rounds need.
+/// The three, each with the room that its rounds need. Contracts see them as a `Trio`, so that no proof of a function that holds them
+/// lists the types of all that they own.
 #[derive(Drop)]
 pub struct Collectors {
     pub group: GroupCollector,
     pub table: TableCollector,
     pub interval: IntervalWorker,
+}
+
+impl Model for Collectors {
+    ghost use Rattle.hg_collectors.specs.Trio.{Trio};
+
+    ghost Value = { Trio };
+
+    ghost view = { λ a. record { group = a.group; table = a.table; interval = a.interval } };
 }
 
 /// For how many sessions and tables there is room, and how many helpers share a round of the interval collector.
@@ -113,6 +121,9 @@ impl Collectors {
             Kind::Interval => sweep_round(rt, lent, &NoGate, &mut self.interval),
         }
     }
+
+    /// Frees the three, with the room for their rounds.
+    pub fn free(self) {}
 }
 
 /// The group or the table collector, on what an engine lends. A snapshot that is `long` commit numbers behind the mark is long in use.

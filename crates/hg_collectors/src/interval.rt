@@ -6,9 +6,8 @@ ghost use Rattle.hg_rule.specs.Views.{pass as own_pass};
 ghost use Rattle.hg_rule.specs.Seats.{BoardId, pass_view, IsPassOf};
 
 use hg_base::NoMemory;
-use hg_gc_interval::IntervalCollector;
+use hg_rounds::{IntervalCollector, SweepTeam};
 use hg_rule::CollectorPass;
-use hg_sweep::SweepTeam;
 use std::alloc::Global;
 
 /// Makes the rounds of the interval collector.

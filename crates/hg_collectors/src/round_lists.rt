@@ -1,7 +1,7 @@
 //! The collectors of a run, each in a thread of its own.
 
-ghost use Rattle.hg_gc_group.specs.Collectors as groups;
-ghost use Rattle.hg_gc_table.specs.Collectors as tables;
+ghost use Rattle.hg_collectors.specs.GroupCollectors as groups;
+ghost use Rattle.hg_rounds.specs.TableCollectors as tables;
 ghost use Rattle.hg_collectors.specs.Workers as intervals;
 ghost use Rattle.hg_collectors.specs.Lent.{lent_board_id, lent_sizes};
 ghost use Rattle.hg_collectors.specs.Collecting.{AreCollectorsOf, HasMadeGroups, HasMadeIntervals, HasMadeTables, HaveMadeAll};
@@ -13,7 +13,7 @@ use crate::lent::Lent;
 use crate::pace::{GROUP, INTERVAL, TABLE};
 use crate::round_list::{Plan, RoundList, make_rounds, make_sweeps};
 use hg_base::{Gate, NoMemory};
-use hg_gc_table::TableCollector;
+use hg_rounds::TableCollector;
 use std::alloc::Global;
 use std::sync::Wait;
 use std::thread;

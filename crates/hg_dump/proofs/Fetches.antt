@@ -24,8 +24,8 @@ use Rattle.hg_cursor.specs.Given.{begins_at, goes_on, AreFirstOf, Fetched, joine
 use Rattle.hg_cursor.specs.Keys.{Rows}
 use Rattle.hg_cursor.specs.Logs.{GoesOn}
 use Rattle.hg_cursor.proofs.Joining.{given_all, given_none}
-use Rattle.hg_source.specs.Rows.{AreAscending, AreRowsAt, Kept, kept_in}
-use Rattle.hg_source.proofs.Ordered.{contains_first, contains_later}
+use Rattle.hg_dump.specs.Rows.{AreAscending, AreRowsAt, Kept, kept_in}
+use Rattle.hg_dump.proofs.Ordered.{contains_first, contains_later}
 use Rattle.hg_dump.specs.declared.tables.TheConstants.{FETCHED}
 use Rattle.hg_dump.specs.Exports.{Looks}
 use Rattle.hg_dump.specs.Writes.{IsOver, HasWritten, HasWrittenTable, HasWrittenTables, last_of_all, puts_bytes}

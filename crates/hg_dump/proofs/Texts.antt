@@ -8,9 +8,9 @@ use Rattle.hg_base.specs.declared.rid.TableId.{TableId}
 use Rattle.hg_base.specs.Script.{Declaration, Script}
 use Rattle.hg_rule.specs.Facts.{StartsWith}
 use Rattle.hg_cursor.specs.Keys.{Rows}
-use Rattle.hg_csv.specs.Bytes.{record_bytes}
-use Rattle.hg_source.specs.Records.{dump_text, heading, put_fields}
-use Rattle.hg_source.specs.Rows.{Kept, kept_in}
+use Rattle.hg_records.specs.Bytes.{record_bytes}
+use Rattle.hg_dump.specs.Records.{dump_text, heading, put_fields}
+use Rattle.hg_dump.specs.Rows.{Kept, kept_in}
 use Rattle.hg_dump.specs.Writes.{puts_bytes}
 
 puts_append : (tables : List Declaration) (xs ys : List Kept) → puts_bytes tables (xs ++ ys) ≡ puts_bytes tables xs ++ puts_bytes tables ys

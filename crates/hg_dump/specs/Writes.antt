@@ -13,9 +13,9 @@ use Rattle.hg_cursor.specs.Cursors.{at_of, table_of, high_of, rest_of, shown_at}
 use Rattle.hg_cursor.specs.Given.{begins_at, AreFirstOf, HasMoved}
 use Rattle.hg_cursor.specs.Keys.{Rows}
 use Rattle.hg_cursor.specs.Logs.{GoesOn}
-use Rattle.hg_csv.specs.Bytes.{record_bytes}
-use Rattle.hg_source.specs.Records.{dump_text, put_fields}
-use Rattle.hg_source.specs.Rows.{AreRowsAt, Kept, kept_in}
+use Rattle.hg_records.specs.Bytes.{record_bytes}
+use Rattle.hg_dump.specs.Records.{dump_text, put_fields}
+use Rattle.hg_dump.specs.Rows.{AreRowsAt, Kept, kept_in}
 use Rattle.hg_dump.specs.declared.tables.TheConstants.{FETCHED}
 
 -- the puts of rows

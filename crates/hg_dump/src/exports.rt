@@ -10,8 +10,8 @@ ghost use Rattle.hg_store.specs.Stores.{store_buckets};
 ghost use Rattle.hg_tracker.specs.Begun.{AtMost};
 ghost use Rattle.hg_tracker.specs.Boards.{trackers_board_id, board_sizes};
 ghost use Rattle.hg_cursor.specs.Logs.{GoesOn};
-ghost use Rattle.hg_source.specs.Records.{dump_text};
-ghost use Rattle.hg_source.specs.Rows.{rows_at};
+ghost use Rattle.hg_dump.specs.Records.{dump_text};
+ghost use Rattle.hg_dump.specs.Rows.{rows_at};
 ghost use Rattle.hg_dump.specs.Exports.{HasRead, MayExport};
 
 use crate::tables::Reading;

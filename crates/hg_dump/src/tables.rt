@@ -9,11 +9,12 @@ ghost use Rattle.hg_cursor.specs.Logs.{ReadsAt};
 ghost use Rattle.hg_dump.specs.Exports.{IsReading, Looks};
 ghost use Rattle.hg_dump.specs.Writes.{IsOver, HasWritten, HasWrittenAll, HasWrittenTable, HasWrittenTables};
 
+use crate::header::heading_text;
+use crate::puts::puts_text;
 use hg_base::{NoMemory, TableId};
 use hg_cursor::{Cursor, Tables};
 use hg_rule::SessionPass;
 use hg_script::Script;
-use hg_source::{heading_text, puts_text};
 use std::alloc::Global;
 use std::sync::Wait;
 

@@ -42,3 +42,15 @@ pub mod Shown
 pub mod Conflict
 -- The totals of texts that are alike.
 pub mod Totals
+-- What is printed fits the script: how many there are of all, the records in the order of their lines, the rows, and each line.
+pub mod Sessions
+pub mod OpenAfter
+pub mod Counts
+pub mod InOrder
+pub mod Opens
+pub mod Fetched
+pub mod FitRows
+pub mod Widths
+pub mod Few
+pub mod Replies
+pub mod Fits

@@ -15,11 +15,23 @@
 //! the first conflict (`IsFirst`). So what a driver has to show of a line besides is small. `ShowsFirsts` (`Shown` of `hg_core`) says it of
 //! logs, which a driver knows: before a write is stored, no other session has the record open, and no newer group wrote it. The driver of
 //! a replay shows it (`hg_run`). The worked examples of `hg_decide` are evaluated, and four sound texts that are not replayed.
+//!
+//! # What is sound fits
+//!
+//! What is sound for a script, in any mode, has its rows, its numbers and its lines in the widths and columns of the format (`fit`):
+//!
+//!     lawful script  +  sound lines and totals     =>     each row has its table's columns
+//!                                                  =>     each number has its width, each line answers its record
+//!
+//! Nothing here runs: each law is the contract of a function with no body. What replays and runs a script proves that its lines are
+//! sound, and takes from here that they fit.
 #![tactic(auto)]
 
+mod fit;
 mod laws;
 mod worked;
 
+pub use fit::{rows_have_their_columns, what_is_sound_fits};
 pub use laws::{
     commit_numbers_ascend, lawful_scripts_are_answered, newest_group_is_of_the_history,
     shown_first_causes_are_replayed, sound_with_first_causes_is_replayed,

@@ -118,5 +118,5 @@ pub(crate) fn commit_lock(
     let book = Box::new(alloc, book)?;
     let mut batches = Vec::with_capacity(alloc, 1)?;
     batches.push_reserved(Batches { seat, book });
-    Locks::new(alloc, batches, founding)
+    Ok(Locks::new(alloc, batches, founding)?)
 }

@@ -75,7 +75,7 @@ pub(crate) fn push_locks(
     ensures count { IfOk result (λ locks. count_of locks ≡ sessions) }
 {
     let pushers = make_pushers(alloc, queue, line, founding, sessions)?;
-    Locks::new(alloc, pushers, founding)
+    Ok(Locks::new(alloc, pushers, founding)?)
 }
 
 /// A session's right to push, while its transaction is on its way and its lock is held. It has no `Drop`: it ends in `finish`.

@@ -7,7 +7,6 @@ use crate::fits::Fits;
 use crate::guard::{AWAITED, FREE, Guard, HELD, Release, Seen, Seize};
 use crate::loan::Loan;
 use atomic_table::{Refused, Seat, Table};
-use hg_base::NoMemory;
 use std::alloc::{AllocError, Global};
 use std::hint::spin_loop;
 use std::sync::Wait;
@@ -79,7 +78,7 @@ impl<X: Fits + Drop> Locks<X> {
     ghost use Rattle.hg_lock.specs.Locks.{EachFits, IsLoanOf, count_of, lock_of, tag_of};
 
     /// A free lock for each value, in order.
-    pub fn new(alloc: Global, values: Vec<X>, tag: &X::Tag) -> Result<Locks<X>, NoMemory>
+    pub fn new(alloc: Global, values: Vec<X>, tag: &X::Tag) -> Result<Locks<X>, AllocError>
         requires { EachFits (X.fits tag.now) values.items }
         ensures tag { IfOk result (λ locks. tag_of locks ≡ tag.now) }
         ensures count { IfOk result (λ locks. count_of locks ≡ length values.items) }
@@ -89,7 +88,7 @@ impl<X: Fits + Drop> Locks<X> {
         let words = vec![in alloc; FREE; slots.len()]?;
         match Table::new(alloc, words.as_slice(), slots, tag) {
             Ok((table, _seat)) => Ok(Locks { table, count }),
-            Err(Refused { slots: _ }) => Err(NoMemory),
+            Err(Refused { slots: _ }) => Err(AllocError),
         }
     }
 

@@ -4,3 +4,5 @@ pub mod Links
 pub mod Unpacked
 -- The table of each session's last cursor.
 pub mod Opening
+-- The bytes of records, and of fields byte by byte.
+pub mod RecordBytes

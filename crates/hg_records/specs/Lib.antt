@@ -4,3 +4,5 @@ pub mod Asked
 pub mod Packed
 pub mod Links
 pub mod Cursors
+-- The bytes of a record.
+pub mod Bytes

@@ -12,7 +12,7 @@ use Rattle.hg_script.specs.Lawful.{IsLawful}
 use Rattle.hg_report.specs.declared.progress.Progress.{Progress}
 use Rattle.hg_report.specs.declared.refusal.TextRefusal.{TextRefusal}
 use Rattle.hg_report.specs.declared.refusal.TextRefusal.TheVariants.{At}
-use Rattle.hg_csv.specs.Bytes.{record_bytes}
+use Rattle.hg_records.specs.Bytes.{record_bytes}
 use Rattle.hg_report.specs.Readable.{IsTextOf, IsRefusedAt, TellsRefusal}
 use Rattle.hg_report.specs.Progress.{at_start, finished, Runs}
 use Rattle.hg_report.proofs.Following.{is_text, is_only_text, is_refused, none_next_of_none}

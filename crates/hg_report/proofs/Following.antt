@@ -12,12 +12,12 @@ use Rattle.hg_script.specs.Lawful.{IsLawful}
 use Rattle.hg_transcript.specs.declared.piece.Piece.{Piece}
 use Rattle.hg_transcript.specs.declared.piece.Piece.TheVariants as piece
 use Rattle.hg_report.specs.declared.progress.Progress.{Progress}
-use Rattle.hg_csv.specs.Bytes.{record_bytes}
+use Rattle.hg_records.specs.Bytes.{record_bytes}
 use Rattle.hg_report.specs.Readable.{IsTextOf, IsRefusedAt}
 use Rattle.hg_transcript.specs.Piece.{piece_fields}
 use Rattle.hg_report.specs.Progress.{guess_after, after, at_start, finished, standing, totals_of, IsNext, Runs}
 use Rattle.hg_report.specs.Fields.{parted}
-use Rattle.hg_csv.proofs.RecordBytes.{record_is}
+use Rattle.hg_records.proofs.RecordBytes.{record_is}
 use Rattle.hg_report.proofs.Unquoted.{same_fields}
 use Rattle.hg_report.proofs.Parted.{parted_record}
 use Rattle.hg_report.proofs.Counts.{Records}

@@ -15,7 +15,7 @@ use Rattle.hg_base.specs.declared.value.Value.{Value}
 use Rattle.hg_base.specs.Script.{Declaration}
 use Rattle.hg_base.specs.Text.{Field, Fits64, FitsRefusal, FitsBegin, FitsGet, FitsPut, FitsDel, FitsScan, FitsFetch, FitsClose, FitsCommit, FitsRollback, FitsSweep, FitsGc, FitsAnswer}
 use Rattle.hg_base.specs.Text.{answer_fields, kind_word, told_as, kinds_of, value_field, is_write}
-use Rattle.hg_csv.specs.Bytes.{field_bytes}
+use Rattle.hg_records.specs.Bytes.{field_bytes}
 use Rattle.hg_report.specs.Fields.{nth, natural_at}
 use Rattle.hg_records.specs.Asked.{asked_by}
 use Rattle.hg_report.specs.Guess.{answer_guess, get_guess, put_guess, del_guess, scan_guess, commit_guess, gc_guess, refusal_guess, sweep_guess, kind_guess, number_guess}

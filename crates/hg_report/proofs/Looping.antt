@@ -7,7 +7,7 @@ use Rattle.hg_base.specs.Script.{Script}
 use Rattle.hg_base.specs.Text.{Field}
 use Rattle.hg_transcript.specs.declared.piece.Piece.{Piece}
 use Rattle.hg_report.specs.declared.progress.Progress.{Progress}
-use Rattle.hg_csv.specs.Bytes.{record_bytes}
+use Rattle.hg_records.specs.Bytes.{record_bytes}
 use Rattle.hg_report.specs.Fields.{parted}
 use Rattle.hg_transcript.specs.Piece.{piece_fields}
 use Rattle.hg_report.specs.Progress.{after, at_start, guess_after, standing, IsNext, Runs, Takes}

@@ -9,11 +9,11 @@ use Rattle.std.proofs.lemmas.Bool.{cases_Bool, eqb-true, false≢true}
 use Rattle.std.proofs.lemmas.Bool.Decides.{nat_tests}
 use Rattle.csv.specs.Writing.{escaped, needs_byte}
 use Rattle.hg_base.specs.Text.{Field}
-use Rattle.hg_csv.specs.Bytes.{flexible_writer, record_bytes, field_bytes, further_bytes}
+use Rattle.hg_records.specs.Bytes.{flexible_writer, record_bytes, field_bytes, further_bytes}
 use Rattle.hg_report.specs.Fields.{fields_of, parted}
 use Rattle.hg_report.specs.Progress.{standing}
 use Rattle.hg_transcript.proofs.Plain.{IsPlain, inner}
-use Rattle.hg_csv.proofs.RecordBytes.{escaped_other, record_is}
+use Rattle.hg_records.proofs.RecordBytes.{escaped_other, record_is}
 
 -- ---- over a field
 

@@ -17,7 +17,7 @@ use Rattle.hg_base.proofs.TextNumbers.{first_digit}
 use Rattle.hg_base.specs.declared.number.Natural.TheVariants as n
 use Rattle.hg_base.specs.Number.{natural_of, value_of, integer_of}
 use Rattle.hg_base.proofs.Decimal.{back}
-use Rattle.hg_csv.specs.Bytes.{field_bytes}
+use Rattle.hg_records.specs.Bytes.{field_bytes}
 use Rattle.hg_report.specs.Fields.{nth, natural_at, session_in, narrow, integer_value, value_in, values_in, row_in}
 use Rattle.hg_report.proofs.Columns.{AreFew}
 use Rattle.hg_transcript.proofs.Plain.{number_bytes, value_bytes}

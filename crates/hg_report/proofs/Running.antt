@@ -22,7 +22,7 @@ use Rattle.hg_base.specs.Text.{row_fields, told_as, value_field, line_records, t
 use Rattle.hg_base.proofs.TextNumbers.{number_is_no_word}
 use Rattle.hg_base.proofs.TextReplies.{answer_begins, behind_at}
 use Rattle.hg_script.specs.Lawful.{IsLawful}
-use Rattle.hg_csv.specs.Bytes.{field_bytes}
+use Rattle.hg_records.specs.Bytes.{field_bytes}
 use Rattle.hg_transcript.specs.declared.piece.Piece.TheVariants as piece
 use Rattle.hg_report.specs.declared.progress.Open.TheVariants as opens
 use Rattle.hg_report.specs.declared.progress.Progress.{Progress}

@@ -20,7 +20,7 @@ use Rattle.hg_base.specs.Transcript.{table_of}
 use Rattle.hg_base.specs.Text.{Field, Fits64, FitTotals, FitsAnswer, FitsSweep, kinds_of}
 use Rattle.hg_base.specs.Text.{told_as, total_fields, totals_records}
 use Rattle.hg_base.proofs.TextNumbers.{number_is_no_word}
-use Rattle.hg_csv.specs.Bytes.{field_bytes}
+use Rattle.hg_records.specs.Bytes.{field_bytes}
 use Rattle.hg_transcript.specs.declared.piece.Piece.{Piece}
 use Rattle.hg_transcript.specs.declared.piece.Piece.TheVariants as piece
 use Rattle.hg_report.specs.declared.progress.Open.{Open}

@@ -5,7 +5,7 @@ use Rattle.std.proofs.lemmas.List.{take-take}
 use Rattle.std.proofs.lemmas.List.Concat.{flat_map-append}
 use Rattle.hg_base.specs.Script.{Script}
 use Rattle.hg_base.specs.Text.{Field, text_records}
-use Rattle.hg_csv.specs.Bytes.{record_bytes}
+use Rattle.hg_records.specs.Bytes.{record_bytes}
 use Rattle.hg_report.specs.Readable.{BeginsText, IsRefusedAt}
 
 fewer : (m n : ℕ) (records : List (List Field)) → m ≤ n → flat_map record_bytes (take n records) ≡ flat_map record_bytes (take m records) ++ flat_map record_bytes (drop m (take n records))

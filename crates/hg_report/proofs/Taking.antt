@@ -7,7 +7,7 @@ use Rattle.hg_transcript.specs.declared.piece.Piece.{Piece}
 use Rattle.hg_transcript.specs.declared.piece.Piece.TheVariants as piece
 use Rattle.hg_report.specs.declared.progress.Open.{Open}
 use Rattle.hg_report.specs.declared.progress.Progress.{Progress}
-use Rattle.hg_csv.specs.Bytes.{record_bytes}
+use Rattle.hg_records.specs.Bytes.{record_bytes}
 use Rattle.hg_transcript.specs.Piece.{piece_fields}
 use Rattle.hg_report.specs.Progress.{Begins, guess_after, Takes}
 use Rattle.hg_report.proofs.Fitting.{FitsFirst, FitsNext, comes_first, comes_row, comes_held, comes_total, guess_fits}

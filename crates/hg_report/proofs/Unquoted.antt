@@ -6,11 +6,11 @@ use Rattle.std.proofs.lemmas.Bool.{cases_Bool, eqb-true}
 use Rattle.std.proofs.lemmas.List.{drop_all, drop_more}
 use Rattle.csv.specs.Writing.{escaped, needs_byte}
 use Rattle.hg_base.specs.Text.{Field}
-use Rattle.hg_csv.specs.Bytes.{flexible_writer, field_bytes}
+use Rattle.hg_records.specs.Bytes.{flexible_writer, field_bytes}
 use Rattle.hg_report.specs.Fields.{is_left_out, nth, says, text_in, unquoted}
 use Rattle.hg_report.specs.Progress.{standing}
 use Rattle.hg_transcript.proofs.Plain.{IsPlain, inner, no_word}
-use Rattle.hg_csv.proofs.RecordBytes.{escaped_other}
+use Rattle.hg_records.proofs.RecordBytes.{escaped_other}
 
 none_stands : field_bytes [] ≡ []
 unfolding field_bytes

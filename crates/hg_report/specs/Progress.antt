@@ -13,7 +13,7 @@ use Rattle.hg_transcript.specs.declared.piece.Piece.TheVariants as piece
 use Rattle.hg_report.specs.declared.progress.Open.{Open}
 use Rattle.hg_report.specs.declared.progress.Open.TheVariants as opens
 use Rattle.hg_report.specs.declared.progress.Progress.{Progress}
-use Rattle.hg_csv.specs.Bytes.{field_bytes, record_bytes}
+use Rattle.hg_records.specs.Bytes.{field_bytes, record_bytes}
 use Rattle.hg_report.specs.Fields.{says, natural_at}
 use Rattle.hg_transcript.specs.Piece.{piece_fields}
 use Rattle.hg_report.specs.Guess.{first_guess, row_guess, held_guess}

@@ -6,7 +6,7 @@ use Rattle.hg_base.specs.Script.{Script}
 use Rattle.hg_base.specs.Text.{IsFit, text_records, text_of}
 use Rattle.hg_report.specs.declared.refusal.TextRefusal.{TextRefusal}
 use Rattle.hg_report.specs.declared.refusal.TextRefusal.TheVariants.{At, NoMemory}
-use Rattle.hg_csv.specs.Bytes.{record_bytes}
+use Rattle.hg_records.specs.Bytes.{record_bytes}
 
 -- the bytes are the text of a printed value that fits the script
 pub record IsTextOf (script : Script) (bytes : List ℕ) (printed : Printed) : Type 0 where

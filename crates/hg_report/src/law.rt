@@ -5,7 +5,7 @@ ghost use Rattle.hg_base.specs.declared.line.Printed.{Printed};
 ghost use Rattle.hg_base.specs.Script.{Script};
 ghost use Rattle.hg_base.specs.Text.{IsFit, text_of};
 ghost use Rattle.hg_script.specs.Lawful.{IsLawful};
-ghost use Rattle.hg_csv.specs.Bytes.{record_bytes};
+ghost use Rattle.hg_records.specs.Bytes.{record_bytes};
 ghost use Rattle.hg_report.specs.Readable.{IsRefusedAt};
 
 /// One record alone is the first with which the bytes do not begin a text.

@@ -5,7 +5,7 @@ ghost use Rattle.hg_script.specs.Lawful.{IsLawful};
 ghost use Rattle.hg_base.specs.declared.line.Printed.{Printed};
 ghost use Rattle.hg_report.specs.declared.refusal.TextRefusal.TheVariants as refusal;
 ghost use Rattle.hg_report.specs.Readable.{IsTextOf, TellsRefusal};
-ghost use Rattle.hg_csv.specs.Bytes.{record_bytes};
+ghost use Rattle.hg_records.specs.Bytes.{record_bytes};
 ghost use Rattle.hg_report.specs.Fields.{fields_of, parted};
 ghost use Rattle.hg_transcript.specs.Piece.{piece_fields};
 ghost use Rattle.hg_report.specs.Progress.{Begins, Takes, finished};

@@ -47,7 +47,7 @@ use Rattle.hg_run.specs.Heard.{HasSeen}
 use Rattle.hg_run.proofs.Hearing.{heard_none}
 use Rattle.hg_collectors.proofs.Rounds.{starts_more}
 use Rattle.hg_run.proofs.Listing.{by_two, log_at, map_over}
-use Rattle.hg_fit.proofs.OpenAfter.{none_open, open_after}
+use Rattle.hg_exact.proofs.OpenAfter.{none_open, open_after}
 
 -- ---- a row, place by place
 

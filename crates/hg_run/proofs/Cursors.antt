@@ -33,7 +33,7 @@ use Rattle.hg_session.specs.Sessions.{view_of, open_of, cursor_of}
 use Rattle.hg_run.specs.Asked.{IsAnswered, MayAsk, collector_asked}
 use Rattle.hg_run.specs.Listed.{HasCursor, HaveCursors, KeepCursors}
 use Rattle.hg_run.proofs.Listing.{get_any}
-use Rattle.hg_fit.proofs.OpenAfter.{none_held, none_open, open_own, open_other, within_held}
+use Rattle.hg_exact.proofs.OpenAfter.{none_held, none_open, open_own, open_other, within_held}
 
 -- ---- one session
 

@@ -2,16 +2,16 @@
 use Rattle.std.proofs.Common.{◌≡◌, ℕ, suc, ◌+◌, List, [], ◌∷◌, ◌++◌, length, refl, sym, ap, ◌∙◌, subst, arith, append_assoc}
 use Rattle.std.specs.Prelude.{is_some, Result, Ok, Err, IfOk}
 use Rattle.std.specs.declared.alloc.Global.{Global}
-use Rattle.hg_backup.proofs.Exported.{logged_goes, reads_more}
-use Rattle.hg_backup.proofs.Newest.{newest}
-use Rattle.hg_backup.specs.Reader.{HasReadAll, without_looks}
+use Rattle.hg_dump.proofs.Exported.{logged_goes, reads_more}
+use Rattle.hg_dump.proofs.Newest.{newest}
+use Rattle.hg_dump.specs.Reader.{HasReadAll, without_looks}
 use Rattle.hg_base.specs.declared.fault.NoMemory.{NoMemory}
 use Rattle.hg_base.specs.declared.line.Line.{Line}
 use Rattle.hg_base.specs.declared.line.Totals.{Totals}
 use Rattle.hg_base.specs.declared.scope.Scope.TheVariants.{All}
 use Rattle.hg_base.specs.Script.{Script}
 use Rattle.hg_base.specs.Text.{IsFit, text_of}
-use Rattle.hg_csv.specs.Bytes.{record_bytes}
+use Rattle.hg_records.specs.Bytes.{record_bytes}
 use Rattle.hg_core.specs.declared.log.LogEntry.{LogEntry}
 use Rattle.hg_core.specs.declared.log.LogEntry.TheVariants.{Began, Over}
 use Rattle.hg_core.specs.Logs.{begans, current, open_in, UpTo}
@@ -29,8 +29,8 @@ use Rattle.hg_session.specs.Finished.{logs_of, IsClosed}
 use Rattle.hg_session.specs.Opened.{seated, IsNewOf}
 use Rattle.hg_session.specs.Sessions.{pass_of}
 use Rattle.hg_session.specs.Ties.{phase_at}
-use Rattle.hg_source.specs.Records.{dump_text}
-use Rattle.hg_source.specs.Rows.{rows_at}
+use Rattle.hg_dump.specs.Records.{dump_text}
+use Rattle.hg_dump.specs.Rows.{rows_at}
 use Rattle.hg_store.proofs.Filling.{each_from_at}
 use Rattle.hg_collectors.specs.declared.collectors.Collectors.{Collectors}
 use Rattle.hg_run.specs.declared.dump_text.Dumps.{Dumps}

@@ -11,8 +11,8 @@ use Rattle.hg_dump.specs.Exports.{HasRead}
 use Rattle.hg_rule.specs.declared.view.View.{View}
 use Rattle.hg_session.specs.declared.engine.Engine.{Engine}
 use Rattle.hg_session.specs.Engines.{engine_sizes}
-use Rattle.hg_source.specs.Records.{dump_text}
-use Rattle.hg_source.specs.Rows.{rows_at}
+use Rattle.hg_dump.specs.Records.{dump_text}
+use Rattle.hg_dump.specs.Rows.{rows_at}
 use Rattle.hg_tracker.specs.Begun.{AtMost}
 use Rattle.hg_run.specs.Reader.{HasDumped}
 

@@ -16,13 +16,13 @@ use Rattle.hg_base.specs.Text.{Fits32, IsFit}
 use Rattle.hg_base.specs.Transcript.{Said, history_of}
 use Rattle.hg_base.proofs.ListFacts.{false_true, each_after_keeps, each_keeps, if_some_keeps}
 use Rattle.hg_script.specs.Lawful.{IsLawful}
-use Rattle.hg_backup.specs.Alone.{IsReaders, IsReportedBut, IsRightBut}
-use Rattle.hg_backup.specs.Reader.{IsSoundWith, reader_of}
-use Rattle.hg_backup.proofs.Alone.{sound_but}
-use Rattle.hg_backup.proofs.Holding.{within_alone}
-use Rattle.hg_fit.proofs.Few.{IsHeldFew, IsReportFew, IsRightEnough}
-use Rattle.hg_fit.proofs.Fits.{right_fits}
-use Rattle.hg_fit.proofs.Sessions.{sessions_within}
+use Rattle.hg_dump.specs.Alone.{IsReaders, IsReportedBut, IsRightBut}
+use Rattle.hg_dump.specs.Reader.{IsSoundWith, reader_of}
+use Rattle.hg_dump.proofs.Alone.{sound_but}
+use Rattle.hg_dump.proofs.Holding.{within_alone}
+use Rattle.hg_exact.proofs.Few.{IsHeldFew, IsReportFew, IsRightEnough}
+use Rattle.hg_exact.proofs.Fits.{right_fits}
+use Rattle.hg_exact.proofs.Sessions.{sessions_within}
 
 -- a snapshot at which the reader read is one of the history
 one_of : (n number : ℕ) (ats : List ℕ) → list_any (λ at. at == number) ats ≡ true → Each (λ at. at ≤ n) ats → number ≤ n

@@ -33,7 +33,7 @@ use Rattle.hg_session.specs.Engines.{engine_sizes}
 use Rattle.hg_session.specs.Finished.{logs_of}
 use Rattle.hg_session.specs.Sessions.{cursor_of, open_of}
 use Rattle.hg_session.proofs.Cursors.{no_cursor}
-use Rattle.hg_fit.specs.Opening.{AreOpen}
+use Rattle.hg_exact.specs.Opening.{AreOpen}
 use Rattle.hg_run.specs.Caught.{HasCaughtUp, HasOwn, SeesAll}
 use Rattle.hg_run.specs.Listed.{ArePlaced, AreReady, HaveCursors, KeepCursors, SawAt, none_left, one_more}
 use Rattle.hg_run.specs.Asked.{IsOnTables, IsReplied, HasReplied, MayAsk}
@@ -47,7 +47,7 @@ use Rattle.hg_run.proofs.Cursors.{cursors_kept, cursors_same, left_more, no_curs
 use Rattle.hg_collectors.proofs.Driving.{made_first, made_more}
 use Rattle.hg_run.proofs.Caught.{caught_before}
 use Rattle.hg_run.proofs.Listing.{log_at}
-use Rattle.hg_fit.proofs.OpenAfter.{opened_more}
+use Rattle.hg_exact.proofs.OpenAfter.{opened_more}
 
 -- of a record that is still to come: a statement of a session that there is
 pub record IsToCome (script : Script) (sessions : ℕ) (r : Record) : Type 0 where

@@ -33,14 +33,14 @@ use Rattle.hg_run.specs.declared.work.Worker.{Worker}
 use Rattle.hg_run.specs.Asked.{IsOnTables}
 use Rattle.hg_collectors.specs.Collecting.{view_in, HaveMadeAll, told_in}
 use Rattle.hg_run.specs.Driven.{AreBack, HasDrivenAll}
-use Rattle.hg_fit.specs.Opening.{AreOpen}
+use Rattle.hg_exact.specs.Opening.{AreOpen}
 use Rattle.hg_collectors.specs.Rounding.{IsRoundBy, AreRounds}
 use Rattle.hg_collectors.specs.Telling.{sweep_lines}
 use Rattle.hg_run.specs.Working.{AreEnded, AreWilling, HasEnded, HasWorked, IsAskedOf, IsHired, MayFollow, hired, lines_in, sessions_in}
 use Rattle.hg_collectors.proofs.Among.{by_kind}
 use Rattle.hg_run.proofs.Closes.{by_place, closed_cursors}
 use Rattle.hg_run.proofs.Going.{on_tables}
-use Rattle.hg_fit.proofs.OpenAfter.{open_other, open_own}
+use Rattle.hg_exact.proofs.OpenAfter.{open_other, open_own}
 
 -- ---- lists
 

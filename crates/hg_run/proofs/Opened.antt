@@ -1,6 +1,6 @@
 -- An engine that was opened with one session more than the script has.
 use Rattle.std.proofs.Common.{◌≡◌, ℕ, zero, suc, List, [], ◌∷◌, ◌++◌, length, refl, sym, ap, ◌∙◌, arith}
-use Rattle.hg_backup.specs.Reader.{reader_of}
+use Rattle.hg_dump.specs.Reader.{reader_of}
 use Rattle.hg_base.specs.Script.{Script}
 use Rattle.hg_rule.specs.New.{EachFrom}
 use Rattle.hg_session.specs.declared.engine.Engine.{Engine}

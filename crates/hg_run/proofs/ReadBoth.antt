@@ -1,7 +1,7 @@
 -- What a run next to a reader printed and read, where both dumps were empty before.
 use Rattle.std.proofs.Common.{◌≡◌, ◌≤◌, ℕ, List, [], ◌∷◌, ◌++◌, length, suc, sym, ap, ◌∙◌, subst}
 use Rattle.std.specs.declared.alloc.Global.{Global}
-use Rattle.hg_backup.proofs.Holding.{within_alone}
+use Rattle.hg_dump.proofs.Holding.{within_alone}
 use Rattle.hg_base.specs.declared.line.Line.{Line}
 use Rattle.hg_base.specs.declared.line.Printed.{Printed}
 use Rattle.hg_base.specs.declared.line.Totals.{Totals}
@@ -17,8 +17,8 @@ use Rattle.hg_session.specs.declared.session.Session.{Session}
 use Rattle.hg_session.specs.Engines.{engine_sizes}
 use Rattle.hg_session.specs.Finished.{IsClosed}
 use Rattle.hg_session.specs.Opened.{seated}
-use Rattle.hg_source.specs.Records.{dump_text}
-use Rattle.hg_source.specs.Rows.{rows_at}
+use Rattle.hg_dump.specs.Records.{dump_text}
+use Rattle.hg_dump.specs.Rows.{rows_at}
 use Rattle.hg_collectors.specs.declared.collectors.Collectors.{Collectors}
 use Rattle.hg_run.specs.Reader.{IsOpenedBeside}
 use Rattle.hg_run.proofs.Closes.{new_logs}

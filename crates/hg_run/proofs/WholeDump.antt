@@ -2,11 +2,11 @@
 use Rattle.std.proofs.Common.{◌≡◌, ℕ, suc, List, [], ◌∷◌, ◌≤◌, length, map, None, inl, refl, sym, ap, ◌∙◌, subst, arith}
 use Rattle.std.specs.Prelude.{if◌then◌else◌, max}
 use Rattle.std.specs.declared.alloc.Global.{Global}
-use Rattle.hg_backup.specs.Reader.{HasReadAll, IsSoundWith, reader_of}
-use Rattle.hg_backup.specs.Ran.{HasRunWith}
-use Rattle.hg_backup.proofs.Looks.{read_closed}
-use Rattle.hg_backup.proofs.Runs.{sound_with}
-use Rattle.hg_backup.proofs.Shown.{many_same, rows_same}
+use Rattle.hg_dump.specs.Reader.{HasReadAll, IsSoundWith, reader_of}
+use Rattle.hg_dump.specs.Ran.{HasRunWith}
+use Rattle.hg_dump.proofs.Looks.{read_closed}
+use Rattle.hg_dump.proofs.Runs.{sound_with}
+use Rattle.hg_dump.proofs.Shown.{many_same, rows_same}
 use Rattle.hg_base.specs.declared.line.Line.{Line}
 use Rattle.hg_base.specs.declared.line.Totals.{Totals}
 use Rattle.hg_base.specs.declared.report.Kind.{Kind}
@@ -18,7 +18,7 @@ use Rattle.hg_base.specs.History.{History}
 use Rattle.hg_base.specs.Script.{Script, run}
 use Rattle.hg_base.specs.Sound.{all_said}
 use Rattle.hg_base.specs.Transcript.{history_of, of_session}
-use Rattle.hg_source.specs.Rows.{rows_at}
+use Rattle.hg_dump.specs.Rows.{rows_at}
 use Rattle.hg_core.specs.declared.log.LogEntry.{LogEntry}
 use Rattle.hg_core.specs.Events.{put}
 use Rattle.hg_core.specs.Logs.{current}

@@ -31,10 +31,10 @@ use Rattle.hg_session.specs.Sessions.{IsOf, log_of, number_of, open_of, cursor_o
 use Rattle.hg_script.specs.Rules.{opened}
 use Rattle.hg_run.specs.declared.work.Worker.{Worker}
 use Rattle.hg_run.specs.Asked.{IsAnswered, MayAsk, collector_asked}
-use Rattle.hg_fit.specs.Opening.{AreOpen}
+use Rattle.hg_exact.specs.Opening.{AreOpen}
 use Rattle.hg_run.specs.Working.{MayFollow, IsAskedOf, IsStep, IsReady, IsHired, HasStepped, HasTaken, HasRun}
 use Rattle.hg_run.proofs.Cursors.{nothing_left}
-use Rattle.hg_fit.proofs.OpenAfter.{held, open_after, open_step}
+use Rattle.hg_exact.proofs.OpenAfter.{held, open_after, open_step}
 
 -- ---- one statement
 

@@ -25,7 +25,7 @@ use Rattle.hg_session.specs.Finished.{logs_of}
 use Rattle.hg_session.specs.Firsts.{HasFirst}
 use Rattle.hg_session.specs.Replies.{AnswersFrom}
 use Rattle.hg_session.specs.Sessions.{view_of, open_of, cursor_of}
-use Rattle.hg_fit.specs.Opening.{AreOpen}
+use Rattle.hg_exact.specs.Opening.{AreOpen}
 use Rattle.hg_run.specs.Caught.{HasCaughtUp}
 use Rattle.hg_run.specs.Listed.{HaveCursors, SawAt}
 

@@ -1,7 +1,7 @@
 -- What a dump prints.
 use Rattle.std.specs.Prelude.{◌≡◌, ℕ, ◌≤◌, List, [], ◌∷◌, ◌++◌, length, codes, decimal}
 use Rattle.std.specs.declared.alloc.Global.{Global}
-use Rattle.hg_backup.specs.Reader.{IsSoundWith, reader_of}
+use Rattle.hg_dump.specs.Reader.{IsSoundWith, reader_of}
 use Rattle.hg_base.specs.declared.line.Line.{Line}
 use Rattle.hg_base.specs.declared.line.Printed.{Printed}
 use Rattle.hg_base.specs.declared.line.Totals.{Totals}
@@ -10,9 +10,9 @@ use Rattle.hg_base.specs.Script.{Script}
 use Rattle.hg_base.specs.Sound.{all_said}
 use Rattle.hg_base.specs.Text.{IsFit, text_of}
 use Rattle.hg_base.specs.Transcript.{history_of}
-use Rattle.hg_csv.specs.Bytes.{record_bytes}
-use Rattle.hg_source.specs.Records.{dump_text}
-use Rattle.hg_source.specs.Rows.{rows_at}
+use Rattle.hg_records.specs.Bytes.{record_bytes}
+use Rattle.hg_dump.specs.Records.{dump_text}
+use Rattle.hg_dump.specs.Rows.{rows_at}
 use Rattle.hg_rule.specs.declared.passes.SessionPass.{SessionPass}
 use Rattle.hg_rule.specs.Seats.{session_view, IsSessionOf}
 use Rattle.hg_session.specs.declared.engine.Engine.{Engine}
@@ -23,7 +23,7 @@ use Rattle.hg_run.specs.Driven.{HasDrivenAll}
 use Rattle.hg_run.specs.Reader.{HasDumped, IsReadAndClosed}
 use Rattle.hg_run.specs.declared.dump_text.Dumps.{Dumps}
 use Rattle.hg_run.specs.Printing.{ReportsRoundsWith}
-use Rattle.hg_fit.specs.Modes.{rounds_beside}
+use Rattle.hg_exact.specs.Modes.{rounds_beside}
 use Rattle.hg_run.specs.Words.{Settings}
 
 -- the history that lines print

@@ -7,7 +7,7 @@ use Rattle.hg_base.specs.declared.line.Totals.{Totals}
 use Rattle.hg_base.specs.Script.{Mode, Script, replay, run}
 use Rattle.hg_base.specs.Sound.{IsSound}
 use Rattle.hg_base.specs.Text.{IsFit, text_of, totals_records}
-use Rattle.hg_csv.specs.Bytes.{record_bytes}
+use Rattle.hg_records.specs.Bytes.{record_bytes}
 use Rattle.hg_exact.specs.Replayed.{plain, replayed}
 use Rattle.hg_seed.specs.Generator.{IsMade}
 use Rattle.hg_session.specs.declared.engine.Engine.{Engine}

@@ -5,7 +5,7 @@ use Rattle.hg_base.specs.declared.fault.NoMemory.{NoMemory}
 use Rattle.hg_base.specs.declared.report.Kind.{Kind}
 use Rattle.hg_base.specs.declared.line.Totals.{Totals}
 use Rattle.hg_base.specs.History.{History}
-use Rattle.hg_backup.specs.Reader.{reader_of}
+use Rattle.hg_dump.specs.Reader.{reader_of}
 use Rattle.hg_base.specs.Lists.{Each}
 use Rattle.hg_base.specs.Script.{Script}
 use Rattle.hg_core.specs.declared.log.LogEntry.{LogEntry}
@@ -23,8 +23,8 @@ use Rattle.hg_session.specs.Finished.{logs_of}
 use Rattle.hg_rule.specs.New.{EachFrom}
 use Rattle.hg_session.specs.Opened.{seated, IsNewOf}
 use Rattle.hg_session.specs.Sessions.{pass_of}
-use Rattle.hg_source.specs.Records.{dump_text}
-use Rattle.hg_source.specs.Rows.{rows_at}
+use Rattle.hg_dump.specs.Records.{dump_text}
+use Rattle.hg_dump.specs.Rows.{rows_at}
 use Rattle.hg_tracker.specs.Begun.{AtMost}
 use Rattle.hg_collectors.specs.declared.collectors.Collectors.{Collectors}
 use Rattle.hg_run.specs.declared.reader.Reader.{Reader}

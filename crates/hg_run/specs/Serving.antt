@@ -7,7 +7,7 @@ use Rattle.hg_base.specs.declared.line.Printed.{Printed}
 use Rattle.hg_base.specs.Script.{Script, replay}
 use Rattle.hg_base.specs.Sound.{IsSound}
 use Rattle.hg_base.specs.Text.{text_of, totals_records}
-use Rattle.hg_csv.specs.Bytes.{record_bytes}
+use Rattle.hg_records.specs.Bytes.{record_bytes}
 use Rattle.hg_exact.specs.Replayed.{plain, replayed}
 use Rattle.hg_script.specs.declared.code.Code.{Code}
 use Rattle.hg_script.specs.Fields.{rows_of}

@@ -24,7 +24,7 @@ use Rattle.hg_session.specs.Sessions.{IsOf, number_of, log_of, open_of, left_of,
 use Rattle.hg_collectors.specs.declared.round_lists.RoundLists.{RoundLists}
 use Rattle.hg_run.specs.declared.work.Worker.{Worker}
 use Rattle.hg_run.specs.Asked.{IsOnTables}
-use Rattle.hg_fit.specs.Opening.{AreOpen}
+use Rattle.hg_exact.specs.Opening.{AreOpen}
 
 -- ---- what is asked
 

@@ -10,7 +10,7 @@ ghost use Rattle.std.specs.Prelude.{◌≡◌, ℕ, suc, ◌<◌, ◌≢◌, Lis
 ghost use Rattle.hg_rule.specs.Facts.{StartsWith};
 ghost use Rattle.hg_rule.specs.New.{EachFrom};
 ghost use Rattle.hg_dump.specs.Exports.{MayExport};
-ghost use Rattle.hg_gc_table.specs.Collectors.{view_of, IsCollectorOf};
+ghost use Rattle.hg_rounds.specs.TableCollectors.{view_of, IsCollectorOf};
 ghost use Rattle.hg_headline.specs.Counted.{Closes};
 ghost use Rattle.hg_session.specs.declared.session.Session.{Session};
 ghost use Rattle.hg_session.specs.Engines.{engine_board_id, engine_sizes};
@@ -28,7 +28,7 @@ ghost use Rattle.hg_run.specs.Reader.{IsReadAndClosed, alloc_in, engine_in, scri
 use crate::reader::Reader;
 use hg_base::{NoMemory, Totals};
 use hg_collectors::Collectors;
-use hg_gc_table::TableCollector;
+use hg_rounds::TableCollector;
 use hg_rule::SessionPass;
 use hg_session::{Engine, Session, finish_some, join_all, settle};
 use std::sync::Wait;

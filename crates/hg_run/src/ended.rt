@@ -3,7 +3,7 @@
 ghost use Rattle.std.specs.Prelude.{◌≡◌, length, IfOk, IsOkAnd};
 ghost use Rattle.hg_base.specs.Script.{Script};
 ghost use Rattle.hg_base.specs.Text.{text_of};
-ghost use Rattle.hg_csv.specs.Bytes.{record_bytes};
+ghost use Rattle.hg_records.specs.Bytes.{record_bytes};
 ghost use Rattle.hg_rule.specs.New.{EachFrom};
 ghost use Rattle.hg_session.specs.Engines.{engine_sizes};
 ghost use Rattle.hg_session.specs.Finished.{IsClosed};
@@ -12,7 +12,7 @@ ghost use Rattle.hg_run.specs.Collecting.{AreCollectors};
 
 use crate::crew::Crew;
 use crate::end::close;
-use crate::free::{free_collectors, free_sessions};
+use crate::free::free_sessions;
 use hg_base::{NoMemory, Totals};
 use hg_session::Engine;
 use hg_transcript::Transcript;
@@ -40,7 +40,7 @@ impl<'a> Ended<'a> {
 /// Frees a crew that is not closed, since memory ran out.
 pub(crate) fn free_crew(crew: Crew) {
     free_sessions(crew.sessions);
-    free_collectors(crew.collectors);
+    crew.collectors.free();
 }
 
 /// Closes a crew that a driver left, and gives the lines with the totals. Where the driver ran out of memory, the crew is freed.

@@ -7,7 +7,7 @@ ghost use Rattle.hg_base.specs.Text.{IsFit};
 ghost use Rattle.hg_exact.specs.Replayed.{plain};
 ghost use Rattle.hg_script.specs.Lawful.{IsLawful};
 ghost use Rattle.hg_report.specs.Readable.{IsTextOf};
-ghost use Rattle.hg_backup.specs.Reader.{IsSoundWith};
+ghost use Rattle.hg_dump.specs.Reader.{IsSoundWith};
 ghost use Rattle.hg_run.specs.Printing.{IsPrintedFor};
 ghost use Rattle.hg_run.specs.Serving.{IsTextFor};
 ghost use Rattle.hg_run.specs.Words.{Settings};

@@ -67,7 +67,7 @@ pub use dump::dump_on;
 pub use end::{close, close_read};
 pub use engine::{open_beside, open_for};
 pub use hg_collectors::{Collectors, IntervalWorker, NoGate, Plan};
-pub use hg_fit::{rows_have_their_columns, what_is_sound_fits};
+pub use hg_exact::{rows_have_their_columns, what_is_sound_fits};
 pub use hg_streams::{Status, StdinSource, StdoutSink};
 pub use laws::{
     replays_print_the_same, text_determines_what_was_printed, what_is_sound_with_a_reader_fits,

@@ -34,9 +34,9 @@ use Rattle.hg_tracker.specs.Begun.{gathering}
 use Rattle.hg_tracker.specs.Entries.{down_from}
 use Rattle.hg_tracker.specs.Tries.{is_long, moved_by}
 use Rattle.hg_tracker.proofs.Entries.{keys_moved}
-use Rattle.hg_visit.specs.Visits.{OneEach, IsVisitOf}
-use Rattle.hg_gc_table.specs.Cutting.{IsCutBy}
-use Rattle.hg_gc_table.specs.Collectors.{Cuts}
+use Rattle.hg_rounds.specs.Visits.{OneEach, IsVisitOf}
+use Rattle.hg_rounds.specs.Cutting.{IsCutBy}
+use Rattle.hg_rounds.specs.TableCollectors.{Cuts}
 use Rattle.hg_headline.specs.Totalled.{LeavesCut, HasCut, WasLeftCut}
 use Rattle.hg_session.specs.Ended.{logs_in, visits_in, IsEnded}
 use Rattle.hg_session.specs.Settled.{HasHeardAll, RemovesForTables}

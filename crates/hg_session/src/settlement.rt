@@ -9,13 +9,13 @@ ghost use Rattle.std.specs.Prelude.{◌≡◌, ℕ, ◌<◌, ◌-◌, ◌^◌};
 ghost use Rattle.hg_core.specs.Logs.{newest_of};
 ghost use Rattle.hg_rule.specs.Reading.{passes_in};
 ghost use Rattle.hg_headline.specs.Totalled.{WasLeftCut};
-ghost use Rattle.hg_gc_table.specs.Collectors.{view_of, report_in, IsCollectorOf, Cuts};
+ghost use Rattle.hg_rounds.specs.TableCollectors.{view_of, report_in, IsCollectorOf, Cuts};
 ghost use Rattle.hg_session.specs.Engines.{engine_board_id, engine_sizes};
 ghost use Rattle.hg_session.specs.Ended.{logs_in, visits_in, IsEnded};
 ghost use Rattle.hg_session.specs.Settled.{HasHeardAll, RemovesForTables};
 
 use crate::engine::Engine;
-use hg_gc_table::TableCollector;
+use hg_rounds::TableCollector;
 use std::sync::Wait;
 
 /// Makes one round of the table collector, after all sessions have ended: each bucket is visited once, in order, and nothing else

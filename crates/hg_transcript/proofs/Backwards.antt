@@ -8,8 +8,8 @@ use Rattle.std.specs.Prelude.{codes, decimal}
 use Rattle.std.specs.Fmt.{signed_decimal}
 use Rattle.std.specs.List.{flat_map}
 use Rattle.hg_base.specs.Text.{Field}
-use Rattle.hg_csv.specs.Bytes.{field_bytes, further_bytes, record_bytes}
-use Rattle.hg_csv.proofs.RecordBytes.{record_is}
+use Rattle.hg_records.specs.Bytes.{field_bytes, further_bytes, record_bytes}
+use Rattle.hg_records.proofs.RecordBytes.{record_is}
 use Rattle.hg_transcript.proofs.Plain.{number_bytes, value_bytes}
 
 pub number_is : (n : ℕ) → further_bytes (decimal n) ≡ 44 ∷ decimal n

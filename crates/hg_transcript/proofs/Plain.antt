@@ -7,7 +7,7 @@ use Rattle.std.proofs.lemmas.Bool.{cases_Bool, eqb-true, false≢true, lt-ltb, l
 use Rattle.csv.specs.Writing.{needs_byte}
 use Rattle.hg_base.specs.Text.{Field}
 use Rattle.hg_base.specs.Number.{is_digit}
-use Rattle.hg_csv.specs.Bytes.{flexible_writer, field_bytes}
+use Rattle.hg_records.specs.Bytes.{flexible_writer, field_bytes}
 
 abbrev pub IsPlain : Field → Type 0
 IsPlain field = list_any (needs_byte flexible_writer) field ≡ false

@@ -6,8 +6,8 @@ use Rattle.std.specs.Fmt.{signed_decimal}
 use Rattle.std.specs.List.{flat_map}
 use Rattle.hg_base.specs.declared.value.Value.TheVariants.{Number}
 use Rattle.hg_base.specs.Text.{Field, value_field}
-use Rattle.hg_csv.specs.Bytes.{record_bytes, field_bytes, further_bytes}
-use Rattle.hg_csv.proofs.RecordBytes.{record_is}
+use Rattle.hg_records.specs.Bytes.{record_bytes, field_bytes, further_bytes}
+use Rattle.hg_records.proofs.RecordBytes.{record_is}
 
 -- a record that is begun, goes on and is ended
 pub ended : (old begun full now : List ℕ) (x y : Field) (more : List Field) → begun ≡ old ++ (field_bytes x ++ further_bytes y) → full ≡ begun ++ flat_map further_bytes more → now ≡ full ++ 10 ∷ []

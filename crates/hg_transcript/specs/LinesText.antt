@@ -4,7 +4,7 @@ use Rattle.std.specs.List.{flat_map}
 use Rattle.hg_base.specs.declared.line.Line.{Line}
 use Rattle.hg_base.specs.Script.{Declaration}
 use Rattle.hg_base.specs.Text.{line_records}
-use Rattle.hg_csv.specs.Bytes.{record_bytes}
+use Rattle.hg_records.specs.Bytes.{record_bytes}
 
 -- the bytes of lines, over these tables
 abbrev pub lines_text : List Declaration → List Line → List ℕ

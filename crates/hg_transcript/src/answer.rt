@@ -5,12 +5,12 @@ ghost use Rattle.std.specs.List.{flat_map, list_any};
 ghost use Rattle.csv.specs.Writing.{needs_byte};
 ghost use Rattle.hg_base.specs.declared.line.Answer.TheVariants.{Swept};
 ghost use Rattle.hg_base.specs.Text.{answer_fields, held_fields, kind_word, name_of, row_fields, told_as, value_field};
-ghost use Rattle.hg_csv.specs.Bytes.{flexible_writer, further_bytes};
+ghost use Rattle.hg_records.specs.Bytes.{flexible_writer, further_bytes};
 
 use crate::bytes::add_number;
 use crate::values::add_row;
 use hg_base::{Answer, Kind, NoMemory, Reply, Row, Sweep, TableId, Told, Writer};
-use hg_csv::{add_field, add_plain};
+use hg_records::{add_field, add_plain};
 use hg_script::Table;
 
 fn name_of(tables: &[Table], table: TableId) -> &[u8]

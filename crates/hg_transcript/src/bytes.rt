@@ -2,7 +2,7 @@
 
 ghost use Rattle.std.specs.Prelude.{◌≡◌, ◌++◌, OnOk, decimal};
 ghost use Rattle.std.specs.Fmt.{signed_decimal};
-ghost use Rattle.hg_csv.specs.Bytes.{field_bytes, further_bytes};
+ghost use Rattle.hg_records.specs.Bytes.{field_bytes, further_bytes};
 
 use crate::number_fields::{FIELD_ROOM, put_number, put_value};
 use hg_base::NoMemory;

@@ -3,7 +3,7 @@
 ghost use Rattle.std.specs.Prelude.{◌≡◌, ◌++◌, OnOk, map};
 ghost use Rattle.std.specs.List.{flat_map};
 ghost use Rattle.hg_base.specs.Text.{held_fields, line_records, more_fields, of_line, row_fields, totals_records};
-ghost use Rattle.hg_csv.specs.Bytes.{record_bytes};
+ghost use Rattle.hg_records.specs.Bytes.{record_bytes};
 
 use crate::record::{write_head, write_held, write_total};
 use crate::row_start::RowStart;

@@ -3,7 +3,7 @@
 ghost use Rattle.std.specs.Prelude.{◌≡◌, ◌+◌, ◌*◌, ◌≤◌, ◌++◌, decimal, drop, length, map};
 ghost use Rattle.std.specs.Fmt.{signed_decimal};
 ghost use Rattle.std.specs.List.{flat_map};
-ghost use Rattle.hg_csv.specs.Bytes.{further_bytes};
+ghost use Rattle.hg_records.specs.Bytes.{further_bytes};
 
 use itoa::write_digits;
 

@@ -1,7 +1,7 @@
 //! The records of a text, one by one.
 
 ghost use Rattle.std.specs.Prelude.{◌≡◌, ◌++◌, OnOk};
-ghost use Rattle.hg_csv.specs.Bytes.{record_bytes};
+ghost use Rattle.hg_records.specs.Bytes.{record_bytes};
 ghost use Rattle.hg_transcript.specs.Piece.{piece_fields, total_word};
 
 use crate::record::{write_head, write_held, write_row, write_scan, write_sweep, write_total};

@@ -4,13 +4,13 @@ ghost use Rattle.std.specs.Prelude.{◌≡◌, ◌++◌, ◌∷◌, [], OnOk, co
 ghost use Rattle.std.specs.List.{flat_map};
 ghost use Rattle.hg_base.specs.declared.line.Answer.TheVariants.{Swept};
 ghost use Rattle.hg_base.specs.Text.{answer_fields, held_fields, of_line, row_fields, told_as, total_fields};
-ghost use Rattle.hg_csv.specs.Bytes.{further_bytes, record_bytes};
+ghost use Rattle.hg_records.specs.Bytes.{further_bytes, record_bytes};
 ghost use Rattle.hg_transcript.specs.Piece.{behind};
 
 use crate::answer::{add_count, add_held, add_key, add_reply, add_sweep};
 use crate::bytes::{add_number, begin_reply};
 use hg_base::{Line, NoMemory, Row, Sweep, Told};
-use hg_csv::{begin_record, end_record};
+use hg_records::{begin_record, end_record};
 use hg_script::Table;
 
 /// Adds the first record of a reply.

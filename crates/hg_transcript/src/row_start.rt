@@ -3,7 +3,7 @@
 ghost use Rattle.std.specs.Prelude.{◌≡◌, ◌≤◌, ◌++◌, OnOk, codes, decimal, drop, length, map};
 ghost use Rattle.hg_base.specs.declared.value.Value.TheVariants.{Number};
 ghost use Rattle.hg_base.specs.Text.{row_fields};
-ghost use Rattle.hg_csv.specs.Bytes.{field_bytes, further_bytes, record_bytes};
+ghost use Rattle.hg_records.specs.Bytes.{field_bytes, further_bytes, record_bytes};
 ghost use Rattle.hg_transcript.specs.Piece.{behind};
 
 use crate::number_fields::{put_number, put_values};

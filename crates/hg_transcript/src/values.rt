@@ -4,11 +4,11 @@ ghost use Rattle.std.specs.Prelude.{◌≡◌, ◌++◌, OnOk, map};
 ghost use Rattle.std.specs.Fmt.{signed_decimal};
 ghost use Rattle.std.specs.List.{flat_map};
 ghost use Rattle.hg_base.specs.Text.{value_field};
-ghost use Rattle.hg_csv.specs.Bytes.{further_bytes};
+ghost use Rattle.hg_records.specs.Bytes.{further_bytes};
 
 use crate::bytes::add_value;
 use hg_base::{NoMemory, Row, Value};
-use hg_csv::add_field;
+use hg_records::add_field;
 
 fn add_numbers(text: &mut Vec<u8>, numbers: &[i64]) -> Result<(), NoMemory>
     ensures { OnOk result (text.new.items ≡

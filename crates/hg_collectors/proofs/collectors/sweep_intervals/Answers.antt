@@ -1,6 +1,6 @@
 use Rattle.std.proofs.Common.{inl, refl}
 use Rattle.hg_base.specs.Reports.{sweep_of}
-use Rattle.hg_gc_interval.specs.Collectors.{report_in}
+use Rattle.hg_rounds.specs.IntervalCollectors.{report_in}
 use Rattle.hg_collectors.proofs.collectors.sweep_intervals.Goals as goal
 
 pub returns-clause-made : goal.returns-clause-made

@@ -1,7 +1,7 @@
 use Rattle.std.proofs.Common.{◌≡◌, inr, refl}
 use Rattle.hg_base.specs.declared.report.Kind.TheVariants.{Interval}
 use Rattle.hg_base.specs.Reports.{sweep_of}
-use Rattle.hg_sweep.specs.Teams.{report_in, view_of}
+use Rattle.hg_rounds.specs.Teams.{report_in, view_of}
 use Rattle.hg_collectors.specs.Lent.{lent_sizes}
 use Rattle.hg_collectors.specs.Rounding.{IsRoundBy}
 use Rattle.hg_collectors.proofs.Among.{if_ok}

@@ -5,8 +5,8 @@ use Rattle.hg_core.specs.Phases.{snapshot_in}
 use Rattle.hg_rule.specs.Facts.{StartsWith}
 use Rattle.hg_rule.specs.Seats.{session_view}
 use Rattle.hg_store.specs.Stores.{store_buckets}
-use Rattle.hg_source.specs.Records.{dump_text}
-use Rattle.hg_source.proofs.Shown.{is_the_list}
+use Rattle.hg_dump.specs.Records.{dump_text}
+use Rattle.hg_dump.proofs.RowsShown.{is_the_list}
 use Rattle.hg_dump.proofs.Looking.{goes_before_end, has_read, none_open, of_ok, reading_begun}
 use Rattle.hg_dump.proofs.Texts.{starts_from}
 use Rattle.hg_dump.proofs.exports.export.Goals as goal

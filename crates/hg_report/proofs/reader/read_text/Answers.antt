@@ -1,7 +1,7 @@
 use Rattle.std.proofs.Common.{◌≡◌, suc, [], ◌∷◌, ◌++◌, length, length-append, false, ap, refl, arith, rules}
 use Rattle.std.proofs.lemmas.List.{nil_from_length}
 use Rattle.std.proofs.lemmas.Bool.Decides.{nat_tests}
-use Rattle.hg_csv.specs.Bytes.{record_bytes}
+use Rattle.hg_records.specs.Bytes.{record_bytes}
 use Rattle.hg_report.specs.Fields.{parted}
 use Rattle.hg_report.proofs.Following.{is_refused}
 use Rattle.hg_report.proofs.Looping.{has_taken, none_next, stood_more}

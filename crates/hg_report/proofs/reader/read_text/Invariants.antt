@@ -1,7 +1,7 @@
 use Rattle.std.proofs.Common.{◌≡◌, ◌≤◌, ◌+◌, ◌++◌, List, length}
 use Rattle.std.specs.List.{flat_map}
 use Rattle.hg_base.specs.Text.{Field}
-use Rattle.hg_csv.specs.Bytes.{record_bytes}
+use Rattle.hg_records.specs.Bytes.{record_bytes}
 use Rattle.hg_report.specs.Progress.{at_start, Runs}
 use Rattle.hg_report.proofs.reader.read_text.Given as goal
 

@@ -1,4 +1,4 @@
-use Rattle.hg_gc_table.specs.Collectors.{view_of}
+use Rattle.hg_rounds.specs.TableCollectors.{view_of}
 use Rattle.hg_run.proofs.Brought.{there_ended, there_heard}
 use Rattle.hg_run.proofs.end.close.Goals as goal
 

@@ -1,5 +1,5 @@
 use Rattle.std.proofs.Common.{inl, refl, sym, ◌∙◌}
-use Rattle.hg_fit.proofs.OpenAfter.{none_open}
+use Rattle.hg_exact.proofs.OpenAfter.{none_open}
 use Rattle.hg_session.specs.Engines.{engine_sizes}
 use Rattle.hg_session.specs.Sessions.{view_of, open_of}
 use Rattle.hg_run.proofs.Closes.{cursor_closed, rolled_back}

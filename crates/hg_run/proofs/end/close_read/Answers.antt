@@ -5,7 +5,7 @@ use Rattle.hg_rule.specs.declared.view.View.{View}
 use Rattle.hg_rule.specs.Agreed.{IsMet}
 use Rattle.hg_rule.specs.Moves.{joined, meeting, merged}
 use Rattle.hg_rule.specs.Seats.{pass_view, session_view, sizes_of, IsSessionOf}
-use Rattle.hg_gc_table.specs.Collectors.{view_of}
+use Rattle.hg_rounds.specs.TableCollectors.{view_of}
 use Rattle.hg_session.specs.Engines.{engine_board_id, engine_sizes}
 use Rattle.hg_run.specs.Reader.{alloc_in, engine_in, list_with, script_in}
 use Rattle.hg_run.proofs.Brought.{there_ended, there_heard}

@@ -7,7 +7,7 @@ use Rattle.hg_rule.specs.Reading.{passes_in}
 use Rattle.hg_rule.specs.Rules.{IsBacked}
 use Rattle.hg_rule.specs.Seats.{pass_view, sizes_of}
 use Rattle.hg_rule.specs.Views.{number, pass, others, HasPass}
-use Rattle.hg_gc_table.specs.Collectors.{view_of}
+use Rattle.hg_rounds.specs.TableCollectors.{view_of}
 use Rattle.hg_headline.specs.Following.{AreTotalsBy}
 use Rattle.hg_headline.specs.Logged.{Logged}
 use Rattle.hg_headline.specs.Totalled.{WasLeftCut}

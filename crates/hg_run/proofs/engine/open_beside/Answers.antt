@@ -4,7 +4,7 @@ use Rattle.hg_rule.specs.New.{EachFrom}
 use Rattle.hg_session.specs.Engines.{engine_sizes}
 use Rattle.hg_session.specs.Opened.{IsNewOf}
 use Rattle.hg_store.proofs.Filling.{each_from_at}
-use Rattle.hg_backup.specs.Reader.{reader_of}
+use Rattle.hg_dump.specs.Reader.{reader_of}
 use Rattle.hg_run.specs.Driven.{IsOpenedWith, sessions_in}
 use Rattle.hg_run.proofs.Opened.{more_is, own_many, own_new}
 use Rattle.hg_run.proofs.engine.open_beside.Goals as goal

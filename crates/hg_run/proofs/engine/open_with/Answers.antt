@@ -8,7 +8,7 @@ use Rattle.hg_session.specs.declared.session.Session.{Session}
 use Rattle.hg_session.specs.Engines.{engine_board_id, engine_sizes}
 use Rattle.hg_session.specs.Opened.{IsNewOf}
 use Rattle.hg_run.specs.Collecting.{passes_of, removed_in}
-use Rattle.hg_fit.proofs.Sessions.{sessions_within}
+use Rattle.hg_exact.proofs.Sessions.{sessions_within}
 use Rattle.hg_run.proofs.Alone.{lone}
 use Rattle.hg_run.proofs.Closes.{new_removed}
 use Rattle.hg_run.proofs.Hiring.{few}

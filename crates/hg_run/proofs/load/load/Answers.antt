@@ -4,7 +4,7 @@ use Rattle.std.specs.List.{flat_map}
 use Rattle.hg_base.specs.declared.line.Totals.{Totals}
 use Rattle.hg_base.specs.Script.{replay}
 use Rattle.hg_base.specs.Text.{totals_records}
-use Rattle.hg_csv.specs.Bytes.{record_bytes}
+use Rattle.hg_records.specs.Bytes.{record_bytes}
 use Rattle.hg_run.specs.Printing.{AreTotalsOf, HasTotalsBy}
 use Rattle.hg_run.specs.Words.{Settings, settings_in}
 use Rattle.hg_run.proofs.load.load.Goals as goal

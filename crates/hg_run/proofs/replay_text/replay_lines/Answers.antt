@@ -1,7 +1,7 @@
 use Rattle.std.proofs.Common.{arith}
 use Rattle.std.proofs.lemmas.Result.{IfOk-weaker}
 use Rattle.hg_base.specs.Script.{replay}
-use Rattle.hg_fit.proofs.Fits.{sound_fits}
+use Rattle.hg_exact.proofs.Fits.{sound_fits}
 use Rattle.hg_run.specs.Words.{settings_in}
 use Rattle.hg_run.proofs.Closing.{replay_exact, replay_reports, replay_sound}
 use Rattle.hg_run.proofs.replay_text.replay_lines.Goals as goal

@@ -1,7 +1,7 @@
 use Rattle.std.proofs.Common.{arith, ℕ}
 use Rattle.std.proofs.lemmas.Result.{IfOk-weaker}
 use Rattle.hg_base.specs.Script.{run}
-use Rattle.hg_fit.proofs.Fits.{sound_fits}
+use Rattle.hg_exact.proofs.Fits.{sound_fits}
 use Rattle.hg_run.specs.Words.{settings_in}
 use Rattle.hg_run.proofs.Closing.{run_reports, run_sound}
 use Rattle.hg_run.proofs.run_text.run_script.Goals as goal

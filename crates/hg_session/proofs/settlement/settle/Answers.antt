@@ -4,7 +4,7 @@ use Rattle.hg_rule.specs.declared.view.View.{View}
 use Rattle.hg_rule.specs.Rules.{IsBacked}
 use Rattle.hg_rule.specs.Seats.{sizes_of}
 use Rattle.hg_base.specs.declared.report.Report.{Report}
-use Rattle.hg_gc_table.specs.Collectors.{view_of, report_in, Cuts}
+use Rattle.hg_rounds.specs.TableCollectors.{view_of, report_in, Cuts}
 use Rattle.hg_session.specs.Engines.{engine_sizes}
 use Rattle.hg_session.proofs.Leaving.{left_after, removed_after, logs_after, passes_after, ended_after, heard_after}
 use Rattle.hg_session.proofs.settlement.settle.Goals as goal

@@ -1,7 +1,7 @@
 use Rattle.std.proofs.Common.{◌≡◌, ◌++◌, take}
 use Rattle.std.specs.List.{flat_map}
 use Rattle.hg_base.specs.Text.{line_records}
-use Rattle.hg_csv.specs.Bytes.{record_bytes}
+use Rattle.hg_records.specs.Bytes.{record_bytes}
 use Rattle.hg_transcript.proofs.line.write_lines.Given as goal
 
 abbrev pub invariant-loop-line : goal.invariant-loop-line

@@ -1,7 +1,7 @@
 use Rattle.std.proofs.Common.{◌++◌, ◌∙◌, ℕ, List, ap}
 use Rattle.hg_base.specs.declared.value.Value.{Value}
 use Rattle.hg_base.specs.Text.{of_line, row_fields}
-use Rattle.hg_csv.specs.Bytes.{record_bytes}
+use Rattle.hg_records.specs.Bytes.{record_bytes}
 use Rattle.hg_transcript.specs.Piece.{behind}
 use Rattle.hg_transcript.proofs.RecordBytes.{record_more}
 use Rattle.hg_transcript.proofs.line.write_rows.Goals as goal

@@ -1,7 +1,7 @@
 use Rattle.std.proofs.Common.{◌≡◌, ◌++◌, map, take}
 use Rattle.std.specs.List.{flat_map}
 use Rattle.hg_base.specs.Text.{of_line, row_fields}
-use Rattle.hg_csv.specs.Bytes.{record_bytes}
+use Rattle.hg_records.specs.Bytes.{record_bytes}
 use Rattle.hg_transcript.proofs.line.write_rows.Given as goal
 
 abbrev pub invariant-loop-key : goal.invariant-loop-key

@@ -1,7 +1,7 @@
 use Rattle.std.proofs.Common.{◌≡◌, ◌≤◌, ◌+◌, ◌*◌, ◌++◌, length, map, drop}
 use Rattle.std.specs.Fmt.{signed_decimal}
 use Rattle.std.specs.List.{flat_map}
-use Rattle.hg_csv.specs.Bytes.{further_bytes}
+use Rattle.hg_records.specs.Bytes.{further_bytes}
 use Rattle.hg_transcript.proofs.number_fields.put_values.Given as goal
 
 abbrev pub invariant-loop-left : goal.invariant-loop-left

@@ -1,6 +1,6 @@
 use Rattle.std.proofs.Common.{◌++◌, ◌∙◌, ℤ, pos, get_or, ap, rules}
 use Rattle.std.specs.Fmt.{signed_decimal}
-use Rattle.hg_csv.specs.Bytes.{further_bytes}
+use Rattle.hg_records.specs.Bytes.{further_bytes}
 use Rattle.hg_transcript.proofs.RecordBytes.{fields_more}
 use Rattle.hg_transcript.proofs.values.add_numbers.Goals as goal
 use mir.Val.{SFits}

@@ -1,6 +1,6 @@
 use Rattle.std.proofs.Common.{◌<◌, ◌++◌, ◌∙◌, ap, arith, length}
 use Rattle.hg_base.specs.Text.{value_field}
-use Rattle.hg_csv.specs.Bytes.{further_bytes}
+use Rattle.hg_records.specs.Bytes.{further_bytes}
 use Rattle.hg_transcript.proofs.RecordBytes.{fields_more}
 use Rattle.hg_transcript.proofs.values.add_values.Goals as goal
 

@@ -1,6 +1,6 @@
 use Rattle.std.proofs.Common.{refl}
 use Rattle.hg_base.specs.Reports.{sweep_of}
-use Rattle.hg_gc_group.specs.Collectors.{report_in}
+use Rattle.hg_collectors.specs.GroupCollectors.{report_in}
 use Rattle.hg_collectors.proofs.collectors.GroupCollectorWorker.make_round.Goals as goal
 
 pub returns-clause-made : goal.returns-clause-made

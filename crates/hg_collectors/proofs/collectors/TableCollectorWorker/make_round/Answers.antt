@@ -1,6 +1,6 @@
 use Rattle.std.proofs.Common.{refl}
 use Rattle.hg_base.specs.Reports.{sweep_of}
-use Rattle.hg_gc_table.specs.Collectors.{report_in}
+use Rattle.hg_rounds.specs.TableCollectors.{report_in}
 use Rattle.hg_collectors.proofs.collectors.TableCollectorWorker.make_round.Goals as goal
 
 pub returns-clause-made : goal.returns-clause-made

@@ -1,8 +1,8 @@
 use Rattle.std.proofs.Common.{◌∙◌, [], sym, append-nil}
 use Rattle.std.specs.List.{flat_map}
 use Rattle.hg_rule.specs.Seats.{session_view}
-use Rattle.hg_csv.specs.Bytes.{record_bytes}
-use Rattle.hg_source.specs.Records.{heading}
+use Rattle.hg_records.specs.Bytes.{record_bytes}
+use Rattle.hg_dump.specs.Records.{heading}
 use Rattle.hg_dump.specs.Readings.{script_in, at_in}
 use Rattle.hg_dump.proofs.Looking.{looks_first, on_ok}
 use Rattle.hg_dump.proofs.Texts.{starts_from, starts_on, text_all}

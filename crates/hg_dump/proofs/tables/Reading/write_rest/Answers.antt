@@ -9,7 +9,7 @@ use Rattle.hg_dump.proofs.Looking.{looks_first, looks_more, reading_on, reads_ta
 use Rattle.hg_dump.proofs.Fetches.{so_far_none, so_far_more, table_whole}
 use Rattle.hg_dump.proofs.Texts.{starts_from, starts_on}
 use Rattle.hg_cursor.specs.Given.{joined}
-use Rattle.hg_source.specs.Rows.{kept_in}
+use Rattle.hg_dump.specs.Rows.{kept_in}
 use Rattle.hg_dump.specs.Writes.{puts_bytes}
 use Rattle.hg_dump.proofs.tables.Reading.write_rest.Goals as goal
 

@@ -2,7 +2,7 @@ use Rattle.std.proofs.Common.{◌∙◌, ◌++◌, sym}
 use Rattle.hg_rule.specs.Seats.{session_view}
 use Rattle.hg_store.specs.Stores.{store_buckets}
 use Rattle.hg_cursor.specs.Cursors.{table_of, high_of, rest_of}
-use Rattle.hg_source.specs.Rows.{kept_in}
+use Rattle.hg_dump.specs.Rows.{kept_in}
 use Rattle.hg_dump.specs.declared.tables.TheConstants.{FETCHED}
 use Rattle.hg_dump.specs.Readings.{store_in, script_in}
 use Rattle.hg_dump.specs.Writes.{puts_bytes}

@@ -3,7 +3,7 @@ use Rattle.std.proofs.lemmas.Slice.{between_to_end}
 use Rattle.std.specs.Prelude.{codes, decimal}
 use Rattle.std.specs.Fmt.{signed_decimal}
 use Rattle.hg_base.specs.Text.{Field}
-use Rattle.hg_csv.specs.Bytes.{record_bytes}
+use Rattle.hg_records.specs.Bytes.{record_bytes}
 use Rattle.hg_transcript.proofs.Backwards.{row_put}
 use Rattle.hg_transcript.proofs.RecordBytes.{numbers_are}
 use Rattle.hg_transcript.proofs.row_start.RowStart.write_short.Goals as goal

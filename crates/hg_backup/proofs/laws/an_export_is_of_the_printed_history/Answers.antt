@@ -1,5 +1,0 @@
-use Rattle.hg_backup.proofs.Exported.{export_printed}
-use Rattle.hg_backup.proofs.laws.an_export_is_of_the_printed_history.Goals as goal
-
-pub returns : goal.returns
-returns c = export_printed

@@ -1,5 +1,0 @@
-use Rattle.hg_backup.proofs.Runs.{sound_with}
-use Rattle.hg_backup.proofs.laws.run_with_reader_is_sound.Goals as goal
-
-pub returns : goal.returns
-returns c = sound_with

@@ -1,5 +1,0 @@
-use Rattle.hg_backup.proofs.Restored.{text_again}
-use Rattle.hg_backup.proofs.restore.a_replay_of_a_dump_text_restores_it.Goals as goal
-
-pub returns : goal.returns
-returns c = text_again

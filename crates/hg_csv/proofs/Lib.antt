@@ -1,2 +1,0 @@
--- The bytes of records, and of fields byte by byte.
-pub mod RecordBytes

@@ -1,2 +1,0 @@
--- The bytes of a record.
-pub mod Bytes

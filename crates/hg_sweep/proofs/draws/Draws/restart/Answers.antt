@@ -1,6 +1,0 @@
-use Rattle.std.proofs.Common.{rules}
-use Rattle.hg_sweep.proofs.Word.{may_restart}
-use Rattle.hg_sweep.proofs.draws.Draws.restart.Goals as goal
-
-pub store-requires : goal.store-requires
-store-requires c = (search rules, search rules, may_restart _ _ _ c.requires.all)

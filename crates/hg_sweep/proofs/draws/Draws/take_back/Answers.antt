@@ -1,6 +1,0 @@
-use Rattle.std.proofs.Common.{rules}
-use Rattle.hg_sweep.proofs.Word.{may_take_back}
-use Rattle.hg_sweep.proofs.draws.Draws.take_back.Goals as goal
-
-pub join_seat-requires : goal.join_seat-requires
-join_seat-requires c = (search rules, search rules, search rules, search rules, may_take_back _ _ _ _)
