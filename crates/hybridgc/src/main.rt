@@ -17,7 +17,7 @@ use hg_streams::words_of;
 use std::process::ExitCode;
 
 // Says how the call ended, unless all was done, and gives the exit status of that.
-fn end(rt: &HostRuntime, status: Status) -> ExitCode
+fn exit_with(rt: &HostRuntime, status: Status) -> ExitCode
     ensures { exit_status result ≡ exit_code_of status }
 {
     if status != Status::Done {
@@ -34,5 +34,5 @@ fn main(rt: HostRuntime) -> ExitCode {
         Ok(words) => serve(&rt, rt.alloc(), &words, &mut source, &mut sink, &NoGate),
         Err(status) => status,
     };
-    end(&rt, status)
+    exit_with(&rt, status)
 }
