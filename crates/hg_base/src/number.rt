@@ -7,7 +7,7 @@ ghost use Rattle.hg_base.specs.declared.number.TheConstants.{MOST_SAFE_DIGITS};
 ghost use Rattle.hg_base.specs.Number.{integer_of, is_between, is_digit, is_no, is_over, leads_with_zero, minus, natural_of, plus, value_of};
 
 /// What a field is as a number of 64 bits without a sign.
-#[derive(Clone, Copy, PartialEq, Eq)]
+#[derive(Clone, Copy)]
 pub enum Natural {
     /// Not written as a number.
     No,
@@ -17,7 +17,7 @@ pub enum Natural {
 }
 
 /// What a field is as a number of 64 bits that may have a minus.
-#[derive(Clone, Copy, PartialEq, Eq)]
+#[derive(Clone, Copy)]
 pub enum Integer {
     No,
     Over,

@@ -18,7 +18,7 @@ pub enum Kind {
 
 /// A live snapshot that a pass met in a session's register. Where the session began anew before its mask was read, the scope may be
 /// that of its later transaction.
-#[derive(Clone, Copy, PartialEq, Eq)]
+#[derive(Clone, Copy)]
 pub struct Entry {
     pub session: u32,
     pub number: u64,
@@ -28,7 +28,7 @@ pub struct Entry {
 }
 
 /// An entry as it is printed.
-#[derive(Clone, Copy, PartialEq, Eq)]
+#[derive(Clone, Copy)]
 pub struct Told {
     pub session: u32,
     pub number: u64,

@@ -35,7 +35,7 @@ impl Scope {
 }
 
 /// The groups numbered at or below `at` are seen.
-#[derive(Clone, Copy, Debug, PartialEq, Eq)]
+#[derive(Clone, Copy)]
 pub struct Snapshot {
     pub at: u64,
     pub scope: Scope,

@@ -6,7 +6,7 @@ ghost use Rattle.hg_chains.specs.Versions.{is_at_most, is_written_by, number_in}
 use hg_base::{Image, Writer};
 
 /// Who wrote a version, and the number of the group in which it was committed, once it was.
-#[derive(Clone, Copy, Debug, PartialEq, Eq)]
+#[derive(Clone, Copy, Debug)]
 pub enum Stamp {
     /// An open write.
     Written(Writer),

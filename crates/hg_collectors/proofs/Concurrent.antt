@@ -1,18 +1,14 @@
 -- All collectors beside each other.
-use Rattle.std.proofs.Common.{◌≡◌, ℕ, subst}
-use Rattle.hg_base.specs.declared.report.Kind.{Kind}
+use Rattle.std.proofs.Common.{ℕ}
 use Rattle.hg_base.specs.declared.report.Kind.TheVariants.{Group, Table, Interval}
 use Rattle.hg_collectors.specs.GroupCollectors as groups
 use Rattle.hg_rounds.specs.TableCollectors as tables
 use Rattle.hg_rule.specs.declared.view.Sizes.{Sizes}
-use Rattle.hg_rule.specs.declared.view.View.{View}
 use Rattle.hg_rule.specs.Seats.{BoardId}
 use Rattle.hg_collectors.specs.Workers as intervals
 use Rattle.hg_collectors.specs.declared.collectors.Collectors.{Collectors}
-use Rattle.hg_collectors.specs.declared.round_list.RoundList.{RoundList}
 use Rattle.hg_collectors.specs.declared.round_lists.RoundLists.{RoundLists}
 use Rattle.hg_collectors.specs.Collecting.{AreCollectorsOf, HaveMadeAll}
-use Rattle.hg_collectors.specs.Rounding.{HasMadeAll}
 use Rattle.hg_collectors.proofs.Driving.{lone_rounds}
 use Rattle.hg_collectors.proofs.Teams.{worker_pass}
 
@@ -30,7 +26,3 @@ collectors_made t z long rounds old new told own group table interval made = rec
         (worker_pass t z new.interval interval) (made Interval).made;
   };
 }
-
--- rounds from one view are rounds from a view that equals it
-pub made_from : (kind : Kind) (z : Sizes) (long rounds : ℕ) (u v : View) (told : RoundList) (w : View) → u ≡ v → HasMadeAll kind z long rounds u told w → HasMadeAll kind z long rounds v told w
-made_from kind z long rounds u v told w same = subst (λ (x : View). HasMadeAll kind z long rounds x told w) same

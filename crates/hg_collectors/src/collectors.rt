@@ -19,26 +19,17 @@ use hg_base::{Gate, Kind, NoMemory, Steps, Sweep};
 use hg_rounds::{IntervalCollector, TableCollector};
 use hg_rule::CollectorPass;
 use std::alloc::Global;
-use std::marker::{Brand, Model};
+use std::marker::Brand;
 use std::sync::Wait;
 use std::sync::ledger::{Blank, Ledger};
 use std::thread::Threads;
 
-/// The three, each with the room that its rounds need. Contracts see them as a `Trio`, so that no proof of a function that holds them
-/// lists the types of all that they own.
+/// The three, each with the room that its rounds need.
 #[derive(Drop)]
 pub struct Collectors {
     pub group: GroupCollector,
     pub table: TableCollector,
     pub interval: IntervalWorker,
-}
-
-impl Model for Collectors {
-    ghost use Rattle.hg_collectors.specs.Trio.{Trio};
-
-    ghost Value = { Trio };
-
-    ghost view = { λ a. record { group = a.group; table = a.table; interval = a.interval } };
 }
 
 /// For how many sessions and tables there is room, and how many helpers share a round of the interval collector.

@@ -4,28 +4,21 @@ use Rattle.hg_rule.specs.Seats.{pass_view}
 use Rattle.hg_session.specs.Finished.{AreAmong, AreDone, HaveGone}
 use Rattle.hg_session.specs.Passing.{AreAlone, passes_with, visits_of}
 use Rattle.hg_collectors.specs.Collecting.{view_in}
-use Rattle.hg_collectors.specs.Trio.{Trio, trio}
-use Rattle.hg_run.specs.Closed.{HasBrought}
-use Rattle.hg_run.specs.Collecting.{AreCollectors}
 use Rattle.hg_collectors.proofs.Among.{by_kind}
 use Rattle.hg_run.proofs.Alone.{all_alone}
 use Rattle.hg_run.proofs.end.bring.Goals as goal
 
 pub join_all-requires : goal.join_all-requires
-join_all-requires c =
-    let old = trio c.collectors.inside.group c.collectors.inside.table c.collectors.inside.interval in
-    let own = subst (λ (o : Trio). AreCollectors c.args.engine.now o) (sym c.collectors.view_is) c.requires.collectors in
-    record {
-      alone = subst (AreAlone c.args.engine.now) (λ i. passes_with (sym c.into_pass.ensures i) (sym c.lend.ensures.pass i) (sym c.into_pass-2.ensures i))
-          (all_alone c.args.engine.now old own);
-    }
+join_all-requires c = record {
+  alone = subst (AreAlone c.args.engine.now) (λ i. passes_with (sym c.into_pass.ensures i) (sym c.lend.ensures.pass i) (sym c.into_pass-2.ensures i))
+      (all_alone c.args.engine.now c.args.collectors c.requires.collectors);
+}
 
 pub returns-clause-brought : goal.returns-clause-brought
 returns-clause-brought c =
     let u = pass_view c.join_all.new.pass in
     let h = c.join_all.ensures in
-    let old = trio c.collectors.inside.group c.collectors.inside.table c.collectors.inside.interval in
-    subst (λ (o : Trio). HasBrought c.args.engine.now c.args.list.items o (pass_view c.finish_some.new.pass)) c.collectors.view_is (record {
+    record {
       joined = u;
       passes = record {
         own = h.own.1;
@@ -33,7 +26,7 @@ returns-clause-brought c =
         three = h.count;
         none = h.none;
         visits = h.visits ∙ (λ i. visits_of (passes_with (c.into_pass.ensures i) (c.lend.ensures.pass i) (c.into_pass-2.ensures i)));
-        seen = by_kind (λ kind. AreAmong (view_in kind old).sights u.sights)
+        seen = by_kind (λ kind. AreAmong (view_in kind c.args.collectors).sights u.sights)
             (subst (λ (p : CollectorPass). AreAmong (pass_view p).sights u.sights) c.into_pass.ensures h.seen.0)
             (subst (λ (p : CollectorPass). AreAmong (pass_view p).sights u.sights) c.lend.ensures.pass h.seen.1)
             (subst (λ (p : CollectorPass). AreAmong (pass_view p).sights u.sights) c.into_pass-2.ensures h.seen.2);
@@ -44,4 +37,4 @@ returns-clause-brought c =
         events = h.events ∙ ap (λ (p : CollectorPass). (pass_view p).events) c.lend.ensures.pass;
       };
       went = subst (λ (p : CollectorPass). HaveGone c.args.list.items (pass_view p) (pass_view c.finish_some.new.pass)) c.lend-2.ensures.pass c.finish_some.ensures.went;
-    })
+    }

@@ -6,8 +6,7 @@ use Rattle.hg_collectors.specs.GroupCollectors as group
 use Rattle.hg_rounds.specs.TableCollectors as table
 use Rattle.hg_collectors.specs.Workers as interval
 use Rattle.hg_collectors.specs.Lent.{lent_board_id, lent_sizes}
-use Rattle.hg_collectors.specs.Collecting.{AreCollectorsOf, removed_of, view_in}
-use Rattle.hg_collectors.specs.Trio.{Trio, trio}
+use Rattle.hg_collectors.specs.Collecting.{removed_of, view_in}
 use Rattle.hg_collectors.specs.Rounding.{IsRoundBy}
 use Rattle.hg_collectors.specs.Swept.{HasSwept, swept_by}
 use Rattle.hg_collectors.proofs.Among.{by_kind, if_ok}
@@ -19,111 +18,99 @@ use Rattle.hg_collectors.proofs.collectors.Collectors.collect.Goals as goal
 pub returns-in-Group-clause-round : goal.returns-in-Group-clause-round
 returns-in-Group-clause-round g c =
     let z = lent_sizes c.args.lent.now in
-    let old = trio c.self.inside.group c.self.inside.table c.self.inside.interval in
+    let old = c.args.self.now in
     let new = record old { group = c.make_round.new.self } in
-    subst (λ (o : Trio). IfOk c.make_round.result (λ sweep. IsRoundBy c.args.kind z c.args.long (view_in c.args.kind o) sweep (view_in c.args.kind (record old { group = c.make_round.new.self })))) c.self.view_is
-    (subst (λ kind. IfOk c.make_round.result (λ sweep. IsRoundBy kind z c.args.long (view_in kind old) sweep (view_in kind new))) (sym c.in-Group.is) c.make_round.ensures.round)
+    subst (λ kind. IfOk c.make_round.result (λ sweep. IsRoundBy kind z c.args.long (view_in kind old) sweep (view_in kind new))) (sym c.in-Group.is) c.make_round.ensures.round
 
 pub returns-in-Group-clause-others : goal.returns-in-Group-clause-others
 returns-in-Group-clause-others g c =
-    let old = trio c.self.inside.group c.self.inside.table c.self.inside.interval in
+    let old = c.args.self.now in
     let new = record old { group = c.make_round.new.self } in
-    subst (λ (o : Trio). (k : Kind) → k ≢ c.args.kind → view_in k (record old { group = c.make_round.new.self }) ≡ view_in k o) c.self.view_is
-    (by_kind (λ k. k ≢ c.args.kind → view_in k new ≡ view_in k old) (λ apart. absurd (apart (sym c.in-Group.is))) (λ apart. refl) (λ apart. refl))
+    by_kind (λ k. k ≢ c.args.kind → view_in k new ≡ view_in k old) (λ apart. absurd (apart (sym c.in-Group.is))) (λ apart. refl) (λ apart. refl)
 
 pub returns-in-Table-clause-round : goal.returns-in-Table-clause-round
 returns-in-Table-clause-round g c =
     let z = lent_sizes c.args.lent.now in
-    let old = trio c.self.inside.group c.self.inside.table c.self.inside.interval in
+    let old = c.args.self.now in
     let new = record old { table = c.make_round-in-Table.new.self } in
-    subst (λ (o : Trio). IfOk c.make_round-in-Table.result (λ sweep. IsRoundBy c.args.kind z c.args.long (view_in c.args.kind o) sweep (view_in c.args.kind (record old { table = c.make_round-in-Table.new.self })))) c.self.view_is
-    (subst (λ kind. IfOk c.make_round-in-Table.result (λ sweep. IsRoundBy kind z c.args.long (view_in kind old) sweep (view_in kind new))) (sym c.in-Table.is) c.make_round-in-Table.ensures.round)
+    subst (λ kind. IfOk c.make_round-in-Table.result (λ sweep. IsRoundBy kind z c.args.long (view_in kind old) sweep (view_in kind new))) (sym c.in-Table.is) c.make_round-in-Table.ensures.round
 
 pub returns-in-Table-clause-others : goal.returns-in-Table-clause-others
 returns-in-Table-clause-others g c =
-    let old = trio c.self.inside.group c.self.inside.table c.self.inside.interval in
+    let old = c.args.self.now in
     let new = record old { table = c.make_round-in-Table.new.self } in
-    subst (λ (o : Trio). (k : Kind) → k ≢ c.args.kind → view_in k (record old { table = c.make_round-in-Table.new.self }) ≡ view_in k o) c.self.view_is
-    (by_kind (λ k. k ≢ c.args.kind → view_in k new ≡ view_in k old) (λ apart. refl) (λ apart. absurd (apart (sym c.in-Table.is))) (λ apart. refl))
+    by_kind (λ k. k ≢ c.args.kind → view_in k new ≡ view_in k old) (λ apart. refl) (λ apart. absurd (apart (sym c.in-Table.is))) (λ apart. refl)
 
 pub returns-in-Interval-clause-round : goal.returns-in-Interval-clause-round
 returns-in-Interval-clause-round g c =
     let z = lent_sizes c.args.lent.now in
-    let old = trio c.self.inside.group c.self.inside.table c.self.inside.interval in
+    let old = c.args.self.now in
     let new = record old { interval = c.sweep_round.new.worker } in
-    subst (λ (o : Trio). IfOk c.sweep_round.result (λ sweep. IsRoundBy c.args.kind z c.args.long (view_in c.args.kind o) sweep (view_in c.args.kind (record old { interval = c.sweep_round.new.worker })))) c.self.view_is
-    (subst (λ kind. IfOk c.sweep_round.result (λ sweep. IsRoundBy kind z c.args.long (view_in kind old) sweep (view_in kind new))) (sym c.in-Interval.is) c.sweep_round.ensures.round)
+    subst (λ kind. IfOk c.sweep_round.result (λ sweep. IsRoundBy kind z c.args.long (view_in kind old) sweep (view_in kind new))) (sym c.in-Interval.is) c.sweep_round.ensures.round
 
 pub returns-in-Interval-clause-others : goal.returns-in-Interval-clause-others
 returns-in-Interval-clause-others g c =
-    let old = trio c.self.inside.group c.self.inside.table c.self.inside.interval in
+    let old = c.args.self.now in
     let new = record old { interval = c.sweep_round.new.worker } in
-    subst (λ (o : Trio). (k : Kind) → k ≢ c.args.kind → view_in k (record old { interval = c.sweep_round.new.worker }) ≡ view_in k o) c.self.view_is
-    (by_kind (λ k. k ≢ c.args.kind → view_in k new ≡ view_in k old) (λ apart. refl) (λ apart. refl) (λ apart. absurd (apart (sym c.in-Interval.is))))
+    by_kind (λ k. k ≢ c.args.kind → view_in k new ≡ view_in k old) (λ apart. refl) (λ apart. refl) (λ apart. absurd (apart (sym c.in-Interval.is)))
 
 pub returns-in-Group-clause-swept : goal.returns-in-Group-clause-swept
 returns-in-Group-clause-swept g c =
     let z = lent_sizes c.args.lent.now in
-    let old = trio c.self.inside.group c.self.inside.table c.self.inside.interval in
+    let old = c.args.self.now in
     let new = c.make_round.new.self in
-    subst (λ (o : Trio). IfOk c.make_round.result (λ sweep. HasSwept c.args.kind z.sessions (view_in c.args.kind o) sweep (view_in c.args.kind (record old { group = c.make_round.new.self })))) c.self.view_is
-    (subst (λ kind. IfOk c.make_round.result (λ sweep. HasSwept kind z.sessions (view_in kind old) sweep (view_in kind (record old { group = new })))) (sym c.in-Group.is)
-    (told_swept kinds.Group z c.args.long (view_in kinds.Group old) (group.view_of new) c.make_round.result c.make_round.ensures.round))
+    subst (λ kind. IfOk c.make_round.result (λ sweep. HasSwept kind z.sessions (view_in kind old) sweep (view_in kind (record old { group = new })))) (sym c.in-Group.is)
+    (told_swept kinds.Group z c.args.long (view_in kinds.Group old) (group.view_of new) c.make_round.result c.make_round.ensures.round)
 
 pub returns-in-Group-clause-removed : goal.returns-in-Group-clause-removed
 returns-in-Group-clause-removed g c =
     let z = lent_sizes c.args.lent.now in
-    let old = trio c.self.inside.group c.self.inside.table c.self.inside.interval in
+    let old = c.args.self.now in
     let new = c.make_round.new.self in
-    subst (λ (o : Trio). IfOk c.make_round.result (λ sweep. (k : Kind) → removed_of k (record old { group = c.make_round.new.self }) ≡ removed_of k o + swept_by k sweep)) c.self.view_is
-    (if_ok (λ sweep. IsRoundBy kinds.Group z c.args.long (view_in kinds.Group old) sweep (group.view_of new)) (λ sweep. (k : Kind) →
-    removed_of k (record old { group = new }) ≡ removed_of k old + swept_by k sweep) c.make_round.result (λ sweep round. removed_group z c.args.long old new sweep round) c.make_round.ensures.round)
+    if_ok (λ sweep. IsRoundBy kinds.Group z c.args.long (view_in kinds.Group old) sweep (group.view_of new)) (λ sweep. (k : Kind) →
+    removed_of k (record old { group = new }) ≡ removed_of k old + swept_by k sweep) c.make_round.result (λ sweep round. removed_group z c.args.long old new sweep round) c.make_round.ensures.round
 
 pub returns-in-Table-clause-swept : goal.returns-in-Table-clause-swept
 returns-in-Table-clause-swept g c =
     let z = lent_sizes c.args.lent.now in
-    let old = trio c.self.inside.group c.self.inside.table c.self.inside.interval in
+    let old = c.args.self.now in
     let new = c.make_round-in-Table.new.self in
-    subst (λ (o : Trio). IfOk c.make_round-in-Table.result (λ sweep. HasSwept c.args.kind z.sessions (view_in c.args.kind o) sweep (view_in c.args.kind (record old { table = c.make_round-in-Table.new.self })))) c.self.view_is
-    (subst (λ kind. IfOk c.make_round-in-Table.result (λ sweep. HasSwept kind z.sessions (view_in kind old) sweep (view_in kind (record old { table = new })))) (sym c.in-Table.is)
-    (told_swept kinds.Table z c.args.long (view_in kinds.Table old) (table.view_of new) c.make_round-in-Table.result c.make_round-in-Table.ensures.round))
+    subst (λ kind. IfOk c.make_round-in-Table.result (λ sweep. HasSwept kind z.sessions (view_in kind old) sweep (view_in kind (record old { table = new })))) (sym c.in-Table.is)
+    (told_swept kinds.Table z c.args.long (view_in kinds.Table old) (table.view_of new) c.make_round-in-Table.result c.make_round-in-Table.ensures.round)
 
 pub returns-in-Table-clause-removed : goal.returns-in-Table-clause-removed
 returns-in-Table-clause-removed g c =
     let z = lent_sizes c.args.lent.now in
-    let old = trio c.self.inside.group c.self.inside.table c.self.inside.interval in
+    let old = c.args.self.now in
     let new = c.make_round-in-Table.new.self in
-    subst (λ (o : Trio). IfOk c.make_round-in-Table.result (λ sweep. (k : Kind) → removed_of k (record old { table = c.make_round-in-Table.new.self }) ≡ removed_of k o + swept_by k sweep)) c.self.view_is
-    (if_ok (λ sweep. IsRoundBy kinds.Table z c.args.long (view_in kinds.Table old) sweep (table.view_of new)) (λ sweep. (k : Kind) →
+    if_ok (λ sweep. IsRoundBy kinds.Table z c.args.long (view_in kinds.Table old) sweep (table.view_of new)) (λ sweep. (k : Kind) →
     removed_of k (record old { table = new }) ≡ removed_of k old + swept_by k sweep) c.make_round-in-Table.result
-    (λ sweep round. removed_table z c.args.long old new sweep round) c.make_round-in-Table.ensures.round)
+    (λ sweep round. removed_table z c.args.long old new sweep round) c.make_round-in-Table.ensures.round
 
 pub returns-in-Interval-clause-swept : goal.returns-in-Interval-clause-swept
 returns-in-Interval-clause-swept g c =
     let z = lent_sizes c.args.lent.now in
-    let old = trio c.self.inside.group c.self.inside.table c.self.inside.interval in
+    let old = c.args.self.now in
     let new = c.sweep_round.new.worker in
-    subst (λ (o : Trio). IfOk c.sweep_round.result (λ sweep. HasSwept c.args.kind z.sessions (view_in c.args.kind o) sweep (view_in c.args.kind (record old { interval = c.sweep_round.new.worker })))) c.self.view_is
-    (subst (λ kind. IfOk c.sweep_round.result (λ sweep. HasSwept kind z.sessions (view_in kind old) sweep (view_in kind (record old { interval = new })))) (sym c.in-Interval.is)
-    (told_swept kinds.Interval z c.args.long (view_in kinds.Interval old) (interval.view_of new) c.sweep_round.result c.sweep_round.ensures.round))
+    subst (λ kind. IfOk c.sweep_round.result (λ sweep. HasSwept kind z.sessions (view_in kind old) sweep (view_in kind (record old { interval = new })))) (sym c.in-Interval.is)
+    (told_swept kinds.Interval z c.args.long (view_in kinds.Interval old) (interval.view_of new) c.sweep_round.result c.sweep_round.ensures.round)
 
 pub returns-in-Interval-clause-removed : goal.returns-in-Interval-clause-removed
 returns-in-Interval-clause-removed g c =
     let z = lent_sizes c.args.lent.now in
-    let old = trio c.self.inside.group c.self.inside.table c.self.inside.interval in
+    let old = c.args.self.now in
     let new = c.sweep_round.new.worker in
-    subst (λ (o : Trio). IfOk c.sweep_round.result (λ sweep. (k : Kind) → removed_of k (record old { interval = c.sweep_round.new.worker }) ≡ removed_of k o + swept_by k sweep)) c.self.view_is
-    (if_ok (λ sweep. IsRoundBy kinds.Interval z c.args.long (view_in kinds.Interval old) sweep (interval.view_of new)) (λ sweep. (k : Kind) →
+    if_ok (λ sweep. IsRoundBy kinds.Interval z c.args.long (view_in kinds.Interval old) sweep (interval.view_of new)) (λ sweep. (k : Kind) →
     removed_of k (record old { interval = new }) ≡ removed_of k old + swept_by k sweep) c.sweep_round.result
-    (λ sweep round. removed_interval z c.args.long old new sweep round) c.sweep_round.ensures.round)
+    (λ sweep round. removed_interval z c.args.long old new sweep round) c.sweep_round.ensures.round
 
 pub returns-in-Group-clause-own : goal.returns-in-Group-clause-own
 returns-in-Group-clause-own g c =
     let t = lent_board_id c.args.lent.now in
     let z = lent_sizes c.args.lent.now in
-    let old = trio c.self.inside.group c.self.inside.table c.self.inside.interval in
+    let old = c.args.self.now in
     let new = c.make_round.new.self in
-    let own = subst (λ (o : Trio). AreCollectorsOf t z o) (sym c.self.view_is) c.requires.own in
+    let own = c.requires.own in
     let made = c.make_round.ensures.made in
     let swept = swept_of kinds.Group z c.args.long (group.view_of old.group) (group.view_of new) made.0 made.1 in
     record {
@@ -141,9 +128,9 @@ pub returns-in-Table-clause-own : goal.returns-in-Table-clause-own
 returns-in-Table-clause-own g c =
     let t = lent_board_id c.args.lent.now in
     let z = lent_sizes c.args.lent.now in
-    let old = trio c.self.inside.group c.self.inside.table c.self.inside.interval in
+    let old = c.args.self.now in
     let new = c.make_round-in-Table.new.self in
-    let own = subst (λ (o : Trio). AreCollectorsOf t z o) (sym c.self.view_is) c.requires.own in
+    let own = c.requires.own in
     let made = c.make_round-in-Table.ensures.made in
     let swept = swept_of kinds.Table z c.args.long (table.view_of old.table) (table.view_of new) made.0 made.1 in
     record {
@@ -161,9 +148,9 @@ pub returns-in-Interval-clause-own : goal.returns-in-Interval-clause-own
 returns-in-Interval-clause-own g c =
     let t = lent_board_id c.args.lent.now in
     let z = lent_sizes c.args.lent.now in
-    let old = trio c.self.inside.group c.self.inside.table c.self.inside.interval in
+    let old = c.args.self.now in
     let new = c.sweep_round.new.worker in
-    let own = subst (λ (o : Trio). AreCollectorsOf t z o) (sym c.self.view_is) c.requires.own in
+    let own = c.requires.own in
     let made = c.sweep_round.ensures.made in
     let swept = swept_of kinds.Interval z 0 (interval.view_of old.interval) (interval.view_of new) made.0 made.1 in
     record {
