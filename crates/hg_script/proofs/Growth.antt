@@ -53,7 +53,7 @@ in-order-one before (q ∷ qs) r h may = (
 )
 
 -- what no rule of order refuses may stand
-may-stand : (within reads : Bool) (ask : Ask) → ask_order_breaks within reads ask ≡ false → MayStand within reads (statement_of ask)
+pub may-stand : (within reads : Bool) (ask : Ask) → ask_order_breaks within reads ask ≡ false → MayStand within reads (statement_of ask)
 may-stand within reads (Begin scope) e = e
 may-stand within reads (Get table key) e = e
 may-stand within reads (Put table key values) e = e

@@ -18,3 +18,6 @@ pub mod Numbered
 -- A reader reaches every record.
 pub mod Walk
 pub mod Whole
+-- A record that is judged when it comes.
+pub mod Judging
+pub mod Accepting

@@ -1,5 +1,5 @@
 -- What a script is that breaks no rule, in words of its own.
-use Rattle.std.specs.Prelude.{◌≡◌, ◌⊎◌, ◌+◌, ◌<◌, ◌≤◌, ◌^◌, List, [], ◌∷◌, ◌++◌, ◌||◌, length, map, Bool, IsTrue, IsFalse, bytes_eq, ⊤}
+use Rattle.std.specs.Prelude.{◌≡◌, ℕ, ◌⊎◌, ◌+◌, ◌<◌, ◌≤◌, ◌^◌, List, [], ◌∷◌, ◌++◌, ◌||◌, length, map, Bool, IsTrue, IsFalse, bytes_eq, ⊤}
 use Rattle.std.specs.List.{IsDistinct}
 use Rattle.hg_base.specs.declared.limits.TheConstants.{MOST_SESSIONS, MOST_TABLES, MOST_COLUMNS, MOST_RECORDS}
 use Rattle.hg_base.specs.declared.rid.TableId.{TableId}
@@ -90,6 +90,14 @@ MayStand within reads say.CursorClose = IsTrue reads
 MayStand within reads say.Commit = IsTrue within
 MayStand within reads say.Rollback = IsTrue within
 MayStand within reads (say.Gc kind) = ⊤
+
+-- A statement of a session that there is, which fits the tables of a script and may stand after its records, whatever its place.
+pub record IsAccepted (s : Script) (session : ℕ) (statement : Statement) : Type 0 where
+  pub some : 1 ≤ session
+  pub most : session ≤ MOST_SESSIONS
+  pub fits : FitsTables s.tables statement
+  pub widths : HasWidths statement
+  pub stands : MayStand (is_open session s.records) (is_reading session s.records) statement
 
 -- each record may stand after those before it
 abbrev pub AreInOrder : List Record → List Record → Type 0

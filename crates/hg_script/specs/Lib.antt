@@ -10,3 +10,5 @@ pub mod Typed
 pub mod Places
 pub mod Sessions
 pub mod Numbered
+-- A record that is judged when it comes.
+pub mod Judging

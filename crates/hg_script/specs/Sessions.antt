@@ -1,5 +1,5 @@
 -- What is kept of the sessions while a script grows.
-use Rattle.std.specs.Prelude.{◌≡◌, ℕ, ◌≤◌, List, get_or, Bool, false}
+use Rattle.std.specs.Prelude.{◌≡◌, ℕ, ◌≤◌, List, get_or, length, nat_lt, Bool, false}
 use Rattle.hg_base.specs.declared.limits.TheConstants.{MOST_SESSIONS}
 use Rattle.hg_base.specs.declared.statement.Record.{Record}
 use Rattle.hg_script.specs.Rules.{is_open, is_reading}
@@ -20,3 +20,7 @@ pub record OpenFlags : Type 0 where
 -- both are those after these records
 abbrev pub KnowsSessions : OpenFlags → List Record → Type 0
 KnowsSessions known records = KnowsOpen known.flags records × KnowsReading known.cursors records
+
+-- so they are, and whether there is any record
+abbrev pub KnowsRecords : Bool → OpenFlags → List Record → Type 0
+KnowsRecords started known records = (started ≡ nat_lt 0 (length records)) × KnowsSessions known records

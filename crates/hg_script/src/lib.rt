@@ -56,6 +56,7 @@
 mod code;
 mod columns;
 mod draft;
+mod judge;
 mod kind;
 mod law;
 mod reader;
@@ -73,6 +74,7 @@ mod word;
 pub use code::Code;
 pub use hg_base::{Integer, Natural, numbers_are_decimal, read_integer, read_natural};
 pub use hg_records::Asked;
+pub use judge::{Judge, Judged};
 pub use law::{cursors_are_in_order, scopes_have_what_is_named};
 pub use reader::read_script;
 pub use record_list::RecordList;

@@ -118,7 +118,7 @@ fn take(
         return Err(refused(place, Code::Fields));
     }
     let draft = Draft::read(alloc, script.version(), script.named(), word, row)?;
-    if let Some(code) = draft.code(script, sessions) {
+    if let Some(code) = draft.code(script.tables(), script.record_count() > 0, sessions) {
         return Err(refused(place, code));
     }
     add(alloc, script, sessions, word, draft, row)?;

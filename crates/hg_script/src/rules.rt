@@ -1,14 +1,15 @@
 //! The rules, one test for each code.
 
-ghost use Rattle.std.specs.Prelude.{◌≡◌, IfNone, false};
+ghost use Rattle.std.specs.Prelude.{◌≡◌, List, IfNone, false};
 ghost use Rattle.hg_script.specs.Rules.{ask_columns_breaks, ask_name_breaks, ask_number_breaks, ask_order_breaks, ask_range_breaks, ask_value_breaks, columns_breaks, count_breaks, fields_breaks, name_breaks, number_breaks, order_breaks, range_breaks, value_breaks};
 ghost use Rattle.hg_script.specs.Draft as draft;
 ghost use Rattle.hg_script.specs.Meaning.{draft_code};
-ghost use Rattle.hg_script.specs.Sessions.{KnowsSessions};
+ghost use Rattle.hg_base.specs.declared.statement.Record.{Record};
+ghost use Rattle.hg_base.specs.Script.{Script};
+ghost use Rattle.hg_script.specs.Sessions.{KnowsRecords};
 
 use crate::code::Code;
 use crate::draft::{Ask, Draft};
-use crate::script::Script;
 use crate::sessions::OpenSessions;
 use crate::table::Table;
 use crate::word::Word;
@@ -184,14 +185,14 @@ impl Draft {
         }
     }
 
-    fn breaks_order(&self, script: &Script, sessions: &OpenSessions) -> bool
-        requires known { KnowsSessions sessions.now script.now.records }
+    fn breaks_order(&self, started: bool, sessions: &OpenSessions) -> bool
         requires range { range_breaks self.now ≡ false }
-        ensures { result ≡ order_breaks script.now.records self.now }
+        ensures { (records : List Record) → KnowsRecords started sessions.now records →
+            result ≡ order_breaks records self.now }
     {
         match self {
             Draft::Version(_) => false,
-            Draft::Table { .. } => script.record_count() > 0,
+            Draft::Table { .. } => started,
             Draft::Session { session, ask } => {
                 let session = session.value();
                 ask.breaks_order(sessions.is_open(session), sessions.is_reading(session))
@@ -201,14 +202,20 @@ impl Draft {
 
     /// The first rule that the record breaks, of those that ask for its fields.
     #[tactic(auto, unfolding(crate::specs::Meaning::draft_code))]
-    pub(crate) fn code(&self, script: &Script, sessions: &OpenSessions) -> Option<Code>
-        requires known { KnowsSessions sessions.now script.now.records }
-        ensures code { result ≡ draft_code script.now self.now }
+    pub(crate) fn code(
+        &self,
+        tables: &[Table],
+        started: bool,
+        sessions: &OpenSessions,
+    ) -> Option<Code>
+        ensures code { (s : Script) → s.tables ≡ tables.now →
+            KnowsRecords started sessions.now s.records → result ≡ draft_code s self.now }
         ensures number { IfNone result (number_breaks self.now ≡ false) }
         ensures range { IfNone result (range_breaks self.now ≡ false) }
         ensures name { IfNone result (name_breaks self.now ≡ false) }
         ensures value { IfNone result (value_breaks self.now ≡ false) }
-        ensures order { IfNone result (order_breaks script.now.records self.now ≡ false) }
+        ensures order { (records : List Record) → KnowsRecords started sessions.now records →
+            IfNone result (order_breaks records self.now ≡ false) }
     {
         if self.breaks_number() {
             Some(Code::Number)
@@ -216,11 +223,11 @@ impl Draft {
             Some(Code::Range)
         } else if self.breaks_name() {
             Some(Code::Name)
-        } else if self.breaks_columns(script.tables()) {
+        } else if self.breaks_columns(tables) {
             Some(Code::Columns)
         } else if self.breaks_value() {
             Some(Code::Value)
-        } else if self.breaks_order(script, sessions) {
+        } else if self.breaks_order(started, sessions) {
             Some(Code::Order)
         } else {
             None
