@@ -23,6 +23,7 @@
 mod answer;
 mod bytes;
 mod line;
+mod notes;
 mod number_fields;
 mod piece;
 mod record;
@@ -32,6 +33,7 @@ mod told;
 mod transcript;
 mod values;
 
+pub use notes::{add_line, add_note, add_note_with};
 pub use piece::Piece;
 pub use text::{reply_text, text_of, totals_text};
 pub use transcript::Transcript;
