@@ -2,3 +2,5 @@
 pub mod Line
 -- What the words mean.
 pub mod Options
+-- When they ask for a conversation.
+pub mod Live
