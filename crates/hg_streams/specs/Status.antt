@@ -9,7 +9,7 @@ use Rattle.hg_words.specs.declared.options.WordsRefusal.TheVariants as words
 use Rattle.hg_streams.specs.declared.source.ReadError.{ReadError}
 use Rattle.hg_streams.specs.declared.source.ReadError.TheVariants as error
 use Rattle.hg_streams.specs.declared.status.Status.{Status}
-use Rattle.hg_streams.specs.declared.status.Status.TheVariants.{Done, Usage, BadScript, ReadFault, WriteFault, TooLong, NoMemory}
+use Rattle.hg_streams.specs.declared.status.Status.TheVariants.{Done, Usage, BadScript, ReadFault, WriteFault, TooLong, NoMemory, Spent}
 
 -- the exit status of the program
 abbrev pub exit_code_of : Status → ℕ
@@ -20,6 +20,7 @@ exit_code_of ReadFault = 4
 exit_code_of WriteFault = 5
 exit_code_of TooLong = 6
 exit_code_of NoMemory = 7
+exit_code_of Spent = 8
 
 -- what the program says of a status
 abbrev pub said_of : Status → List ℕ
@@ -30,6 +31,7 @@ said_of ReadFault = codes "read fault"
 said_of WriteFault = codes "write fault"
 said_of TooLong = codes "script longer than " ++ decimal MOST_SCRIPT_BYTES ++ codes " bytes"
 said_of NoMemory = codes "out of memory"
+said_of Spent = codes "no statement left"
 
 -- the status where the words of the command line are refused
 abbrev pub status_of_words : WordsRefusal → Status

@@ -9,7 +9,7 @@ use hg_script::{Code, ScriptRefusal};
 use hg_words::WordsRefusal;
 use std::fmt;
 
-/// How a call of `serve` ended.
+/// How a call ended. No call of `serve` ends with `Spent`.
 #[derive(Clone, Copy, Debug, PartialEq, Eq)]
 pub enum Status {
     /// The whole text was written.
@@ -23,6 +23,8 @@ pub enum Status {
     /// The source gave a byte more than a script may have.
     TooLong,
     NoMemory,
+    /// A conversation has had as many statements or records as it may.
+    Spent,
 }
 
 impl Status {
@@ -38,6 +40,7 @@ impl Status {
             Status::WriteFault => 5,
             Status::TooLong => 6,
             Status::NoMemory => 7,
+            Status::Spent => 8,
         }
     }
 }
@@ -60,6 +63,7 @@ impl fmt::Display for Status {
             Status::WriteFault => f.write_str("write fault"),
             Status::TooLong => write!(f, "script longer than {MOST_SCRIPT_BYTES} bytes"),
             Status::NoMemory => f.write_str("out of memory"),
+            Status::Spent => f.write_str("no statement left"),
         }
     }
 }
