@@ -34,7 +34,7 @@ none_held : (within reads : Bool) (o : Open) → IsFalse (within || reads) → I
 none_held within reads o e (inl h) = true_not (sym h.0 ∙ (or_parts within reads e).0)
 none_held within reads o e (inr h) = true_not (sym h.1 ∙ (or_parts within reads e).1)
 
-may_ask : (within reads : Bool) (x : Option Open) (st : Statement) → IsHeld within reads x → MayStand within reads st → HasWidths st → MayAsk x st
+pub may_ask : (within reads : Bool) (x : Option Open) (st : Statement) → IsHeld within reads x → MayStand within reads st → HasWidths st → MayAsk x st
 may_ask within reads None (Fetch n) h m w = absurd (true_not (sym m ∙ h.1))
 may_ask within reads (Some o) (Fetch n) (inl h) m w = absurd (true_not (sym m ∙ h.1))
 may_ask within reads (Some o) (Fetch n) (inr h) m w = (w.0, h.2)
@@ -143,10 +143,10 @@ reads_snoc j rs r = folds false rs
     folds b [] = refl
     folds b (q ∷ rs) = folds (reading_by j b q) rs
 
-abbrev Holds : List Record → State → ℕ → Type 0
+abbrev pub Holds : List Record → State → ℕ → Type 0
 Holds before s j = IsHeld (is_open j before) (is_reading j before) (s.opened j)
 
-held_more : (before : List Record) (s : State) (r : Record) → ((j : ℕ) → Holds before s j) → MayStand (is_open r.session before) (is_reading r.session before) r.statement →
+pub held_more : (before : List Record) (s : State) (r : Record) → ((j : ℕ) → Holds before s j) → MayStand (is_open r.session before) (is_reading r.session before) r.statement →
     (j : ℕ) → Holds (before ++ r ∷ []) (step s r.session r.statement).1 j
 held_more before s r h m = at_index r.session (λ j. IsHeld (is_open j (before ++ r ∷ [])) (is_reading j (before ++ r ∷ [])) ((step s r.session r.statement).1.opened j))
     (subst (λ (p : Bool × Bool). IsHeld p.0 p.1 ((step s r.session r.statement).1.opened r.session)) (λ i. (sym own.0 i, sym own.1 i))

@@ -13,7 +13,6 @@ use Rattle.hg_base.specs.Lists.{Each, onto, present}
 use Rattle.hg_base.specs.Script.{replay}
 use Rattle.hg_base.specs.History.{Write, Commit, Group, History, IsGroup, LosesNothing, NoneTwice, rids_of, writes}
 use Rattle.hg_base.specs.Transcript.{Said, commit_by, committed, greatest_commit, history_of, last_images}
-use Rattle.hg_base.specs.Transcript.{said}
 use Rattle.hg_base.specs.Replies.{IsReply, is_written}
 use Rattle.hg_base.specs.Conflicts.{ShowsConflict}
 use Rattle.hg_base.specs.Freshness.{IsFresh, known, newer_of, snapshot_of}
@@ -23,8 +22,7 @@ use Rattle.hg_base.proofs.Extending.{extends_snoc, reply_stays}
 use Rattle.hg_core.proofs.Grouping.{none_last}
 use Rattle.hg_core.proofs.Updates.{each_last}
 use Rattle.hg_exact.specs.State.{Open, State, mark, with_group}
-use Rattle.hg_exact.specs.Answers.{report}
-use Rattle.hg_exact.specs.Replayed.{plain_answer, plain_reply, within}
+use Rattle.hg_exact.specs.Replayed.{plain_answer, plain_reply}
 use Rattle.hg_exact.proofs.Answering.{Prints}
 use Rattle.hg_exact.proofs.Counting.{AreBegun, Counts, IsUpTo, counts_commit, counts_plain}
 use Rattle.hg_exact.proofs.Counting.{known_upto}

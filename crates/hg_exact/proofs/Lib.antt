@@ -54,3 +54,11 @@ pub mod Widths
 pub mod Few
 pub mod Replies
 pub mod Fits
+-- What a conversation answers.
+mod FewSessions
+pub mod Conversing
+-- The records that broke no rule.
+pub mod Accepted
+pub mod Scripted
+-- The answers that are due.
+pub mod Due

@@ -21,7 +21,7 @@ use Rattle.hg_base.specs.Freshness.{prints, snapshot_of}
 use Rattle.hg_base.specs.Lists.{Each, EachAfter}
 use Rattle.hg_base.specs.Script.{Mode, Script}
 use Rattle.hg_base.specs.History.{History, image_in, seen}
-use Rattle.hg_base.specs.Transcript.{Rest, Said, rest_in, standing, said, has, is_of, own_writes, stored, stored_in, committed}
+use Rattle.hg_base.specs.Transcript.{Rest, Said, rest_in, has, is_of, own_writes, stored, stored_in, committed}
 use Rattle.hg_base.specs.Transcript.{committed_by, table_of}
 use Rattle.hg_base.specs.Shape.{report_of, same_kind}
 use Rattle.hg_base.specs.Replies.{IsSwept, IsCollected, IsAnswer, is_written}

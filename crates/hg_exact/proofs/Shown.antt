@@ -11,7 +11,7 @@ use Rattle.hg_base.specs.declared.line.Answer.{Answer}
 use Rattle.hg_base.specs.declared.line.Answer.TheVariants.{Stored, Gone, Newer}
 use Rattle.hg_base.specs.declared.line.Reply.{Reply}
 use Rattle.hg_base.specs.declared.line.Line.{Line}
-use Rattle.hg_base.specs.Lists.{EachAfter, onto}
+use Rattle.hg_base.specs.Lists.{EachAfter, greatest, onto}
 use Rattle.hg_base.specs.Conflicts.{target}
 use Rattle.hg_base.specs.History.{History, image_in}
 use Rattle.hg_base.specs.Script.{Script, replay}
@@ -42,6 +42,8 @@ use Rattle.hg_headline.proofs.Ties.{StandsIn, Ties, ties_nothing}
 use Rattle.hg_headline.proofs.Whole.{AtLine, IsTold, judged_less}
 use Rattle.hg_script.specs.Lawful.{IsLawful}
 use Rattle.hg_exact.specs.First.{IsFirst, IsFirstCause, IsFree, IsNewest}
+use Rattle.hg_exact.specs.Lawful.{AreAnswered}
+use Rattle.hg_exact.specs.State.{start}
 use Rattle.hg_exact.specs.Replayed.{plain, replayed}
 use Rattle.hg_core.specs.Shown.{HasOpen, IsFreeIn, IsNewestIn, ShowsFirst, ShowsFirsts, reads_at}
 use Rattle.hg_exact.proofs.Ascending.{CommitAscends, sound_ascends}
@@ -215,3 +217,11 @@ pub shown_at_end : (buckets sessions seen top : ℕ) (h : History) (logs closed 
     ((j : ℕ) → Closes (logs j) (closed j)) → Logged buckets h closed → seen ≤ length h → IsLawful script → map plain lines ≡ replayed script
 shown_at_end buckets sessions seen top h logs closed script lines g f closes logged saw = shown_text buckets sessions top h logs script lines
     (following_ends buckets sessions h logs seen top script.records lines g (logged_before buckets h logs closed closes logged) saw) f
+
+-- the same of the logs of a history, where each statement has an answer
+pub shown_answered : (buckets sessions seen top : ℕ) (h : History) (logs : ℕ → List LogEntry) (script : Script) (lines : List Line) →
+    IsFollowing buckets sessions logs seen top script.records lines → Follows buckets ShowsFirsts (λ j. []) (λ j. None) script.records lines logs →
+    Logged buckets h logs → seen ≤ length h → AreAnswered (start (greatest (map (λ (r : Record). r.session) script.records))) script.records → map plain lines ≡ replayed script
+shown_answered buckets sessions seen top h logs script lines g f logged saw answered =
+    let r = following_ends buckets sessions h logs seen top script.records lines g logged saw in
+    sound_exact script lines (replay_sound buckets sessions top h logs script lines r) (shown_first buckets sessions top h logs script lines r f) answered

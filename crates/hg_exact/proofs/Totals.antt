@@ -18,7 +18,8 @@ use Rattle.hg_base.specs.Script.{Script, replay}
 use Rattle.hg_base.specs.Sound.{all_said}
 use Rattle.hg_base.specs.Transcript.{Said, begun, commit_by, commits_from, committed, committed_by, ends, group_of, history_of, is_of, last_images, last_of, next_after, only, open_after}
 use Rattle.hg_base.specs.Transcript.{said, said_after, said_from, standing, stored, stored_by, stored_in}
-use Rattle.hg_exact.specs.Replayed.{plain, plain_answer, plain_reply}
+use Rattle.hg_exact.specs.Replayed.{plain, plain_answer, plain_reply, replayed}
+use Rattle.hg_exact.specs.SoFar.{is_rollback, is_rolled_back, made_so_far, totals_so_far, undone_so_far}
 
 -- a line, read beside its record, without what its report says was removed and moved
 abbrev pub plain_said : Said → Said
@@ -103,18 +104,26 @@ committed_among all s =
     ap (list_any (λ (x : Said). is_some (committed x))) (filter_same plain_said (is_of s.session s.transaction) (λ x. refl) all)
     ∙ any_same plain_said (λ (x : Said). is_some (committed x)) (λ x. ap is_some (committed_plain x)) (filter (is_of s.session s.transaction) all)
 
-undone_plain : (all xs : List Said) → length (filter (λ s. not (is_committed (map plain_said all) s)) (map plain_said xs)) ≡ length (filter (λ s. not (is_committed all s)) xs)
-undone_plain all [] = refl
-undone_plain all (x ∷ xs) =
-    ap (λ b. length (cond (not b) (plain_said x ∷ filter (λ s. not (is_committed (map plain_said all) s)) (map plain_said xs))
-    (filter (λ s. not (is_committed (map plain_said all) s)) (map plain_said xs)))) (committed_among all x)
-    ∙ go (not (is_committed all x)) (undone_plain all xs)
+-- as many of the lines are so, where each is so exactly if it is without what its report says was removed and moved
+counted_plain : (p q : Said → Bool) → ((x : Said) → p (plain_said x) ≡ q x) → (xs : List Said) → length (filter p (map plain_said xs)) ≡ length (filter q xs)
+counted_plain p q e [] = refl
+counted_plain p q e (x ∷ xs) = ap (λ b. length (cond b (plain_said x ∷ filter p (map plain_said xs)) (filter p (map plain_said xs)))) (e x) ∙ go (q x) (counted_plain p q e xs)
   where
-    go : (b : Bool) → length (filter (λ s. not (is_committed (map plain_said all) s)) (map plain_said xs)) ≡ length (filter (λ s. not (is_committed all s)) xs)
-        → length (cond b (plain_said x ∷ filter (λ s. not (is_committed (map plain_said all) s)) (map plain_said xs))
-        (filter (λ s. not (is_committed (map plain_said all) s)) (map plain_said xs))) ≡ length (cond b (x ∷ filter (λ s. not (is_committed all s)) xs) (filter (λ s. not (is_committed all s)) xs))
-    go true q = ap suc q
-    go false q = q
+    go : (b : Bool) → length (filter p (map plain_said xs)) ≡ length (filter q xs) →
+        length (cond b (plain_said x ∷ filter p (map plain_said xs)) (filter p (map plain_said xs))) ≡ length (cond b (x ∷ filter q xs) (filter q xs))
+    go true h = ap suc h
+    go false h = h
+
+undone_plain : (all xs : List Said) → length (filter (λ s. not (is_committed (map plain_said all) s)) (map plain_said xs)) ≡ length (filter (λ s. not (is_committed all s)) xs)
+undone_plain all xs = counted_plain (λ s. not (is_committed (map plain_said all) s)) (λ s. not (is_committed all s)) (λ s. ap not (committed_among all s)) xs
+
+rolled_among : (all : List Said) (s : Said) → is_rolled_back (map plain_said all) (plain_said s) ≡ is_rolled_back all s
+rolled_among all s =
+    ap (list_any (λ (x : Said). is_rollback x.statement)) (filter_same plain_said (is_of s.session s.transaction) (λ x. refl) all)
+    ∙ any_same plain_said (λ (x : Said). is_rollback x.statement) (λ x. refl) (filter (is_of s.session s.transaction) all)
+
+rolled_plain : (all xs : List Said) → length (filter (is_rolled_back (map plain_said all)) (map plain_said xs)) ≡ length (filter (is_rolled_back all) xs)
+rolled_plain all xs = counted_plain (is_rolled_back (map plain_said all)) (is_rolled_back all) (rolled_among all) xs
 
 -- ---- beside the records
 
@@ -203,3 +212,21 @@ totals_same script xs ys t u e a b = (
     undone_of : (l : List Said) → length (filter (λ s. not (is_committed (map plain_said l) s)) (first_writes_from [] (map plain_said l))) ≡ length
         (filter (λ s. not (is_committed l s)) (first_writes_from [] l))
     undone_of l = ap (λ f. length (filter (λ s. not (is_committed (map plain_said l) s)) f)) (firsts_plain [] l) ∙ undone_plain l (first_writes_from [] l)
+
+-- ---- the totals so far
+
+pub totals_replayed : (script : Script) (lines : List Line) → map plain lines ≡ replayed script →
+    totals_so_far (all_said replay script lines) ≡ totals_so_far (all_said replay script (replayed script))
+totals_replayed script lines e = λ i. record { made = made i; undone = undone i; group = 0; table = 0; interval = 0; left = 0 }
+  where
+    all : List Said
+    all = said_from [] script.records lines
+
+    same : map plain_said (said_from [] script.records lines) ≡ said_from [] script.records (replayed script)
+    same = sym (said_plain [] script.records lines) ∙ ap (said_from [] script.records) e
+
+    made : made_so_far (said_from [] script.records lines) ≡ made_so_far (said_from [] script.records (replayed script))
+    made = sym (ap length (firsts_plain [] all) ∙ as_many (first_writes_from [] all)) ∙ ap made_so_far same
+
+    undone : undone_so_far (said_from [] script.records lines) ≡ undone_so_far (said_from [] script.records (replayed script))
+    undone = sym (ap (λ f. length (filter (is_rolled_back (map plain_said all)) f)) (firsts_plain [] all) ∙ rolled_plain all (first_writes_from [] all)) ∙ ap undone_so_far same

@@ -2,7 +2,13 @@
 pub mod State
 pub mod Answers
 pub mod Replayed
--- Texts that are sound and aren't exact.
+pub mod SoFar
+-- What a conversation answers, how it is written, and what is known of the answers so far.
+pub mod Conversed
+pub mod AnswerText
+pub mod Due
+-- A short conversation, and texts that are sound and are not exact.
+pub mod Talk
 pub mod Worked
 -- What is asked of a script.
 pub mod Lawful

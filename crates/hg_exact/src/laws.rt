@@ -97,3 +97,15 @@ pub fn three_totals_are_replayed()
         AreTotals (all_said replay script b) (history_of (all_said replay script b)) u →
         (t.made ≡ u.made) × (t.undone ≡ u.undone) × (t.left ≡ u.left) }
 {}
+
+/// The law `at_end` of replays, where the number of sessions and of records is not bounded by a script's: it asks only that each statement
+/// has an answer.
+pub fn answered_records_are_replayed()
+    ensures { (buckets sessions seen top : ℕ) (h : History) (logs : ℕ → List LogEntry)
+        (script : Script) (lines : List Line) →
+        IsFollowing buckets sessions logs seen top script.records lines →
+        Follows buckets ShowsFirsts (λ j. []) (λ j. None) script.records lines logs →
+        Logged buckets h logs → seen ≤ length h →
+        AreAnswered (start (greatest (map (λ r. r.session) script.records))) script.records →
+        map plain lines ≡ replayed script }
+{}

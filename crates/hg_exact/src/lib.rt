@@ -16,6 +16,21 @@
 //! logs, which a driver knows: before a write is stored, no other session has the record open, and no newer group wrote it. The driver of
 //! a replay shows it (`hg_run`). The worked examples of `hg_decide` are evaluated, and four sound texts that are not replayed.
 //!
+//! # Conversations
+//!
+//! In a conversation each record is answered when it comes (`conversed`). The records that break no rule make a script, and the lines of the
+//! answers are those of its replay:
+//!
+//!     sent              answered
+//!     table,t,1         declared,1
+//!     1,put,t,5,20      1,2,at,0,stored,committed,1
+//!     1,get,t,five      bad,3,Number
+//!     2,get,t,5         2,4,at,1,row,20
+//!
+//! So no answer depends on a later record, and a script that is sent record by record is answered as it is replayed (`conversations`).
+//! A driver shows that each answer is the one that is due, whatever the replies (`AreSoFar`), and at the end that its lines are those of a
+//! replay. Then all its answers are exact.
+//!
 //! # What is sound fits
 //!
 //! What is sound for a script, in any mode, has its rows, its numbers and its lines in the widths and columns of the format (`fit`):
@@ -27,17 +42,23 @@
 //! sound, and takes from here that they fit.
 #![tactic(auto)]
 
+mod conversations;
 mod fit;
 mod laws;
 mod worked;
 
+pub use conversations::{
+    accepted_statements_are_answered, due_answers_are_exact, first_answers_are_of_first_records,
+    next_answer_is_due, scripts_are_conversed_as_replayed, totals_are_of_the_lines_so_far,
+    totals_so_far_are_replayed, what_is_conversed_is_replayed,
+};
 pub use fit::{rows_have_their_columns, what_is_sound_fits};
 pub use laws::{
-    commit_numbers_ascend, lawful_scripts_are_answered, newest_group_is_of_the_history,
-    shown_first_causes_are_replayed, sound_with_first_causes_is_replayed,
-    three_totals_are_replayed, what_is_replayed_is_sound,
+    answered_records_are_replayed, commit_numbers_ascend, lawful_scripts_are_answered,
+    newest_group_is_of_the_history, shown_first_causes_are_replayed,
+    sound_with_first_causes_is_replayed, three_totals_are_replayed, what_is_replayed_is_sound,
 };
 pub use worked::{
     examples_with_collectors_are_replayed, examples_without_collectors_are_replayed,
-    first_causes_can_be_shown, sound_texts_that_are_not_exact,
+    first_causes_can_be_shown, short_talk_is_answered, sound_texts_that_are_not_exact,
 };

@@ -3,12 +3,15 @@
 ghost use Rattle.std.specs.Prelude.{◌≡◌, ℕ, List, [], map, None};
 ghost use Rattle.hg_base.specs.Script.{replay};
 ghost use Rattle.hg_base.specs.Sound.{IsSound};
+ghost use Rattle.hg_decide.specs.Writing.{plain_row};
 ghost use Rattle.hg_decide.specs.Examples.{empty, own_write, absent_key, two_puts, absent_deletion, scan_ends, undeclared, open_write, middle_of_a_chain, group_pass, equal_to_a_successor, moved, not_long, kept_deletion, kept_deletion_longer, cursor};
 ghost use Rattle.hg_core.specs.declared.log.LogEntry.{LogEntry};
 ghost use Rattle.hg_core.specs.Reading.{Follows};
 ghost use Rattle.hg_headline.specs.Replayed.{HasReplayed};
 ghost use Rattle.hg_headline.specs.Worked as conflict;
+ghost use Rattle.hg_exact.specs.AnswerText.{AreAnswers};
 ghost use Rattle.hg_exact.specs.Replayed.{plain, replayed};
+ghost use Rattle.hg_exact.specs.Talk.{short_talk, short_texts};
 ghost use Rattle.hg_core.specs.Shown.{ShowsFirsts};
 ghost use Rattle.hg_exact.specs.Worked.{exchanged, one_group, older_newer, over_open};
 
@@ -60,4 +63,9 @@ pub fn sound_texts_that_are_not_exact()
         replayed older_newer.script → ⊥ }
     ensures over_open { IsSound replay over_open.script over_open.printed }
     ensures over_open_is_not { map plain over_open.printed.lines ≡ replayed over_open.script → ⊥ }
+{}
+
+/// A short conversation, with the text of each answer.
+pub fn short_talk_is_answered()
+    ensures { AreAnswers plain_row short_talk short_texts }
 {}
