@@ -104,6 +104,8 @@ impl Collectors {
             (view_in kind self.new)) }
         ensures removed { IfOk result (λ sweep.
             (k : Kind) → removed_of k self.new ≡ removed_of k self.old + swept_by k sweep) }
+        // also where memory for what is told is refused
+        ensures kept { (k : Kind) → removed_of k self.old ≤ removed_of k self.new }
         ensures own { AreCollectorsOf (lent_board_id lent.now) (lent_sizes lent.now) self.new }
     {
         match kind {

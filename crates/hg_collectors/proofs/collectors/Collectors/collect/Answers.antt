@@ -1,4 +1,4 @@
-use Rattle.std.proofs.Common.{◌≡◌, ◌≢◌, ◌+◌, refl, sym, subst}
+use Rattle.std.proofs.Common.{◌≡◌, ◌≢◌, ◌+◌, refl, sym, subst, arith}
 use Rattle.std.specs.Prelude.{IfOk}
 use Rattle.hg_base.specs.declared.report.Kind.{Kind}
 use Rattle.hg_base.specs.declared.report.Kind.TheVariants as kinds
@@ -163,3 +163,21 @@ returns-in-Interval-clause-own g c =
         interval = lone_swept t 2 kinds.Interval z.sessions made.0 (interval.pass_of old.interval) (interval.pass_of new) own.alone.interval (worker_pass t z new c.sweep_round.ensures.own) swept;
       };
     }
+
+pub returns-in-Group-clause-kept : goal.returns-in-Group-clause-kept
+returns-in-Group-clause-kept g c k =
+    let made = c.make_round.ensures.made in
+    let e = removed_group (lent_sizes c.args.lent.now) c.args.long c.args.self.now c.make_round.new.self made.0 made.1 k in
+    omega (arith, e)
+
+pub returns-in-Table-clause-kept : goal.returns-in-Table-clause-kept
+returns-in-Table-clause-kept g c k =
+    let made = c.make_round-in-Table.ensures.made in
+    let e = removed_table (lent_sizes c.args.lent.now) c.args.long c.args.self.now c.make_round-in-Table.new.self made.0 made.1 k in
+    omega (arith, e)
+
+pub returns-in-Interval-clause-kept : goal.returns-in-Interval-clause-kept
+returns-in-Interval-clause-kept g c k =
+    let made = c.sweep_round.ensures.made in
+    let e = removed_interval (lent_sizes c.args.lent.now) 0 c.args.self.now c.sweep_round.new.worker made.0 made.1 k in
+    omega (arith, e)
