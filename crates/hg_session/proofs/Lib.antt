@@ -31,3 +31,8 @@ pub mod Committing
 pub mod Leaving
 pub mod Visiting
 pub mod Ending
+-- Between two statements: all parts come to one pass, which counts, and go back.
+pub mod Handovers
+pub mod SoFar
+pub mod AllBack
+pub mod OneHolder

@@ -26,3 +26,6 @@ pub mod Visited
 pub mod Settled
 -- A session at rest, as callers hand it on.
 pub mod Resting
+-- Sessions whose parts are with one of them, and what it counts then.
+pub mod Lent
+pub mod SoFar

@@ -11,6 +11,7 @@
 //!     commit     hand over, into the queue; the commit lock; lead all that waits there, or be led; end
 //!     rollback   an undo for each record; end
 //!     cursor     begin; for each fetch, the buckets that can have the next rows, each once; end
+//!     count      all other sessions hand their parts to one; each bucket, once; each part goes back
 //!
 //! The session's log after a call is a function of the log before, the statement, the reply, and what no reply prints (`Answers`): the
 //! statement's entries are appended once, and nothing else. So a command that prints the replies has nothing to prove about contents or
@@ -29,12 +30,14 @@ mod engine;
 mod finish;
 mod get;
 mod laws;
+mod lending;
 mod put;
 mod rollback;
 mod scan;
 mod session;
 mod session_list;
 mod settlement;
+mod so_far;
 mod statements;
 mod totals;
 mod write;
@@ -46,3 +49,4 @@ pub use laws::{places_differ, replies_are_right};
 pub use session::Session;
 pub use session_list::SessionList;
 pub use settlement::settle;
+pub use so_far::count_so_far;

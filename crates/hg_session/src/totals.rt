@@ -23,8 +23,8 @@ use hg_rule::{Board, CollectorPass, CommitSeat};
 use hg_store::Store;
 use std::sync::Wait;
 
-// Adds one bucket's counts to the sums.
-fn add(sums: Totals, counts: Totals) -> Totals
+/// Adds one bucket's counts to the sums.
+pub(crate) fn add(sums: Totals, counts: Totals) -> Totals
     requires made { sums.made + counts.made < 2 ^ 64 }
     requires undone { sums.undone + counts.undone < 2 ^ 64 }
     requires group { sums.group + counts.group < 2 ^ 64 }
