@@ -10,7 +10,7 @@ use Rattle.hg_words.specs.Options.{options_of}
 use Rattle.hg_script.specs.Fields.{rows_of}
 use Rattle.hg_script.specs.Meaning.{refusal_of, script_of}
 use Rattle.hg_streams.specs.declared.status.Status.{Status}
-use Rattle.hg_streams.specs.declared.status.Status.TheVariants.{Done, Usage, BadScript, ReadFault, WriteFault, TooLong, NoMemory}
+use Rattle.hg_streams.specs.declared.status.Status.TheVariants.{Done, Usage, BadScript, ReadFault, WriteFault, TooLong, NoMemory, Spent}
 use Rattle.hg_run.specs.Words.{AsksFor, IsMaking, IsReading, Task, audits, dumps, makes, reads, task_of}
 use Rattle.hg_streams.specs.Streams.{Change, FailsToRead, Gives, HasFailed, IsTooLong, ReadsAll}
 use Rattle.hg_run.specs.Serving.{Answers, IsScriptIn, Refuses, WritesAll, WritesExactly, WritesPart, Comes, IsUnlessNoMemory}
@@ -128,6 +128,7 @@ loaded words source sink status comes making steady = go status comes
     go WriteFault comes = absurd (steady comes.holds.failed)
     go TooLong comes = absurd (no (IsTooLong source) comes)
     go NoMemory comes = inr refl
+    go Spent comes = absurd comes
 
 -- ---- the script in the source is one
 
@@ -180,6 +181,7 @@ module _ (words : List (List ℕ)) (source sink : Change) (bytes : List ℕ) whe
   complete script WriteFault comes within gives short valid steady = absurd (steady comes.holds.failed)
   complete script TooLong comes within gives short valid steady = absurd (not_long IsReading gives short comes)
   complete script NoMemory comes within gives short valid steady = inr refl
+  complete script Spent comes within gives short valid steady = absurd comes
 
   -- a script that breaks a rule is refused, or memory is wanting
   pub bad_script : (script : List ℕ) (line : ℕ) (code : Code) (status : Status) → Comes words source sink status → AsksFor words (λ task. IsScriptIn task bytes script) →
@@ -198,6 +200,7 @@ module _ (words : List (List ℕ)) (source sink : Change) (bytes : List ℕ) whe
       absurd (none_some _ (line, code) (valid_in source bytes gives (task_of comes.options) script comes.holds.text one comes.holds.answers) refused)
   bad_script script line code TooLong comes within gives short refused = absurd (not_long IsReading gives short comes)
   bad_script script line code NoMemory comes within gives short refused = inr refl
+  bad_script script line code Spent comes within gives short refused = absurd comes
 
   -- a source with too many bytes is too long, or memory is wanting
   pub too_long : (status : Status) → Comes words source sink status → AsksFor words IsReading → Gives source bytes → MOST_SCRIPT_BYTES < length bytes
@@ -223,3 +226,4 @@ module _ (words : List (List ℕ)) (source sink : Change) (bytes : List ℕ) whe
       ))
   too_long TooLong comes reading gives long = inl refl
   too_long NoMemory comes reading gives long = inr refl
+  too_long Spent comes reading gives long = absurd comes

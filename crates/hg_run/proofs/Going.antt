@@ -164,7 +164,7 @@ going_turned e long before now old mid last i lines rest script g same kept saw 
   coming = g.coming;
 }
 
-told_more : (k : Kind) (lines : List Line) (line : Line) → told_removed k (lines ++ line ∷ []) ≡ told_removed k lines + told_of k line.reply
+pub told_more : (k : Kind) (lines : List Line) (line : Line) → told_removed k (lines ++ line ∷ []) ≡ told_removed k lines + told_of k line.reply
 told_more k lines line =
     let all = sum_by-append (told_by k) lines (line ∷ []) in
     let one = sum_by-cons (told_by k) line [] in

@@ -20,6 +20,19 @@ mod Sweeping
 mod Cursors
 mod Going
 mod Asking
+-- A conversation, and where memory runs out in it.
+mod Named
+mod Unsaid
+mod RunningOut
+mod Living
+mod Stopping
+mod Desking
+mod Conversing
+-- Its totals, in the midst and at its end.
+mod TakenBack
+mod RolledBack
+mod Counted
+mod Final
 mod Begun
 mod Closes
 mod Brought

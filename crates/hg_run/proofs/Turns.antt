@@ -18,7 +18,7 @@ use Rattle.hg_core.specs.Reading.{Fits, HasRest, log_after}
 use Rattle.hg_rule.specs.declared.view.View.{View}
 use Rattle.hg_rule.specs.Moves.{joined}
 use Rattle.hg_rule.specs.Agreed.{IsMet}
-use Rattle.hg_rule.specs.Facts.{IsAmong, IsHeard}
+use Rattle.hg_rule.specs.Facts.{IsAmong, IsHeard, StartsWith}
 use Rattle.hg_rule.specs.Views.{number, session}
 use Rattle.hg_headline.specs.Following.{KnowsOpen, IsMetIfGc}
 use Rattle.hg_headline.proofs.OpenWrites.{met_answer}
@@ -27,11 +27,11 @@ use Rattle.hg_session.specs.declared.session.Session.{Session}
 use Rattle.hg_session.specs.Cursors.{HasLeft}
 use Rattle.hg_session.specs.Engines.{engine_sizes}
 use Rattle.hg_session.specs.Firsts.{HasFirst}
-use Rattle.hg_session.specs.Sessions.{IsOf, open_of, view_of, number_of, log_of, left_of, cursor_of}
+use Rattle.hg_session.specs.Sessions.{IsOf, open_of, view_of, number_of, log_of, left_of, cursor_of, seen_by}
 use Rattle.hg_session.specs.Replies.{Answers, GoesOn}
 use Rattle.hg_run.specs.Heard.{HasHeard}
 use Rattle.hg_session.specs.Finished.{logs_of}
-use Rattle.hg_run.specs.Listed.{IsPlaced, ArePlaced, AreReady, KeepCursors, SawAt, one_more}
+use Rattle.hg_run.specs.Listed.{HasChangedAt, HasRunOne, IsPlaced, AreReady, KeepCursors, SawAt, one_more}
 use Rattle.hg_run.specs.Meeting.{HaveMet}
 use Rattle.hg_run.specs.Asked.{IsAnswered, IsReplied, collector_asked}
 use Rattle.hg_rule.proofs.Growing.{among_later}
@@ -126,45 +126,35 @@ logs_asked e i x s reply old new d within h =
     logs_put d old new i (log_after (engine_sizes e).buckets (h.answers d).u s reply (logs_of old (suc i))) h.many within
     ((h.answers d).log ∙ ap (λ l. log_after (engine_sizes e).buckets (h.answers d).u s reply l) (sym (log_at d old i within))) (h.rest d)
 
-pub ready_asked : (e : Engine) (i : ℕ) (x : Option Rest) (left : ℕ → ℕ) (s : Statement) (reply : Reply) (old new : List Session) → HasAsked e i x s reply old new →
-    AreReady e i (one_more (suc i) left) old → AreReady e i left new
-ready_asked e i x left s reply old new h r = record {
-  many = h.many ∙ r.many;
-  within = (let e = h.many in let w = r.within in omega (arith, e, w));
+-- one that ran and kept what it had seen has heard its own log, whatever that is now
+pub logs_ran : (i : ℕ) (old new : List Session) (d : Session) → HasChangedAt i old new → i < length old → logs_of new ≡ put (logs_of old) (suc i) (log_of (get_or new i d))
+logs_ran i old new d others within = logs_put d old new i (log_of (get_or new i d)) others.many within refl (others.rest d)
+
+pub ready_ran : (e : Engine) (i : ℕ) (left : ℕ → ℕ) (old new : List Session) → HasChangedAt i old new → ((d : Session) → HasRunOne e (get_or old i d) (get_or new i d)) →
+    ((d : Session) → StartsWith (seen_by (get_or new i d)) (seen_by (get_or old i d))) → AreReady e i (one_more (suc i) left) old → AreReady e i left new
+ready_ran e i left old new others ran kept r = record {
+  many = others.many ∙ r.many;
+  within = (let e = others.many in let w = r.within in omega (arith, e, w));
   placed = λ d k within. by_two i i k (λ k. IsPlaced e k (get_or new k d)) (here d) (here d)
-      (λ p q. subst (IsPlaced e k) (sym (h.rest d k p)) (r.placed d k (let e = h.many in omega (arith, e, within))));
+      (λ p q. subst (IsPlaced e k) (sym (others.rest d k p)) (r.placed d k (let e = others.many in omega (arith, e, within))));
   left_is = λ d k within. by_two i i k (λ k. left (suc k) ≤ left_of (get_or new k d)) (less d) (less d)
-      (λ p q. subst (λ s. left (suc k) ≤ left_of s) (sym (h.rest d k p)) (let z = r.left_is d k (let e = h.many in omega (arith, e, within)) in
+      (λ p q. subst (λ s. left (suc k) ≤ left_of s) (sym (others.rest d k p)) (let z = r.left_is d k (let e = others.many in omega (arith, e, within)) in
       let m = more_than (suc i) (suc k) left in omega (arith, m, z)));
-  heard = λ d. subst (λ logs. HasHeard logs (view_of (get_or new i d))) (sym (logs_asked e i x s reply old new d r.within h)) (all d);
+  heard = λ d. subst (λ logs. HasHeard logs (view_of (get_or new i d))) (sym (logs_ran i old new d others r.within))
+      (heard_more (logs_of old) (view_of (get_or old i d)) (view_of (get_or new i d)) (suc i) (log_of (get_or new i d)) (r.heard d) (kept d)
+      (subst (λ j. IsHeard j (log_of (get_or new i d)) (seen_by (get_or new i d))) (here d).number_is (ran d).own.heard));
 }
   where
     here : (d : Session) → IsPlaced e i (get_or new i d)
-    here d = record { own = h.own d; number_is = (h.answers d).number_is ∙ (r.placed d i r.within).number_is }
+    here d = record { own = (ran d).own; number_is = (ran d).number_is ∙ (r.placed d i r.within).number_is }
 
     less : (d : Session) → left (suc i) ≤ left_of (get_or new i d)
-    less d = let a = r.left_is d i r.within in let b = h.left d in let m = more_here (suc i) left in omega (arith, a, b, m)
+    less d = let a = r.left_is d i r.within in let b = (ran d).left in let m = more_here (suc i) left in omega (arith, a, b, m)
 
-    all : (d : Session) → HasHeard (put (logs_of old) (suc i) (log_after (engine_sizes e).buckets (h.answers d).u s reply (logs_of old (suc i)))) (view_of (get_or new i d))
-    all d =
-        let v : View = view_of (get_or old i d) in
-        let w : View = view_of (get_or new i d) in
-        let l : List LogEntry = log_after (engine_sizes e).buckets (h.answers d).u s reply (logs_of old (suc i)) in
-        let is : (session w).log ≡ l = (h.answers d).log ∙ ap (λ l. log_after (engine_sizes e).buckets (h.answers d).u s reply l) (sym (log_at d old i r.within)) in
-        heard_more (logs_of old) v w (suc i) l (r.heard d) (h.answers d).kept
-        (subst (λ m. IsHeard (suc i) m w.sights) is (subst (λ j. IsHeard j (session w).log w.sights) (here d).number_is (h.own d).heard))
-
--- also where it was refused
-pub placed_asked : (e : Engine) (i : ℕ) (old new : List Session) → length new ≡ length old → ((d : Session) → number_of (get_or new i d) ≡ number_of (get_or old i d)) →
-    ((d : Session) (k : ℕ) → k ≢ i → get_or new k d ≡ get_or old k d) → ((d : Session) → IsOf e (get_or new i d)) → i < length old → ArePlaced e old → ArePlaced e new
-placed_asked e i old new many number rest own within r = record {
-  many = many ∙ r.many;
-  placed = λ d k inside. by_two i i k (λ k. IsPlaced e k (get_or new k d)) (here d) (here d)
-      (λ p q. subst (IsPlaced e k) (sym (rest d k p)) (r.placed d k (omega (arith, many, inside))));
-}
-  where
-    here : (d : Session) → IsPlaced e i (get_or new i d)
-    here d = record { own = own d; number_is = number d ∙ (r.placed d i within).number_is }
+pub ready_asked : (e : Engine) (i : ℕ) (x : Option Rest) (left : ℕ → ℕ) (s : Statement) (reply : Reply) (old new : List Session) → HasAsked e i x s reply old new →
+    AreReady e i (one_more (suc i) left) old → AreReady e i left new
+ready_asked e i x left s reply old new h r = ready_ran e i left old new (record { many = h.many; rest = h.rest })
+    (λ d. record { number_is = (h.answers d).number_is; left = h.left d; own = h.own d }) (λ d. (h.answers d).kept) r
 
 -- whom an answer names that has the record open
 pub other_asked : (e : Engine) (i : ℕ) (x : Option Rest) (s : Statement) (reply : Reply) (old new : List Session) (left : ℕ → ℕ) → HasAsked e i x s reply old new →

@@ -8,6 +8,11 @@ pub mod Collecting
 pub mod Working
 pub mod Driven
 pub mod Played
+pub mod Unsaid
+pub mod ForAll
+pub mod Live
+pub mod Untold
+pub mod Desk
 pub mod Closed
 pub mod Reader
 -- What the words ask for, what is printed, and when each status comes. A reader meets the definitions in this order.
@@ -17,3 +22,4 @@ pub mod Ended
 pub mod Dumping
 pub mod Judging
 pub mod Serving
+pub mod Conversing

@@ -13,7 +13,7 @@ use Rattle.hg_script.specs.declared.code.Code.{Code}
 use Rattle.hg_script.specs.Fields.{rows_of}
 use Rattle.hg_script.specs.Meaning.{refusal_of, script_of}
 use Rattle.hg_streams.specs.declared.status.Status.{Status}
-use Rattle.hg_streams.specs.declared.status.Status.TheVariants.{Done, Usage, BadScript, ReadFault, WriteFault, TooLong, NoMemory}
+use Rattle.hg_streams.specs.declared.status.Status.TheVariants.{Done, Usage, BadScript, ReadFault, WriteFault, TooLong, NoMemory, Spent}
 use Rattle.hg_seed.specs.Generator.{IsMade}
 use Rattle.hg_streams.specs.Parting.{AreParts}
 use Rattle.hg_streams.specs.Streams.{Change, FailsToRead, Gives, HasFailed, IsTooLong, ReadsAll}
@@ -107,7 +107,7 @@ pub record WritesPart (task : Task) (source sink : Change) : Type 0 where
   pub less : count < length text
   pub taken : Appends sink.before sink.after (take count text)
 
--- when each status comes; want of memory says nothing
+-- when each status comes; running out of memory says nothing, and `Spent` is of conversations alone
 abbrev pub Comes : List (List ℕ) → Change → Change → Status → Type 0
 Comes words source sink Done = AsksFor words (λ task. WritesAll task source sink)
 Comes words source sink Usage = options_of words ≡ None
@@ -116,6 +116,7 @@ Comes words source sink ReadFault = AsksFor words (λ task. IsReading task × Fa
 Comes words source sink WriteFault = AsksFor words (λ task. WritesPart task source sink)
 Comes words source sink TooLong = AsksFor words (λ task. IsReading task × IsTooLong source)
 Comes words source sink NoMemory = ⊤
+Comes words source sink Spent = ⊥
 
 -- whether a sink may have taken something
 abbrev pub may_write : Status → Bool

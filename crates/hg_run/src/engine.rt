@@ -1,20 +1,24 @@
 //! An engine for a script.
 
-ghost use Rattle.std.specs.Prelude.{◌≡◌, ◌+◌, ◌*◌, ◌≤◌, length, map, IfOk};
+ghost use Rattle.std.specs.Prelude.{◌≡◌, ◌+◌, ◌*◌, ◌^◌, ◌<◌, ◌≤◌, length, map, IfOk};
 ghost use Rattle.hg_script.specs.Lawful.{IsLawful};
 ghost use Rattle.hg_session.specs.Engines.{engine_sizes};
 ghost use Rattle.hg_words.specs.Options.{AreWithin};
+ghost use Rattle.hg_run.specs.ForAll.{IsOpenedForAll, IsOpenedOf};
 ghost use Rattle.hg_run.specs.Driven.{IsOpenedFor, IsOpenedWith, sessions_in};
 ghost use Rattle.hg_run.specs.Reader.{IsOpenedBeside};
 
 use crate::crew::Crew;
-use hg_base::NoMemory;
+use hg_base::{MOST_SESSIONS, MOST_TABLES, NoMemory};
 use hg_collectors::{Collectors, Room};
 use hg_rule::SessionPass;
 use hg_script::Script;
 use hg_session::{Engine, Passes, TableDecl};
 use hg_words::{Command, Options};
 use std::alloc::Global;
+
+/// How many statements a session may run where they are not known before: all sessions together have 2^40.
+pub(crate) const MOST_STATEMENTS: u64 = 1 << 34;
 
 // The tables that a script declares, each with its columns. An engine counts them, and reads no columns.
 fn declared(alloc: Global, script: &Script) -> Result<Vec<TableDecl>, NoMemory>
@@ -42,6 +46,41 @@ fn sweepers_of(options: &Options) -> u32
     }
 }
 
+// An engine of so many buckets for these tables, with a crew. A session may run as many statements as the quota says.
+fn open(
+    alloc: Global,
+    tables: &[TableDecl],
+    buckets: u32,
+    quota: u64,
+    room: Room,
+) -> Result<(Engine, Crew), NoMemory>
+    requires tables { (length tables.now ≤ 64) × (room.tables ≡ length tables.now) }
+    requires buckets { 0 < buckets }
+    requires room { room.sessions * quota ≤ 2 ^ 40 }
+    requires sweepers { room.sweepers ≤ 16 }
+    ensures { IfOk result (λ o.
+        IsOpenedOf
+        (record
+        { sessions = room.sessions; tables = room.tables; buckets = buckets; quota = quota }) o.0
+        o.1.sessions.items o.1.collectors) }
+{
+    let (engine, list, passes) = Engine::open(alloc, room.sessions, tables, buckets, quota)?;
+    let Passes {
+        group,
+        table,
+        interval,
+    } = passes;
+    let Ok(collectors) = Collectors::new(alloc, group, table, interval, room) else {
+        engine.free();
+        return Err(NoMemory);
+    };
+    let crew = Crew {
+        sessions: list.into_vec(),
+        collectors,
+    };
+    Ok((engine, crew))
+}
+
 // An engine for the tables of a script, with so many sessions more than the script has. A session may run as many statements as the
 // script has, and two more for each of the further sessions.
 fn open_with(
@@ -62,26 +101,26 @@ fn open_with(
     let sessions = script.sessions() + more;
     // A session has at most all records, and each begins one transaction and stores one write at most.
     let quota = (script.record_count() as u64 + 2 * more as u64).max(1);
-    let (engine, list, passes) = Engine::open(alloc, sessions, &tables, options.buckets, quota)?;
-    let Passes {
-        group,
-        table,
-        interval,
-    } = passes;
     let room = Room {
         sessions,
         tables: tables.len() as u32,
         sweepers: sweepers_of(options),
     };
-    let Ok(collectors) = Collectors::new(alloc, group, table, interval, room) else {
-        engine.free();
-        return Err(NoMemory);
+    open(alloc, &tables, options.buckets, quota, room)
+}
+
+/// An engine for all sessions and tables that there may be, with its crew: it is not known yet which will come.
+pub(crate) fn open_for_all(alloc: Global, buckets: u32) -> Result<(Engine, Crew), NoMemory>
+    requires { 0 < buckets }
+    ensures { IfOk result (λ o. IsOpenedForAll o.0 o.1.sessions.items o.1.collectors) }
+{
+    let room = Room {
+        sessions: MOST_SESSIONS,
+        tables: MOST_TABLES.into(),
+        sweepers: 1,
     };
-    let crew = Crew {
-        sessions: list.into_vec(),
-        collectors,
-    };
-    Ok((engine, crew))
+    let tables = vec![in alloc; TableDecl { columns: 1 }; MOST_TABLES as usize]?;
+    open(alloc, &tables, buckets, MOST_STATEMENTS, room)
 }
 
 /// An engine for the tables and the sessions of a script, with its crew. A session may run as many

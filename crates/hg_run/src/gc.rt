@@ -4,7 +4,7 @@
 //!     the round                     its record reaches to the end of each log
 //!     each session meets the pass   what was loaded of its register is what its log shows open, and it has seen the mark
 
-ghost use Rattle.std.specs.Prelude.{◌≡◌, ℕ, ◌+◌, ◌<◌, ◌≢◌, length, get_or, IfOk, OnOk};
+ghost use Rattle.std.specs.Prelude.{◌≡◌, ℕ, ◌+◌, ◌<◌, ◌≤◌, ◌≢◌, length, get_or, IfOk, OnErr, OnOk};
 ghost use Rattle.hg_base.specs.declared.report.Kind.{Kind};
 ghost use Rattle.hg_session.specs.declared.session.Session.{Session};
 ghost use Rattle.hg_session.specs.Engines.{engine_sizes, engine_board_id, engine_board};
@@ -15,6 +15,7 @@ ghost use Rattle.hg_collectors.specs.Rounding.{IsRoundBy};
 ghost use Rattle.hg_collectors.specs.Swept.{HasMetSessions, HasSwept, swept_by};
 ghost use Rattle.hg_run.specs.Meeting.{HasMetPass};
 ghost use Rattle.hg_run.specs.Collecting.{AreCollectors, TellsAll};
+ghost use Rattle.hg_run.specs.Unsaid.{HasOnlyMet};
 ghost use Rattle.hg_collectors.specs.Collecting.{removed_of, view_in};
 ghost use Rattle.hg_collectors.specs.Workers.{view_of, IsCollectorOf};
 ghost use Rattle.hg_rule.specs.Agreed.{AgreesWith};
@@ -144,6 +145,7 @@ fn round<R: Threads + Wait + Sync>(
     ensures removed { IfOk result (λ sweep.
         (k : Kind) →
         removed_of k collectors.new ≡ removed_of k collectors.old + swept_by k sweep) }
+    ensures kept { (k : Kind) → removed_of k collectors.old ≤ removed_of k collectors.new }
     ensures own { AreCollectors engine.now collectors.new }
 {
     collectors.collect(rt, &lent_by(engine), kind, long)
@@ -168,6 +170,11 @@ pub(crate) fn sweep<R: Threads + Wait + Sync>(
         AreReady engine.now i left crew.new.sessions.items) }
     ensures told { IfOk result (λ reply.
         TellsAll (engine_sizes engine.now) long crew.old.collectors reply crew.new.collectors) }
+    // also where memory runs out
+    ensures kept { (k : Kind) →
+        removed_of k crew.old.collectors ≤ removed_of k crew.new.collectors }
+    ensures stopped { OnErr result
+        (HasOnlyMet engine.now i crew.old.sessions.items crew.new.sessions.items) }
     ensures placed { ArePlaced engine.now crew.new.sessions.items }
     ensures collectors { AreCollectors engine.now crew.new.collectors }
 {

@@ -42,7 +42,10 @@
 
 mod audit;
 mod beside;
+mod conversation;
+mod count;
 mod crew;
+mod desk;
 mod dump;
 mod dump_text;
 mod end;
@@ -51,6 +54,7 @@ mod engine;
 mod free;
 mod gc;
 mod laws;
+mod live;
 mod load;
 mod reader;
 mod replay;
@@ -58,10 +62,14 @@ mod replay_text;
 mod reply;
 mod run;
 mod run_text;
+mod saying;
 mod steps;
+mod talk;
 mod turn;
+mod upkeep;
 mod work;
 
+pub use conversation::converse;
 pub use crew::Crew;
 pub use dump::dump_on;
 pub use end::{close, close_read};

@@ -1,7 +1,9 @@
 //! The run of a script on one thread: its records, one after the other.
 
-ghost use Rattle.std.specs.Prelude.{◌≡◌, ℕ, suc, ◌<◌, [], length, get_or, IfOk, OnOk};
+ghost use Rattle.std.specs.Prelude.{◌≡◌, ℕ, suc, ◌<◌, ◌≤◌, [], length, get_or, IfOk, OnErr, OnOk};
+ghost use Rattle.hg_base.specs.declared.report.Kind.{Kind};
 ghost use Rattle.hg_base.specs.Transcript.{of_session};
+ghost use Rattle.hg_collectors.specs.Collecting.{removed_of};
 ghost use Rattle.hg_session.specs.declared.session.Session.{Session};
 ghost use Rattle.hg_session.specs.Engines.{engine_sizes};
 ghost use Rattle.hg_session.specs.Finished.{logs_of};
@@ -10,6 +12,7 @@ ghost use Rattle.hg_run.specs.Asked.{IsOnTables, MayAsk, Replies, collector_aske
 ghost use Rattle.hg_run.specs.Collecting.{AreCollectors, TellsAll};
 ghost use Rattle.hg_run.specs.Driven.{IsEngineFor, AreBack, HasDrivenOne, MayDrive};
 ghost use Rattle.hg_run.specs.Played.{HasPlayed, HasPlayedOut};
+ghost use Rattle.hg_run.specs.Unsaid.{HasRunOutAt};
 
 use crate::crew::Crew;
 use crate::end::close_all;
@@ -44,7 +47,7 @@ pub(crate) fn asked(statement: &Statement) -> Option<Kind>
 }
 
 // The session at i answers a statement, or a collector does for it.
-fn reply_at<R: Threads + Wait + Sync>(
+pub(crate) fn reply_at<R: Threads + Wait + Sync>(
     rt: &R,
     engine: &Engine,
     crew: &mut Crew,
@@ -64,6 +67,10 @@ fn reply_at<R: Threads + Wait + Sync>(
         AreReady engine.now i left crew.new.sessions.items) }
     ensures told { IfOk result (λ reply.
         TellsAll (engine_sizes engine.now) long crew.old.collectors reply crew.new.collectors) }
+    ensures kept { (k : Kind) →
+        removed_of k crew.old.collectors ≤ removed_of k crew.new.collectors }
+    ensures stopped { OnErr result
+        (HasRunOutAt engine.now i crew.old.sessions.items crew.new.sessions.items) }
     ensures placed { ArePlaced engine.now crew.new.sessions.items }
     ensures collectors { AreCollectors engine.now crew.new.collectors }
 {

@@ -1,11 +1,12 @@
 //! The reply to a statement: one call of its session, whose answer becomes the reply.
 
-ghost use Rattle.std.specs.Prelude.{◌≡◌, ◌+◌, ◌<◌, ◌≤◌, None, IfOk, Some};
+ghost use Rattle.std.specs.Prelude.{◌≡◌, ◌+◌, ◌<◌, ◌≤◌, None, IfOk, OnErr, Some};
 ghost use Rattle.hg_session.specs.Engines.{engine_sizes};
 ghost use Rattle.hg_session.specs.Sessions.{IsOf, number_of, left_of};
 ghost use Rattle.hg_run.specs.Asked.{IsAnswered, IsOnTables, MayAsk, collector_asked};
 ghost use Rattle.hg_session.specs.Gains.{receipt_number};
 ghost use Rattle.hg_session.specs.Replies as session;
+ghost use Rattle.hg_run.specs.Unsaid.{HasRunOut};
 
 use hg_base::{Answer, NoMemory, Reply, Row, Statement, Writer};
 use hg_session::{Deleted, Ended, Engine, GetRefusal, PutRefusal, Read, Scanned, Session, Written};
@@ -25,6 +26,8 @@ pub(crate) fn ask<R: Wait>(
     requires other { collector_asked statement ≡ None }
     ensures answers { IfOk result (λ reply.
         IsAnswered (engine_sizes engine.now) session.old statement reply session.new) }
+    // out of memory: it looked, or a transaction of its own gave up
+    ensures stopped { OnErr result (HasRunOut session.old session.new) }
     ensures left { left_of session.old ≤ left_of session.new + 1 }
     ensures number { number_of session.new ≡ number_of session.old }
     ensures own { IsOf engine.now session.new }
@@ -99,7 +102,8 @@ fn gone_answer(there: bool) -> Answer
 }
 
 pub(crate) fn get_reply(alone: bool, read: Result<Read, GetRefusal>) -> Result<Reply, NoMemory>
-    ensures { IfOk result (λ reply. session.get_reply alone read ≡ Some reply) }
+    ensures reply { IfOk result (λ reply. session.get_reply alone read ≡ Some reply) }
+    ensures none { OnErr result (session.get_reply alone read ≡ None) }
 {
     match read {
         Ok(read) => Ok(Reply {
@@ -116,7 +120,8 @@ pub(crate) fn scan_reply(
     alone: bool,
     scanned: Result<Scanned, GetRefusal>,
 ) -> Result<Reply, NoMemory>
-    ensures { IfOk result (λ reply. session.scan_reply alone scanned ≡ Some reply) }
+    ensures reply { IfOk result (λ reply. session.scan_reply alone scanned ≡ Some reply) }
+    ensures none { OnErr result (session.scan_reply alone scanned ≡ None) }
 {
     match scanned {
         Ok(scanned) => Ok(Reply {
@@ -130,7 +135,8 @@ pub(crate) fn scan_reply(
 }
 
 fn refused_reply(alone: bool, refusal: PutRefusal) -> Result<Reply, NoMemory>
-    ensures { IfOk result (λ reply. session.refused_reply alone refusal ≡ Some reply) }
+    ensures reply { IfOk result (λ reply. session.refused_reply alone refusal ≡ Some reply) }
+    ensures none { OnErr result (session.refused_reply alone refusal ≡ None) }
 {
     match refusal {
         PutRefusal::Undeclared { table } => Ok(inside(Answer::Undeclared(table))),
@@ -159,7 +165,8 @@ pub(crate) fn put_reply(
     alone: bool,
     written: Result<Written, PutRefusal>,
 ) -> Result<Reply, NoMemory>
-    ensures { IfOk result (λ reply. session.put_reply alone written ≡ Some reply) }
+    ensures reply { IfOk result (λ reply. session.put_reply alone written ≡ Some reply) }
+    ensures none { OnErr result (session.put_reply alone written ≡ None) }
 {
     match written {
         Ok(written) => Ok(Reply {
@@ -175,7 +182,8 @@ pub(crate) fn del_reply(
     alone: bool,
     deleted: Result<Deleted, PutRefusal>,
 ) -> Result<Reply, NoMemory>
-    ensures { IfOk result (λ reply. session.del_reply alone deleted ≡ Some reply) }
+    ensures reply { IfOk result (λ reply. session.del_reply alone deleted ≡ Some reply) }
+    ensures none { OnErr result (session.del_reply alone deleted ≡ None) }
 {
     match deleted {
         Ok(deleted) => Ok(Reply {

@@ -5,7 +5,7 @@
 //! refused for another's, it meets that other session, whose log shows that the write is open. A meeting leaves cursors as they
 //! are.
 
-ghost use Rattle.std.specs.Prelude.{◌≡◌, ℕ, suc, ◌-◌, ◌<◌, ◌≢◌, length, get_or, None, IfOk, OnOk};
+ghost use Rattle.std.specs.Prelude.{◌≡◌, ℕ, suc, ◌-◌, ◌<◌, ◌≢◌, length, get_or, None, IfOk, OnErr, OnOk};
 ghost use Rattle.hg_base.specs.declared.writer.Writer.{Writer};
 ghost use Rattle.hg_core.specs.Phases.{IsSession};
 ghost use Rattle.hg_rule.specs.Moves.{joined};
@@ -18,6 +18,7 @@ ghost use Rattle.hg_run.specs.Caught.{HasCaughtUp, HasOwn, SeesAll};
 ghost use Rattle.hg_run.specs.Listed.{ArePlaced, AreReady, HasChangedAt, HasRunOne, KeepCursors, SawAt, none_left, one_more};
 ghost use Rattle.hg_run.specs.Meeting.{HaveMet};
 ghost use Rattle.hg_run.specs.Asked.{IsAnswered, IsOnTables, MayAsk, Replies, collector_asked};
+ghost use Rattle.hg_run.specs.Unsaid.{HasRunOut, HasRunOutAt};
 
 use crate::reply::ask;
 use hg_base::{Answer, NoMemory, Reply, Statement};
@@ -99,6 +100,8 @@ fn ask_at<R: Wait>(
         IfOk result (λ reply.
         IsAnswered (engine_sizes engine.now) (get_or list.old.items i d) statement reply
         (get_or list.new.items i d)) }
+    ensures stopped { (d : Session) →
+        OnErr result (HasRunOut (get_or list.old.items i d) (get_or list.new.items i d)) }
     ensures ran { (d : Session) →
         HasRunOne engine.now (get_or list.old.items i d) (get_or list.new.items i d) }
 {
@@ -143,6 +146,7 @@ pub(crate) fn answer<R: Wait>(
     ensures ready { OnOk result ((left : ℕ → ℕ) →
         AreReady engine.now i (one_more (suc i) left) list.old.items →
         AreReady engine.now i left list.new.items) }
+    ensures stopped { OnErr result (HasRunOutAt engine.now i list.old.items list.new.items) }
     ensures placed { ArePlaced engine.now list.new.items }
 {
     let reply = ask_at(rt, engine, list, i, statement)?;

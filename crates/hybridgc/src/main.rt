@@ -1,9 +1,10 @@
-//! The program: one call, with standard input as its source and standard output as its sink.
+//! The program: one call, with standard input and output as its source and its sink, or as its client.
 //!
 //!     hybridgc replay < script.csv
 //!     hybridgc run --rounds 4 < script.csv
 //!     hybridgc load 7
 //!     hybridgc audit < script-and-text
+//!     hybridgc live
 //!
 //! If a call does not end with `Done`, its status is one line on standard error. The exit status says how the call ended.
 #![tactic(auto)]
@@ -12,8 +13,10 @@ ghost use Rattle.std.specs.Prelude.{◌≡◌};
 ghost use Rattle.std.specs.Process.{exit_status};
 ghost use Rattle.hg_streams.specs.Status.{exit_code_of};
 
-use hg_run::{NoGate, Status, StdinSource, StdoutSink, serve};
+use hg_run::{NoGate, Status, StdinSource, StdoutSink, converse, serve};
 use hg_streams::words_of;
+use hg_talk::StandardClient;
+use hg_words::asks_to_talk;
 use std::process::ExitCode;
 
 // Says how the call ended, unless all was done, and gives the exit status of that.
@@ -28,11 +31,17 @@ fn exit_with(rt: &HostRuntime, status: Status) -> ExitCode
 }
 
 fn main(rt: HostRuntime) -> ExitCode {
-    let mut source = StdinSource::new(rt.stdin());
-    let mut sink = StdoutSink::new(rt.stdout());
-    let status = match words_of(&rt) {
-        Ok(words) => serve(&rt, rt.alloc(), &words, &mut source, &mut sink, &NoGate),
-        Err(status) => status,
+    let words = match words_of(&rt) {
+        Ok(words) => words,
+        Err(status) => return exit_with(&rt, status),
+    };
+    let status = if asks_to_talk(&words) {
+        let mut client = StandardClient::new(rt.stdin(), rt.stdout());
+        converse(&rt, rt.alloc(), &words, &mut client)
+    } else {
+        let mut source = StdinSource::new(rt.stdin());
+        let mut sink = StdoutSink::new(rt.stdout());
+        serve(&rt, rt.alloc(), &words, &mut source, &mut sink, &NoGate)
     };
     exit_with(&rt, status)
 }

@@ -11,6 +11,7 @@ use Rattle.hg_collectors.specs.Swept.{told_of, swept_by}
 use Rattle.hg_collectors.proofs.Driving.{made_one}
 use Rattle.hg_run.proofs.Going.{are_placed}
 use Rattle.hg_run.proofs.MeetingAll.{HasOneMet, HaveAllMet, ready_one}
+use Rattle.hg_run.proofs.RunningOut.{at_err, only_met}
 use Rattle.hg_run.proofs.Sweeping.{swept_reply, swept_ready}
 use Rattle.hg_run.proofs.gc.sweep.Goals as goal
 
@@ -84,3 +85,27 @@ returns-in_err-swept-clause-placed g c =
 
 pub returns-clause-placed : goal.returns-clause-placed
 returns-clause-placed g c = are_placed c.args.engine.now c.args.i none_left c.meet_all.new.list.items (returns-clause-ready g c none_left c.requires.ready)
+
+pub returns-in_err-swept-clause-stopped : goal.returns-in_err-swept-clause-stopped
+returns-in_err-swept-clause-stopped g c =
+    let m = c.meet_at.ensures in
+    let e = c.args.engine.now in
+    let v = view_in c.args.kind c.args.crew.now.collectors in
+    let v1 = view_in c.args.kind c.meet_at.new.collectors in
+    let old = c.args.crew.now.sessions.items in
+    let mid = c.meet_at.new.list.items in
+    let one : HasOneMet e v v1 c.args.i old mid = record { many = m.others.many; met = m.met; rest = m.others.rest; own = m.own; pass = m.pass c.args.kind; heard = m.heard } in
+    at_err _ _ (only_met e v v1 c.args.i old mid c.requires.ready.within one)
+
+pub returns-clause-kept : goal.returns-clause-kept
+returns-clause-kept g c k =
+    let first = c.meet_at.ensures.removed k in
+    let now = c.round.ensures.kept k in
+    let last = c.meet_all.ensures.removed k in
+    omega (arith, first, now, last)
+
+pub returns-in_err-swept-clause-kept : goal.returns-in_err-swept-clause-kept
+returns-in_err-swept-clause-kept g c k =
+    let first = c.meet_at.ensures.removed k in
+    let now = c.round.ensures.kept k in
+    omega (arith, first, now)

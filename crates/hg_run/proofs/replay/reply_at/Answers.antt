@@ -8,6 +8,7 @@ use Rattle.hg_run.proofs.Asking.{gc_is, none_told, none_reported, ready_fewer, o
 use Rattle.hg_collectors.proofs.Among.{if_ok}
 use Rattle.hg_run.proofs.Cursors.{any_cursors, reads_in, rests_in}
 use Rattle.hg_collectors.proofs.Driving.{made_none}
+use Rattle.hg_run.proofs.RunningOut.{met_out, on_err}
 use Rattle.hg_run.proofs.replay.reply_at.Goals as goal
 
 pub returns-in-Some-clause-replied : goal.returns-in-Some-clause-replied
@@ -39,3 +40,7 @@ returns-in-None-clause-told g c =
       rounds = made_none z c.args.long same reply (none_reported e 0 (reads_in old) (rests_in old) old c.args.i c.args.statement reply new other replied);
     })
     c.answer.ensures.replied
+
+pub returns-in-Some-clause-stopped : goal.returns-in-Some-clause-stopped
+returns-in-Some-clause-stopped g c =
+    on_err _ _ c.sweep.result (λ h. met_out c.args.engine.now c.args.i c.args.crew.now.sessions.items c.sweep.new.crew.sessions.items h) c.sweep.ensures.stopped

@@ -11,7 +11,8 @@ use Rattle.hg_run.specs.Listed.{none_left, one_more}
 use Rattle.hg_run.proofs.Caught.{caught_asked, caught_kept, replied_first}
 use Rattle.hg_run.proofs.Cursors.{any_rest_at, cursors_kept, cursors_moved}
 use Rattle.hg_run.proofs.Going.{are_placed}
-use Rattle.hg_run.proofs.Turns.{has_asked, more_here, some_of, ready_asked, placed_asked, other_asked, replied, saw_asked}
+use Rattle.hg_run.proofs.RunningOut.{at_err, run_out_at}
+use Rattle.hg_run.proofs.Turns.{has_asked, more_here, some_of, ready_asked, other_asked, replied, saw_asked}
 use Rattle.hg_run.proofs.turn.answer.Goals as goal
 
 pub ask_at-requires-clause-within : goal.ask_at-requires-clause-within
@@ -75,12 +76,16 @@ returns-clause-ready g c left r =
     (has_asked c.args.engine.now c.args.i any.0 c.args.statement c.in_ok-reply.reply c.args.list.now.items c.ask_at.new.list.items m.others.many m.answers
     (λ d. (m.ran d).left) m.others.rest (λ d. (m.ran d).own) any.1) r)
 
+pub returns-in_err-reply-clause-stopped : goal.returns-in_err-reply-clause-stopped
+returns-in_err-reply-clause-stopped g c =
+    let m = c.ask_at.ensures in
+    at_err _ _ (run_out_at c.args.engine.now c.args.i c.args.list.now.items c.ask_at.new.list.items m.others m.ran c.in_err-reply.ensures.stopped c.requires.ready.within)
+
 pub returns-in_err-reply-clause-placed : goal.returns-in_err-reply-clause-placed
 returns-in_err-reply-clause-placed g c =
     let m = c.ask_at.ensures in
-    let r = c.requires.ready in
-    placed_asked c.args.engine.now c.args.i c.args.list.now.items c.ask_at.new.list.items m.others.many (λ d. (m.ran d).number_is) m.others.rest (λ d. (m.ran d).own) r.within
-    (are_placed c.args.engine.now c.args.i (one_more (suc c.args.i) none_left) c.args.list.now.items r)
+    let out = run_out_at c.args.engine.now c.args.i c.args.list.now.items c.ask_at.new.list.items m.others m.ran c.in_err-reply.ensures.stopped c.requires.ready.within in
+    are_placed c.args.engine.now c.args.i none_left c.ask_at.new.list.items (out.ready none_left c.requires.ready)
 
 pub returns-clause-placed : goal.returns-clause-placed
 returns-clause-placed g c = are_placed c.args.engine.now c.args.i none_left c.show.new.list.items (returns-clause-ready g c none_left c.requires.ready)
