@@ -1,8 +1,8 @@
-"""Scripts by chance, for bench/random: valid ones, ones with a bad record of a given code, and damaged ones."""
+"""Scripts by chance, for bench/random and bench/talk_random: valid ones, ones with bad records, and damaged ones."""
 
 import sys
 
-from model import COLLECTORS, FIELDS, NEEDS_QUOTES, Script, quoted
+from model import COLLECTORS, FIELDS, MARK, NEEDS_QUOTES, Script, quoted
 from model import GREATEST_KEY, GREATEST_VALUE, LEAST_VALUE, MOST_FETCHED, MOST_SESSIONS, MOST_TABLES
 
 CODES = ("Count", "Word", "Fields", "Number", "Range", "Name", "Columns", "Value", "Order")
@@ -82,7 +82,7 @@ class Maker:
             return quoted(field) if chance.random() < often or NEEDS_QUOTES.search(field) else field
 
         text = b"".join(b",".join(map(shown, record)) + end * (2 if chance.random() < 0.02 else 1) for record in self.records)
-        mark = b"\xef\xbb\xbf" if chance.random() < 0.03 else b""
+        mark = MARK if chance.random() < 0.03 else b""
         return mark + (text.removesuffix(end) if chance.random() < 0.1 else text)
 
     # Fields
@@ -240,6 +240,26 @@ def make_bad_script(chance, code):
         sys.exit(f"bench/random: record {record} was made to break {code}, and breaks {found} by bench/model.py")
     # Nothing after it is read.
     maker.records += Maker(chance, 1, 1).records
+    return maker.bytes()
+
+
+def make_long_script(chance):
+    """Returns a valid script of a few sessions, which write often and seldom ask for a round."""
+    maker = Maker(chance, chance.choice((1, 2)), chance.randint(1, 3))
+    maker.sessions = range(1, chance.choice((3, 5)))
+    maker.add_statements(8000)
+    maker.records = [record for record in maker.records if record[1] != b"gc" or chance.random() < 0.1]
+    return maker.bytes()
+
+
+def make_conversation(chance):
+    """Returns records of which some break a rule, and some ask for the totals."""
+    maker = Maker(chance, chance.choice((1, 2)), MOST_TABLES if chance.random() < 0.1 else chance.randint(1, 5))
+    codes = [code for code in CODES[1:] if code != "Value" or maker.script.version == 2]
+    for _ in range(chance.randrange(25)):
+        maker.add_statements(chance.randrange(6))
+        front, _ = maker.bad_front(chance.choice(("Count", "Fields", "Range", "Name")))
+        maker.add(chance.choice(([b"totals"], front, maker.bad(chance.choice(codes)), maker.bad(chance.choice(codes)))))
     return maker.bytes()
 
 

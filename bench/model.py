@@ -1,11 +1,15 @@
-"""A second reading of docs/FORMATS.md: which scripts are refused, and what a replay prints.
+"""A second reading of docs/FORMATS.md: which scripts are refused, what a replay prints, and what a conversation answers.
 
-It is written from that page alone, to be compared with the program by bench/random, and it is slow: each record's versions are a list,
-and a round of a collector looks at all of them.
+It is written from that page alone, to be compared with the program by bench/random and bench/talk_random, and it is slow: each record's
+versions are a list, and a round of a collector looks at all of them.
 """
 
+import collections
+import math
 import re
 
+MARK = b"\xef\xbb\xbf"
+MOST_BYTES = 1048576  # of a record of a conversation
 MOST_RECORDS = 1048576
 MOST_TABLES = 64
 MOST_SESSIONS = 64
@@ -41,15 +45,19 @@ NEEDS_QUOTES = re.compile(rb'[,"\r\n]')
 # CSV
 
 
-def read_csv(text):
-    """Returns the records of a CSV text, each a list of fields, and whether a quote is open at the end."""
-    records, fields, field = [], [], bytearray()
-    at = "record"
-    for byte in text.removeprefix(b"\xef\xbb\xbf"):
+CsvRecord = collections.namedtuple("CsvRecord", "fields size end is_open")
+
+
+def split_csv(text):
+    """Yields each record of a CSV text: its fields, how many bytes it has, without the one that ends it, how many bytes of the text end it,
+    or None if only the text's end does, and whether a quote is open then."""
+    fields, field = [], bytearray()
+    at, first = "record", 0
+    for place, byte in enumerate(text.removeprefix(MARK), len(MARK) if text.startswith(MARK) else 0):
         if at == "record":
             if byte in b"\r\n":
                 continue
-            at = "field"
+            at, first = "field", place
         if at == "field":
             at = "quoted" if byte == ord('"') else "plain"
             if at == "quoted":
@@ -67,7 +75,7 @@ def read_csv(text):
             field.clear()
             at = "field"
         elif byte in b"\r\n":
-            records.append([*fields, bytes(field)])
+            yield CsvRecord([*fields, bytes(field)], place - first, place + 1, False)
             fields.clear()
             field.clear()
             at = "record"
@@ -75,8 +83,13 @@ def read_csv(text):
             field.append(byte)
             at = "plain"
     if at != "record":
-        records.append([*fields, bytes(field)])
-    return records, at == "quoted"
+        yield CsvRecord([*fields, bytes(field)], len(text) - first, None, at == "quoted")
+
+
+def read_csv(text):
+    """Returns the records of a CSV text, each a list of fields, and whether a quote is open at the end."""
+    records = list(split_csv(text))
+    return [record.fields for record in records], bool(records) and records[-1].is_open
 
 
 def quoted(field):
@@ -94,7 +107,8 @@ def write_csv(fields):
 class Script:
     """Takes the records of a script one by one, and says which rule the first bad one breaks."""
 
-    def __init__(self):
+    def __init__(self, most_records=MOST_RECORDS):
+        self.most_records = most_records
         self.place = 0
         self.version = 1
         self.tables = {}  # the kinds of each table's columns; `n` for each in version 1
@@ -104,7 +118,7 @@ class Script:
     def take(self, record):
         """Returns the first code that applies to the next record, or None if it breaks no rule."""
         self.place += 1
-        if self.place > MOST_RECORDS:
+        if self.place > self.most_records:
             return "Count"
         if self.place == 1 and record[0] == b"version":
             return self.take_version(record)
@@ -258,13 +272,19 @@ class Replay:
 
     def text(self):
         """Ends the replay, and returns its text."""
+        return b"".join(map(write_csv, [*self.lines, *self.end()]))
+
+    def end(self):
+        """Rolls back what is open, settles the tables, and returns the totals."""
         for session in sorted(self.open):
             self.undo(self.open.pop(session))
         self.totals["table"] += self.cut_tables()
+        return self.counts()
+
+    def counts(self):
+        """Returns the totals as they are now."""
         left = sum(map(len, self.versions.values()))
-        for name, count in [*self.totals.items(), ("left", left)]:
-            self.lines.append([b"total", name.encode(), b"%d" % count])
-        return b"".join(map(write_csv, self.lines))
+        return [[b"total", name.encode(), b"%d" % count] for name, count in [*self.totals.items(), ("left", left)]]
 
     def say(self, session, place, *fields):
         self.lines.append([b"%d" % field if isinstance(field, int) else field for field in (session, place, *fields)])
@@ -423,3 +443,47 @@ class Replay:
             for newer, version in zip([None, *versions], versions)
             if newer is None or newer.number is None or any(version.number <= at < newer.number for at in snapshots)
         ]
+
+
+# A conversation
+
+
+class Conversation:
+    """What is answered to the records of a text, where no round is made that nobody asked for."""
+
+    def __init__(self, text, long=LONG):
+        self.script = Script(math.inf)  # of the records that broke no rule
+        self.replay = Replay(self.script, long)
+        self.stored = 0  # how many statements stored a write
+        self.records = list(split_csv(text))
+        self.answers = [self.answer(record.fields, record.size) for record in self.records]
+        self.totals = self.replay.end()
+
+    def answer(self, fields, size):
+        """Returns the records of the answer to the next record, which has so many bytes."""
+        known = len(self.script.statements)
+        code = self.judge(fields, size)
+        place = b"%d" % self.script.place
+        if code:
+            return [[b"bad", place, code.encode()]]
+        if fields == [b"totals"]:
+            return self.replay.counts()
+        if len(self.script.statements) == known:
+            return [[b"declared", place]]
+        return self.reply(*self.script.statements[-1])
+
+    def judge(self, fields, size):
+        """Counts a record, and returns the code of the first rule that it breaks, or None."""
+        if size <= MOST_BYTES and fields != [b"totals"]:
+            return self.script.take(fields)
+        self.script.place += 1
+        return "Long" if size > MOST_BYTES else None
+
+    def reply(self, place, statement):
+        """Returns the records of the reply to a statement."""
+        session, word, *rest = statement
+        said = len(self.replay.lines)
+        self.replay.answer(int(session), place, word, rest)
+        lines = self.replay.lines[said:]
+        self.stored += lines[0][4 if lines[0][2] == b"at" else 2] in (b"stored", b"gone")
+        return [[b"holds", b"%d" % (len(lines) - 1)], *lines] if word == b"gc" else lines

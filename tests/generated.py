@@ -2,6 +2,7 @@
 
 import collections
 
+import clients
 from program import NO_TOTALS, Wrong, audit, expect, expect_end, records_of, replies_of, run_to_full_disk, shown, sound_text
 from program import text_of, totals_of
 from rows import is_put_back, last_dump, quoted, rows_left
@@ -30,9 +31,9 @@ def records_are_limited():
     expect_end("replay", script + b"1,begin\n", 3, b"script record 1048577: Count\n")
 
 
-def a_text_cannot_be_written():
+def a_text_cannot_be_written(words):
     """Standard output takes no byte."""
-    status, said = run_to_full_disk("replay", b"")
+    status, said = run_to_full_disk(words, b"")
     expect("the exit status and standard error", "5 write fault/", f"{status} {shown(said)}")
 
 
@@ -189,7 +190,7 @@ def scripts_by_chance():
 TESTS = (
     (length_is_limited,),
     (records_are_limited,),
-    (a_text_cannot_be_written,),
+    (a_text_cannot_be_written, "replay", "live"),
     (twenty_accounts_are_left,),
     (long_readers_stay, "run --rounds 50", "run --rounds 50 --sweepers 4"),
     (a_round_leaves_two_versions_a_key,),
@@ -206,7 +207,7 @@ TESTS = (
 
 def tests():
     """Yields each test: its name, its function, and what that is given."""
-    for test, *cases in TESTS:
+    for test, *cases in (*TESTS, *clients.TESTS):
         for case in cases or [None]:
             given = () if case is None else (case,)
             yield " ".join([test.__name__, *map(str, given)]), test, given

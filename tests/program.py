@@ -9,6 +9,7 @@ HERE = os.path.dirname(os.path.realpath(__file__))
 PROGRAM = os.environ.get("HYBRIDGC", os.path.join(HERE, "..", "crates", "hybridgc", "out", "hybridgc"))
 
 sys.path.append(os.path.join(HERE, "..", "bench"))
+from client import Client, Withheld
 from model import read_csv
 
 # No call takes longer.
@@ -18,7 +19,17 @@ SHOWN = 2000
 # In place of a script: standard input is then a folder, and a read of it fails.
 FOLDER = None
 USAGE = b"usage: hybridgc replay or run or load SEED or audit or dump, with --buckets N, --long N, --rounds N, --sweepers N\n"
-NO_TOTALS = b"".join(b"total,%s,0\n" % name for name in (b"made", b"undone", b"group", b"table", b"interval", b"left"))
+TOTALS = ("made", "undone", "group", "table", "interval", "left")
+NO_TOTALS = "".join(f"total,{name},0\n" for name in TOTALS).encode()
+# What rows write in short, as {tables 64}.
+SHORT = {
+    "tables": lambda count: "".join(f"table,t{i},1/" for i in range(1, count + 1)),
+    "names": lambda count: "".join(f",t{i}" for i in range(1, count + 1)),
+    "declared": lambda count: "".join(f"declared,{i}/" for i in range(1, count + 1)),
+    "totals": lambda *counts: "".join(f"total,{name},{count}/" for name, count in zip(TOTALS, counts, strict=True)),
+    "letters": lambda count: "x" * count,
+    "lines": lambda count: "/" * count,
+}
 
 
 class Wrong(Exception):
@@ -27,8 +38,7 @@ class Wrong(Exception):
 
 def bytes_of(row):
     """Returns the bytes that a script or text of a row stands for."""
-    row = re.sub(r"\{tables (\d+)\}", lambda it: "".join(f"table,t{i},1/" for i in range(1, int(it[1]) + 1)), row)
-    row = re.sub(r"\{names (\d+)\}", lambda it: "".join(f",t{i}" for i in range(1, int(it[1]) + 1)), row)
+    row = re.sub(r"\{(\w+) ([\d ]+)\}", lambda it: SHORT[it[1]](*map(int, it[2].split())), row)
     row = "" if row in ("(empty)", "(nothing)") else row.replace("/", "\n")
     return re.sub(rb"\\(r|n|x[0-9A-Fa-f]{2})", lambda it: escape(it[1]), row.encode())
 
