@@ -1,9 +1,7 @@
-"""What the commands of this folder share: the program, its measured calls, and pictures."""
+"""What the commands of this folder share: the program, and its measured calls."""
 
 import os
 import platform
-import re
-import shutil
 import subprocess
 import sys
 import time
@@ -13,16 +11,11 @@ DOCS = os.path.join(HERE, "..", "docs")
 PROGRAM = os.environ.get("HYBRIDGC", os.path.join(HERE, "..", "crates", "hybridgc", "out", "hybridgc"))
 COMMAND = os.path.join("bench", os.path.basename(sys.argv[0]))
 
-# One colour for each curve of a picture.
-COLOURS = ("#7f7f7f", "#d95f02", "#1b6fb5", "#1a9850", "#7b3294")
 
-
-def need(gnuplot=False):
-    """Ends with a message if the program or gnuplot is missing."""
+def need():
+    """Ends with a message if the program is missing."""
     if not os.access(PROGRAM, os.X_OK):
         sys.exit(f"{COMMAND}: there is no program {PROGRAM}; ./hybridgc or rt ci builds it, and HYBRIDGC=PATH names another one")
-    if gnuplot and not shutil.which("gnuplot"):
-        sys.exit(f"{COMMAND}: gnuplot is missing; on Debian and Ubuntu it comes with `apt-get install gnuplot-nox`")
 
 
 def usage():
@@ -65,21 +58,3 @@ def measure(words, source):
     if child.returncode != 0:
         sys.exit(f"{COMMAND}: {' '.join(words)} ended with {child.returncode}")
     return used.ru_utime + used.ru_stime, wall, used.ru_maxrss / 1024
-
-
-def block(name, rows):
-    """Returns rows of numbers as a data block of gnuplot."""
-    return "\n".join([f"${name} << END", *(" ".join(f"{number:.6g}" for number in row) for row in rows), "END", ""])
-
-
-def draw(target, width, height, commands):
-    """Has gnuplot draw a picture."""
-    head = f"set terminal svg size {width},{height} font 'sans-serif,13' background 'white'\nset encoding utf8\n"
-    done = subprocess.run(["gnuplot", "-"], input=head + commands, capture_output=True, text=True)
-    if done.returncode != 0:
-        sys.exit(f"{COMMAND}: {done.stderr}")
-    # A third of what gnuplot writes is groups of nothing, and spaces.
-    text = re.sub(r"<g [^>]*>\s*</g>", "", done.stdout)
-    with open(target, "w") as file:
-        file.write(re.sub(r"\s*\n\s*", "\n", re.sub(r"[ \t]+", " ", text)))
-    print(f"{COMMAND}: {os.path.relpath(target)}, {os.path.getsize(target)} bytes")
