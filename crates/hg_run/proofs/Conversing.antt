@@ -25,6 +25,7 @@ use Rattle.hg_run.specs.declared.desk.Desk.{Desk}
 use Rattle.hg_run.specs.declared.talk.Talk.{Talk}
 use Rattle.hg_run.specs.Conversing.{AreWritten, EndsWith, FailsBy, IsConversation, IsTold, WritesLast, status_of_trouble, totals_bytes}
 use Rattle.hg_run.specs.Desk.{AreHeard, HasEnded, IsGoing, IsReady, IsSaid, IsSpent, IsThrough}
+use Rattle.hg_run.specs.Serving.{IsUnlessNoMemory}
 use Rattle.hg_run.proofs.Desking.{ended_unsaid, going_ended}
 use Rattle.hg_run.proofs.Stopping.{live_stopped}
 
@@ -204,3 +205,8 @@ module _ (words : List (List ℕ)) (log : List Event) (before now : ℕ) (heard 
         subst (λ h. IsSpent (asked_in h)) same left.ended.cause,
         stopped_written (trouble.Stopped stop.Spent) refl s,
       )
+
+-- words that are refused are a usage error, unless memory runs out
+pub usage_unless_no_memory : (why : WordsRefusal) (status : Status) → status ≡ status_of_words why → IsUnlessNoMemory status Usage
+usage_unless_no_memory refusal.Usage status is = inl is
+usage_unless_no_memory refusal.NoMemory status is = inr is

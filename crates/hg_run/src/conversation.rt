@@ -5,9 +5,11 @@
 //! `IsConversation` says what a conversation is, whatever the client sends in whatever pieces: the first records of what it sent were answered
 //! by what is conversed (`conversed` of hg_exact), nothing was withheld (`IsNotWithheld` of hg_talk), and it ended with a cause (`EndsWith`).
 
-ghost use Rattle.std.specs.Prelude.{◌≡◌, ℕ, List, [], map, string_bytes};
+ghost use Rattle.std.specs.Prelude.{◌≡◌, ℕ, List, [], None, map, string_bytes};
+ghost use Rattle.hg_words.specs.Live.{live_options_of};
 ghost use Rattle.hg_words.specs.Options.{AreWithin};
 ghost use Rattle.hg_run.specs.Conversing.{IsConversation, WritesLast, status_of_trouble};
+ghost use Rattle.hg_run.specs.Serving.{IsUnlessNoMemory};
 
 use crate::talk::Talk;
 use hg_base::{Failed, NoMemory, Totals};
@@ -84,8 +86,10 @@ pub fn converse<R: Threads + Wait + Sync, C: Client>(
     client: &mut C,
 ) -> Status
     requires { C.log client.old ≡ [] }
-    ensures { IsConversation (map string_bytes words.now) (C.log client.new)
+    ensures conversation { IsConversation (map string_bytes words.now) (C.log client.new)
         (C.faults client.old) (C.faults client.new) result }
+    ensures refused { live_options_of (map string_bytes words.now) ≡ None →
+        IsUnlessNoMemory result Status.Usage }
 {
     match read_live_words(alloc, words) {
         Ok(options) => talk(rt, alloc, &options, client),
