@@ -208,9 +208,6 @@ sent_none = ap (λ x. (fold framed_after unframed x).ended) stripped_none
 same_last : (k : Kept) (bytes : List ℕ) → Keeps k bytes → ends_at_end (framed bytes).begun.state ≡ ends_at_end k.begun.state
 same_last k bytes h = ap ends_at_end (sym (state_short (framed bytes).begun) ∙ sym (ap (λ (b : Begun). b.state) h.begun))
 
-pub last_alone : (k : Kept) (bytes : List ℕ) → Keeps k bytes → ends_at_end k.begun.state ≡ false → all_in bytes ≡ complete_in bytes
-last_alone k bytes h none = let whole : ends_at_end (framed bytes).begun.state ≡ false = same_last k bytes h ∙ none in rw whole refl
-
 pub last_ended : (k : Kept) (bytes : List ℕ) → Keeps k bytes → ends_at_end k.begun.state ≡ true →
     all_in bytes ≡ complete_in bytes ++ sent_of k.begun.size (k.begun.fields ++ k.begun.field ∷ []) ∷ []
 last_ended k bytes h ends =

@@ -12,7 +12,7 @@ use Rattle.hg_talk.specs.Talking.{Exchange, HasFault, IsOver, IsPrompt, IsStoppe
 use Rattle.hg_talk.specs.declared.trouble.Stop.{Stop}
 use Rattle.hg_talk.specs.declared.trouble.Trouble.{Trouble}
 use Rattle.hg_talk.specs.declared.trouble.Trouble.TheVariants as trouble
-use Rattle.hg_talk.proofs.Framing.{goes_end, goes_on, keeps_none, last_alone, last_ended, sent_none}
+use Rattle.hg_talk.proofs.Framing.{goes_end, goes_on, keeps_none, last_ended, sent_none}
 
 -- ---- answers
 
@@ -64,20 +64,6 @@ prompt_now log heard taken t = record {
   asked = t.asked ∙ ap complete_in (sym (all_taken log heard taken [] t));
   answered = sym (append-nil (written_of log)) ∙ t.written;
 }
-
--- a piece is read
-pub going_read : (log after : List Event) (heard : List Exchange) (kept : Kept) (bytes : List ℕ) → IsGoing log heard kept [] [] → after ≡ Read bytes ∷ log →
-    IsGoing after heard kept bytes []
-going_read log after heard kept bytes g is = subst (λ l. IsGoing l heard kept bytes []) (sym is) (record {
-  taken = g.taken;
-  keeps = g.keeps;
-  talking = record {
-    read = ap (λ z. z ++ bytes) (all_taken log heard g.taken [] g.talking);
-    asked = g.talking.asked;
-    written = g.talking.written;
-    prompt = (prompt_now log heard g.taken g.talking, g.talking.prompt);
-  };
-})
 
 -- a read failed
 pub stopped_read : (log after : List Event) (heard : List Exchange) (kept : Kept) (why : Trouble) → IsGoing log heard kept [] [] → after ≡ ReadFailed ∷ log → IsStopped after heard why
@@ -144,14 +130,6 @@ going_wrote log after heard kept text rest g w =
     record { taken = g.taken; keeps = g.keeps; talking = talking_wrote log after heard g.taken text text [] rest g.talking (sym (append-nil text)) w }
 
 -- ---- the end
-
--- the end of the input ends no record
-pub over_alone : (log : List Event) (heard : List Exchange) (kept : Kept) (text : List ℕ) → ends_at_end kept.begun.state ≡ false → IsGoing log heard kept [] text → IsOver log heard text
-over_alone log heard kept text none g = record {
-  asked = g.talking.asked ∙ sym (ap all_in (all_taken log heard g.taken text g.talking) ∙ last_alone kept g.taken g.keeps none);
-  written = g.talking.written;
-  prompt = g.talking.prompt;
-}
 
 -- it ends one, and that is answered
 pub over_answered : (log : List Event) (heard : List Exchange) (kept : Kept) (text answer : List ℕ) → ends_at_end kept.begun.state ≡ true → IsGoing log heard kept [] text →
@@ -228,13 +206,6 @@ fault_before log before mid now trouble.Read less h = (h.0, rose_before before m
 fault_before log before mid now trouble.Write less h = (h.0, rose_before before mid now less h.1)
 fault_before log before mid now trouble.NoMemory less h = tt
 fault_before log before mid now (trouble.Stopped why) less h = tt
-
--- what no client has a part in
-pub fault_own : (log : List Event) (before now : ℕ) (why : Trouble) → is_own why ≡ true → HasFault log before now why
-fault_own log before now trouble.Read own = absurd (let no : ⊥ = cc own in no)
-fault_own log before now trouble.Write own = absurd (let no : ⊥ = cc own in no)
-fault_own log before now trouble.NoMemory own = tt
-fault_own log before now (trouble.Stopped why) own = tt
 
 -- the host is left as it was, where the last answers are written and where that fails
 pub left_writing : (ready : Type 0) (stopped : Stop → Type 0) (why now : Trouble) → is_own why ≡ true → (now ≡ why) ⊎ (now ≡ trouble.Write) → LeavesHost ready stopped why →
