@@ -8,6 +8,7 @@ use Rattle.hg_base.specs.declared.statement.Statement.{Statement}
 use Rattle.hg_base.specs.Lists.{Each}
 use Rattle.hg_base.specs.Number.{value_of}
 use Rattle.hg_base.specs.Script.{Script}
+use Rattle.std.proofs.lemmas.List.{length_push, same_from_push}
 use Rattle.hg_base.proofs.ListFacts.{each_snoc}
 use Rattle.hg_script.specs.declared.code.Code.{Code}
 use Rattle.hg_script.specs.declared.columns.Columns.{Columns}
@@ -106,12 +107,7 @@ old_more place s r none old = old_draft place s r (read_as place s r) refl none 
 -- ---- the next statement
 
 longer : {A : Type 0} (xs : List A) (x : A) → xs ≡ xs ++ x ∷ [] → ⊥
-longer [] x e = let no : ⊥ = cc e in no
-longer (y ∷ xs) x e = longer xs x (let rest : xs ≡ xs ++ x ∷ [] = cc e in rest)
-
-last_same : {A : Type 0} (xs : List A) (x y : A) → xs ++ x ∷ [] ≡ xs ++ y ∷ [] → x ≡ y
-last_same [] x y e = cc e
-last_same (z ∷ xs) x y e = last_same xs x y (let rest : xs ++ x ∷ [] ≡ xs ++ y ∷ [] = cc e in rest)
+longer xs x e = let one = length_push xs x in let same = ap length e in omega (arith, one, same)
 
 added_one : (place : ℕ) (s : Script) (r : Fields) (session : ℕ) (statement : Statement) (o : Option Draft) → read_as place s r ≡ o → HasOld s → code_at place s r ≡ None →
     (option_map_or (with_draft place s r) o s).records ≡ s.records ++ (record { place = place; session = session; statement = statement }) ∷ [] → IsAccepted s session statement
@@ -120,7 +116,7 @@ added_one place s r session statement None is old none made = absurd (longer s.r
 added_one place s r session statement (Some (Version version)) is old none made = absurd (longer s.records _ made)
 added_one place s r session statement (Some (Table fresh cols)) is old none made = absurd (longer s.records _ made)
 added_one place s r session statement (Some (Session number ask)) is old none made =
-    let same = last_same s.records _ _ made in
+    let same = (same_from_push s.records s.records _ _ made).1 in
     subst (λ (x : Record). IsAccepted s x.session x.statement) same (session_accepted place s r number ask old none is)
 
 pub next_accepted : (sent : List Sent) (r : Fields) (session : ℕ) (statement : Statement) (new : Known) →

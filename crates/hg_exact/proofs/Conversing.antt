@@ -2,6 +2,7 @@
 use Rattle.std.proofs.Common.{◌≡◌, ◌⊎◌, inl, inr, ◌∙◌, ℕ, suc, List, [], ◌∷◌, ◌+◌, ◌++◌, ◌≤◌, zero, length, map, take, drop, arith, Bool, true, false, Option, Some, None, refl, sym, ap, subst, append_assoc, append-nil}
 use Rattle.std.specs.Prelude.{if◌then◌else◌, ⊤}
 use Rattle.std.specs.Option.{option_map_or}
+use Rattle.std.proofs.lemmas.List.{drop_all, take-map}
 use Rattle.hg_base.specs.declared.limits.TheConstants.{MOST_SESSIONS}
 use Rattle.hg_base.specs.declared.statement.Record.{Record}
 use Rattle.hg_base.specs.Lists.{Each, greatest}
@@ -28,8 +29,7 @@ use Rattle.hg_exact.proofs.FewSessions.{more_sessions}
 -- ---- lists
 
 pub none_dropped : {A : Type 0} (xs : List A) → drop (length xs) xs ≡ []
-none_dropped [] = refl
-none_dropped (x ∷ xs) = none_dropped xs
+none_dropped xs = drop_all (length xs) xs (omega arith)
 
 pub rest_dropped : {A : Type 0} (xs ys : List A) → drop (length xs) (xs ++ ys) ≡ ys
 rest_dropped [] ys = refl
@@ -180,11 +180,6 @@ first_from (suc n) c (x ∷ sent) = ap (λ more. (hears c x).0 ∷ more) (first_
 pub conversed_first : (n : ℕ) (sent : List Sent) → conversed (take n sent) ≡ take n (conversed sent)
 conversed_first n sent = first_from n unasked sent
 
-map_first : {A B : Type 0} (f : A → B) (n : ℕ) (xs : List A) → map f (take n xs) ≡ take n (map f xs)
-map_first f zero xs = refl
-map_first f (suc n) [] = refl
-map_first f (suc n) (x ∷ xs) = ap (λ more. f x ∷ more) (map_first f n xs)
-
 each_first : {A : Type 0} (P : A → Type 0) (n : ℕ) (xs : List A) → Each P xs → Each P (take n xs)
 each_first P zero xs h = tt
 each_first P (suc n) [] h = tt
@@ -193,8 +188,8 @@ each_first P (suc n) (x ∷ xs) h = (h.0, each_first P n xs h.1)
 pub answers_first : (row : List Field → List ℕ) (n : ℕ) (sent : List Sent) (texts : List (List ℕ)) → AreAnswers row sent texts → AreAnswers row (take n sent) (take n texts)
 answers_first row n sent texts a = record {
   answers = take n a.answers;
-  exact = map_first plain_answered n a.answers ∙ ap (take n) a.exact ∙ sym (conversed_first n sent);
-  written = ap (take n) a.written ∙ sym (map_first (answer_text row) n a.answers);
+  exact = sym (take-map plain_answered n a.answers) ∙ ap (take n) a.exact ∙ sym (conversed_first n sent);
+  written = ap (take n) a.written ∙ take-map (answer_text row) n a.answers;
   balanced = each_first IsBalanced n a.answers a.balanced;
 }
 

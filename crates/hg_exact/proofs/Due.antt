@@ -1,5 +1,6 @@
 -- Answers that are due, one after the other, and that they are exact where their lines are.
 use Rattle.std.proofs.Common.{◌≡◌, ◌∙◌, ℕ, suc, List, [], ◌∷◌, ◌++◌, ◌≤◌, length, map, drop, arith, true, false, Some, None, refl, sym, ap, subst, append_assoc, append-nil}
+use Rattle.std.proofs.lemmas.List.{map-append}
 use Rattle.hg_base.specs.declared.limits.TheConstants.{MOST_SESSIONS}
 use Rattle.hg_base.specs.declared.line.Line.{Line}
 use Rattle.hg_base.specs.declared.line.Reply.{Reply}
@@ -177,10 +178,6 @@ lines_then c x lines k before =
     ap (λ ls. ls ++ lines_of ((hears c x).0 ∷ [])) before ∙ ap (λ ls. lines_from (start MOST_SESSIONS) c.script.records ++ ls) (one.lines ∙ ap (λ s. lines_from s one.added) k.state) ∙
     sym (lines_more (start MOST_SESSIONS) c.script.records one.added) ∙ ap (lines_from (start MOST_SESSIONS)) (sym one.records)
 
-map_both : (xs ys : List Line) → map plain (xs ++ ys) ≡ map plain xs ++ map plain ys
-map_both [] ys = refl
-map_both (x ∷ xs) ys = ap (λ more. plain x ∷ more) (map_both xs ys)
-
 exact_from : (c : Course) (lines : List Line) (sent : List Sent) (answers : List Answered) → Keeps c → AreDue c lines sent answers →
     map plain lines ≡ lines_from (start MOST_SESSIONS) c.script.records → map plain (lines_of answers) ≡ lines_of (answered_from c sent) → map plain_answered answers ≡ answered_from c sent
 unfolding AreDue answered_from
@@ -191,7 +188,7 @@ exact_from c lines (x ∷ sent) (a ∷ answers) k due before later =
     let one = adds c x in
     let here = exact_one c lines (hears c x).0 a (answered_from (hears c x).1 sent) answers due.0 one.totals (before ∙ more_sessions MOST_SESSIONS c.script.records k.most) later in
     let next : map plain (lines ++ lines_of (a ∷ [])) ≡ lines_from (start MOST_SESSIONS) (hears c x).1.script.records =
-    map_both lines (lines_of (a ∷ [])) ∙ ap (λ ls. map plain lines ++ ls) here.line ∙ lines_then c x (map plain lines) k before in
+    map-append plain lines (lines_of (a ∷ [])) ∙ ap (λ ls. map plain lines ++ ls) here.line ∙ lines_then c x (map plain lines) k before in
     λ i. here.same i ∷ exact_from (hears c x).1 (lines ++ lines_of (a ∷ [])) sent answers (keeps_more c x k) due.1 next here.lines i
 
 pub due_exact : (sent : List Sent) (answers : List Answered) → AreSoFar sent answers → map plain (lines_of answers) ≡ replayed (accepted sent) → map plain_answered answers ≡ conversed sent
