@@ -29,23 +29,8 @@
 //! gaps, so a script does not store them (`AreNumbered`). `hg_records` keeps the statements, each linked to the next of its session, so a
 //! script can lend the records of one session (`RecordList`) without going over the others.
 //!
-//! A script that breaks a rule is refused as a whole, with the first record that breaks one and its first code. The codes are tested in
-//! this order:
-//!
-//! | Code      | Breaks it |
-//! |-----------|-----------|
-//! | `Count`   | the record after the 1,048,576th, and the 65th table record |
-//! | `Word`    | a session record without a word, or with a word other than those above; also a `version` that is not the first record |
-//! | `Fields`  | a number of fields that the record's word does not have |
-//! | `Number`  | a version, session, key, end of a scan or cursor, or number of rows that is not written as a decimal number; in version 1 also a value or a number of columns |
-//! | `Range`   | a version other than 2, a session not from 1 to 64, a key or end of 2^64 or more, a number of rows not from 1 to 1,048,576; in version 1 also columns not from 1 to 8, or a value outside of 64 bits with a sign; in version 2 also columns that are not 1 to 8 letters `n` or `t` |
-//! | `Name`    | a table declared twice, or whose name is not 1 to 32 letters, digits and `_`; a table that is not declared; a collector other than `group`, `table` and `interval` |
-//! | `Columns` | a put whose number of values is not its table's number of columns |
-//! | `Value`   | in version 2 a value of a number column that is not written as a number of 64 bits with a sign, or one of a text column of more than 64 bytes |
-//! | `Order`   | a table record after a session record, `begin` or `open` in a transaction or with an open cursor, `commit` or `rollback` outside of a transaction, `fetch` or `close` without an open cursor, and a get, put, del, scan, commit or rollback with one |
-//!
-//! A number is `0`, or a digit from 1 to 9 and then digits; a value may be `-` and then such a number other than `0`. The ends of a
-//! scan or a cursor may be in either order, and a `begin` may name a table twice.
+//! A script that breaks a rule is refused as a whole, with the first record that breaks one and its first code (`Code`). docs/FORMATS.md
+//! has the rules, and what breaks each.
 //!
 //! `specs/` defines the same for whole lists of records: `rows_of` is the list of records in the bytes, `refusal_of` the first one that
 //! breaks a rule, and `script_of` the script. The reader goes over the bytes once. Of each record it reads the word (`Word`) and then
