@@ -1,4 +1,4 @@
-//! The collector.
+//! The group collector.
 
 ghost use Rattle.std.specs.Prelude.{◌≡◌, ◌<◌, ◌≤◌, IfOk, IfErr};
 ghost use Rattle.hg_rule.specs.Seats.{BoardId, IsPassOf};
