@@ -156,4 +156,4 @@ class Client:
 
     def give_up(self, what):
         self.kill()
-        raise Withheld(f"{what} was waited for, and what came is {bytes(self.got)!r}")
+        raise Withheld(f"{what} was waited for, and what came ends with {bytes(self.got[-1000:])!r}")

@@ -152,6 +152,29 @@ def old_versions_stay_without_rounds():
     expect("the versions that are left", 100_001, most_left("live --rounds 0", 1))
 
 
+def memory_after(kind, has_rounds):
+    """Puts a hundred keys two thousand times each, with a round of one collector after each 10,000 puts, or a get in its place. A reader
+    stays at the first snapshot: of all tables for the interval collector, which takes what lies between it and the newest, and of another
+    table for the table collector, which moves it there. Returns the resident memory."""
+    reader = {"group": "2,begin\n2,commit\n", "table": "2,begin,u\n2,get,u,1\n", "interval": "2,begin\n2,get,t,1\n"}[kind]
+    last = f"3,gc,{kind}\n" if has_rounds else "3,get,t,1\n"
+    some = "".join(f"1,put,t,{key},{count}\n" for count in range(100) for key in range(100)) + last
+    client = Client("live --long 1 --rounds 0")
+    client.send(("table,t,1\ntable,u,1\n" + reader + some * 20 + "totals\n").encode())
+    while not client.got.endswith(b"\ntotal,left,%d\n" % (100 if has_rounds else 200_000)):
+        client.take_more()
+    found = client.memory()
+    expect_end(client)
+    return found
+
+
+def what_a_round_removes_leaves_memory(kind):
+    """Without rounds the program needs at least 10 MB more."""
+    few, many = (memory_after(kind, has_rounds) for has_rounds in (True, False))
+    if many - few < 10_240:
+        raise Wrong(f"the resident memory in KB, with rounds and without\n    wanted: at least 10240 apart\n    found:  {few} and {many}")
+
+
 TESTS = (
     (a_client_closes_its_end,),
     (the_input_fails_in_the_midst,),
@@ -161,4 +184,5 @@ TESTS = (
     (a_long_record_is_not_kept,),
     (old_versions_are_few, 1, 5000),
     (old_versions_stay_without_rounds,),
+    (what_a_round_removes_leaves_memory, "group", "table", "interval"),
 )

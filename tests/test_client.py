@@ -11,7 +11,8 @@ import threading
 import time
 import unittest
 
-from listening import TOOLS, Listening
+from calling import TOOLS
+from listening import Listening
 
 from client import BadRecord, Client, Closed, Conflict, Held, NewerCommit, OpenWrite, StoreError, Sweep, Undeclared
 

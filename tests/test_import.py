@@ -16,11 +16,12 @@ import sys
 import tempfile
 import unittest
 
-from listening import HERE, TOOLS, Caller, Listening, call, tool
+from calling import ROOT, TOOLS, run
+from listening import Caller, Listening, call
 
 from hybridgc import program
 
-EXAMPLES = os.path.join(HERE, "..", "examples")
+EXAMPLES = os.path.join(ROOT, "examples")
 CITIES = 'id,name,people\n7,"Paris, ""the\nCity""",2100000\n5,Köln,1080000\n6,,0\n'
 
 
@@ -137,7 +138,7 @@ class Imports(WithFiles):
         for (words, wanted, part), (status, out, said) in zip(rows, found):
             self.assertEqual((status, out), (wanted, b""), words)
             self.assertIn(part, said)
-        self.assertIn("--key", tool("import", "--help")[1].decode())
+        self.assertIn("--key", run("import", "--help")[1].decode())
 
     def test_into_a_listener(self) -> None:
         with Listening() as listening:
@@ -248,7 +249,7 @@ class Exports(WithFiles):
         for (script, words, wanted, part), (status, _, said) in zip(rows, found):
             self.assertEqual(status, wanted, (script, words))
             self.assertIn(part, said)
-        self.assertIn("psql", tool("export", "--help")[1].decode())
+        self.assertIn("psql", run("export", "--help")[1].decode())
 
 
 def postgres() -> "str | None":

@@ -10,9 +10,10 @@ import tempfile
 import time
 import unittest
 
-from listening import HERE, SECONDS, Caller, Listening, tool
+from calling import ROOT, SECONDS, run
+from listening import Caller, Listening
 
-EXAMPLES = os.path.join(HERE, "..", "examples")
+EXAMPLES = os.path.join(ROOT, "examples")
 
 
 def without_places(answer: str) -> str:
@@ -253,7 +254,7 @@ class Starts(unittest.TestCase):
             with Listening(address=address) as listening:
                 self.assertEqual(Caller(listening).greeting, "session,1")
                 self.assertEqual(os.stat(address).st_mode & 0o777, 0o600)
-                status, _, said = tool("listen", address)
+                status, _, said = run("listen", address)
                 self.assertEqual((status, said), (1, f"tools/listen: another listener is at {address}\n"))
 
     def test_mistakes(self) -> None:
@@ -273,11 +274,11 @@ class Starts(unittest.TestCase):
                 ([address, "--buckets", "0"], 1, "usage: hybridgc"),
             ]
             for words, wanted, part in rows:
-                status, out, said = tool("listen", *words)
+                status, out, said = run("listen", *words)
                 self.assertEqual((status, out), (wanted, b""), words)
                 self.assertIn(part, said)
             self.assertEqual(os.listdir(folder), ["script"])
-        self.assertIn("store.sock", tool("listen", "--help")[1].decode())
+        self.assertIn("store.sock", run("listen", "--help")[1].decode())
 
 
 if __name__ == "__main__":

@@ -19,11 +19,10 @@ import termios
 import time
 import unittest
 
-HERE = os.path.dirname(os.path.realpath(__file__))
-ROOT = os.path.dirname(HERE)
-SHELL = os.path.join(ROOT, "tools", "shell")
 sys.dont_write_bytecode = True
-sys.path.insert(0, os.path.join(ROOT, "tools"))
+
+import calling
+from calling import ROOT, SECONDS, TOOLS
 
 from explain import CODES, why_bad
 from hybridgc import Live, program
@@ -33,17 +32,14 @@ from rows import Paint, shown, table, width
 from speak import version_lines
 from typed import Unfinished, fields_in, record_in
 
-# No call takes longer.
-SECONDS = 60
+SHELL = os.path.join(TOOLS, "shell")
 ALL_BYTES = bytes(range(256)).replace(b'"', b'""')
 
 
 def run(text: bytes | str, *words: str, **env: str) -> tuple[int, str, str]:
     """Runs the shell on a pipe. Returns its status, and what it printed on standard output and standard error."""
-    text = text.encode() if isinstance(text, str) else text
-    settings = {**os.environ, "COLUMNS": "100", **env}
-    done = subprocess.run([sys.executable, SHELL, *words], input=text, capture_output=True, timeout=SECONDS, env=settings)
-    return done.returncode, *(part.decode(errors="backslashreplace") for part in (done.stdout, done.stderr))
+    status, out, said = calling.run("shell", *words, given=text.encode() if isinstance(text, str) else text, **env)
+    return status, out.decode(errors="backslashreplace"), said
 
 
 def pretty(text: bytes | str, *words: str) -> list[str]:

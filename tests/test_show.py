@@ -14,11 +14,10 @@ import tempfile
 import unittest
 import xml.etree.ElementTree as xml
 
-HERE = os.path.dirname(os.path.realpath(__file__))
-ROOT = os.path.dirname(HERE)
-SHOW = os.path.join(ROOT, "tools", "show")
 sys.dont_write_bytecode = True
-sys.path.insert(0, os.path.join(ROOT, "tools"))
+
+import calling
+from calling import ROOT, SECONDS
 
 from answers import replies_of, totals_of
 from charts import bar, curve, ticks
@@ -29,8 +28,6 @@ from order import READS_AND_WRITES, Step, in_commit_order
 from rows import Paint, width
 from typed import fields_in, numbered_records
 
-# No call takes longer.
-SECONDS = 60
 TEXTS = b'''version,2
 table,t,tn
 1,put,t,1,"a, ""b""",-7
@@ -50,9 +47,8 @@ lines",1
 
 def run(*words: str, source: bytes = b"", **env: str) -> tuple[int, str, str]:
     """Runs the command. Returns its status, and what it printed on standard output and standard error."""
-    settings = {**os.environ, "COLUMNS": "100", **env}
-    done = subprocess.run([sys.executable, SHOW, *words], input=source, capture_output=True, timeout=SECONDS, env=settings)
-    return done.returncode, *(part.decode("utf-8", "surrogateescape") for part in (done.stdout, done.stderr))
+    status, out, said = calling.run("show", *words, given=source, **env)
+    return status, out.decode("utf-8", "surrogateescape"), said
 
 
 def shown(*words: str, source: bytes = b"") -> list[str]:

@@ -402,7 +402,7 @@ class Client:
     def _read_sweep(self, answer: list[Record]) -> Sweep:
         _, _, _, kind, mark, horizon, removed = fields_of(answer[1])
         held = [fields_of(record)[3:] for record in answer[2:]]
-        return Sweep(kind.decode(), int(mark), int(horizon), int(removed), [Held(int(who), int(at), how == b"moved") for who, at, how in held])
+        return Sweep(kind.decode(), int(mark), int(horizon), int(removed), [Held(int(session), int(at), how == b"moved") for session, at, how in held])
 
     def _read_totals(self, answer: list[Record]) -> Totals:
         return Totals(*(int(fields_of(record)[2]) for record in answer))
