@@ -21,3 +21,5 @@ pub mod TextLines
 -- A number is read digit by digit, and is written in one way.
 pub mod Digits
 pub mod Decimal
+-- The bytes that only proofs see.
+mod Walks

@@ -16,9 +16,11 @@ pub mod Text
 pub mod Number
 -- What a collector may take.
 pub mod Lifetimes
--- The outside: reports as they are printed, and faults.
+-- The outside: reports as they are printed, faults, and the bytes that pass.
 pub mod Entries
 pub mod Reports
 pub mod Faults
+pub mod Flows
+pub mod Told
 pub mod Packed
 pub mod Storage

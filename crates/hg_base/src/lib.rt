@@ -34,6 +34,7 @@ mod scope;
 mod statement;
 mod steps;
 mod text;
+mod told;
 mod value;
 mod writer;
 
@@ -58,5 +59,6 @@ pub use scope::{Scope, Snapshot};
 pub use statement::{Record, Statement};
 pub use steps::Steps;
 pub use text::Text;
+pub use told::{Piece, ToldBytes};
 pub use value::{Column, Value};
 pub use writer::Writer;
