@@ -1,49 +1,69 @@
 -- What a source and a sink tell of a call.
-use Rattle.std.specs.Prelude.{◌≡◌, ℕ, ◌+◌, ◌≤◌, List, length, Option, Some}
+use Rattle.std.specs.Prelude.{◌≡◌, ℕ, ◌+◌, ◌≤◌, List, ◌++◌, length, true, Some}
 use Rattle.std.specs.Io.KnownBytes.{Consumes, IsAtEnd}
 use Rattle.hg_base.specs.declared.limits.TheConstants.{MOST_SCRIPT_BYTES}
 use Rattle.hg_base.specs.Faults.{Rose}
+use Rattle.hg_base.specs.Flows.{Inflow, Outflow}
 
--- The bytes that are left in a source, or that a sink took, where they are told, and the count of faults: before the call
--- and after it.
-pub record Change : Type 0 where
-  pub before : Option (List ℕ)
-  pub after : Option (List ℕ)
-  pub faults : ℕ
-  pub faults_after : ℕ
+-- what a source or a sink tells before a call and after it
+pub record Change (F : Type 0) : Type 0 where
+  pub old : F
+  pub new : F
 
--- the change from one value of a source or a sink to another: its bytes, and how many faults it had
-abbrev pub change_of : {A : Type 0} → (A → Option (List ℕ)) → (A → ℕ) → A → A → Change
-change_of bytes faults old new = record { before = bytes old; after = bytes new; faults = faults old; faults_after = faults new }
+-- the change from one value of a source or a sink to another
+abbrev pub change_of : {A F : Type 0} → (A → F) → A → A → Change F
+change_of flow old new = record { old = flow old; new = flow new }
 
--- a call failed
-abbrev pub HasFailed : Change → Type 0
-HasFailed change = Rose change.faults change.faults_after
+-- ---- a source
 
--- the source shows its bytes, these, and no call of it failed
-pub record Gives (source : Change) (bytes : List ℕ) : Type 0 where
-  pub told : source.before ≡ Some bytes
-  pub steady : ¬ HasFailed source
+-- a read failed
+abbrev pub ReadFailed : Change Inflow → Type 0
+ReadFailed source = Rose source.old.faults source.new.faults
 
--- the source gave some bytes, at most so many, and lost no others
-pub record HasGiven (most : ℕ) (source : Change) : Type 0 where
+-- the source gave these bytes, which were the next of those that it had left, where it tells them
+pub record Gave (source : Change Inflow) (bytes : List ℕ) : Type 0 where
+  pub given : source.new.given ≡ source.old.given ++ bytes
+  pub next : Consumes source.old.left source.new.left bytes
+
+-- the last read found the end, and nothing is left
+pub record IsOver (source : Inflow) : Type 0 where
+  pub found : source.is_over ≡ true
+  pub none : IsAtEnd source.left
+
+-- the source tells that it has these bytes left, and no read failed
+pub record Gives (source : Change Inflow) (bytes : List ℕ) : Type 0 where
+  pub told : source.old.left ≡ Some bytes
+  pub steady : ¬ ReadFailed source
+
+-- the source gave some bytes, at most so many
+pub record HasGiven (most : ℕ) (source : Change Inflow) : Type 0 where
   pub bytes : List ℕ
-  pub read : Consumes source.before source.after bytes
+  pub gave : Gave source bytes
   pub few : length bytes ≤ most
 
--- the bytes are all that the source had, and no more than a script may have
-pub record ReadsAll (source : Change) (bytes : List ℕ) : Type 0 where
-  pub read : Consumes source.before source.after bytes
-  pub end : IsAtEnd source.after
+-- the bytes are all that the source gave up to its end, and no more than a script may have
+pub record ReadsAll (source : Change Inflow) (bytes : List ℕ) : Type 0 where
+  pub gave : Gave source bytes
+  pub end : IsOver source.new
   pub short : length bytes ≤ MOST_SCRIPT_BYTES
 
 -- the source gave one byte more than a script may have, and no more was read
-pub record IsTooLong (source : Change) : Type 0 where
+pub record IsTooLong (source : Change Inflow) : Type 0 where
   pub bytes : List ℕ
-  pub read : Consumes source.before source.after bytes
+  pub gave : Gave source bytes
   pub long : length bytes ≡ MOST_SCRIPT_BYTES + 1
 
 -- a read failed, and before it the source had given no more than a script may have
-pub record FailsToRead (source : Change) : Type 0 where
-  pub failed : HasFailed source
+pub record FailsToRead (source : Change Inflow) : Type 0 where
+  pub failed : ReadFailed source
   pub within : HasGiven MOST_SCRIPT_BYTES source
+
+-- ---- a sink
+
+-- a write failed
+abbrev pub WriteFailed : Change Outflow → Type 0
+WriteFailed sink = Rose sink.old.faults sink.new.faults
+
+-- the sink took these bytes
+abbrev pub Took : Change Outflow → List ℕ → Type 0
+Took sink bytes = sink.new.taken ≡ sink.old.taken ++ bytes

@@ -1,9 +1,7 @@
 //! Reading a source to its end.
 
-ghost use Rattle.std.specs.Prelude.{◌≡◌, ◌+◌, ◌≤◌, ℕ, List, length, IfOk, OnOk, IsErrOf};
-ghost use Rattle.std.specs.Io.KnownBytes.{Consumes, IsAtEnd};
-ghost use Rattle.hg_base.specs.Faults.{Rose};
-ghost use Rattle.hg_streams.specs.Streams.{HasGiven, change_of};
+ghost use Rattle.std.specs.Prelude.{◌+◌, ◌≤◌, length, IfOk, OnOk, IsErrOf};
+ghost use Rattle.hg_streams.specs.Streams.{Gave, HasGiven, IsOver, IsTooLong, ReadFailed, change_of};
 
 use hg_base::{Failed, MOST_SCRIPT_BYTES, Source};
 use std::alloc::{AllocError, Global};
@@ -45,19 +43,18 @@ const CHUNK: usize = 65_536;
 /// then nothing, not even to find out whether the source fails.
 pub fn read_all<S: Source>(alloc: Global, source: &mut S) -> Result<Vec<u8>, ReadError>
     ensures whole { IfOk result
-        (λ bytes. Consumes (S.left source.old) (S.left source.new) bytes.items) }
-    ensures end { OnOk result (IsAtEnd (S.left source.new)) }
+        (λ bytes. Gave (change_of S.flow source.old source.new) bytes.items) }
+    ensures end { OnOk result (IsOver (S.flow source.new)) }
     ensures short { IfOk result (λ bytes. length bytes.items ≤ MOST_SCRIPT_BYTES) }
     ensures too_long { IsErrOf result ReadError.TooLong →
-        (bytes : List ℕ) × Consumes (S.left source.old) (S.left source.new) bytes ×
-        (length bytes ≡ MOST_SCRIPT_BYTES + 1) }
+        IsTooLong (change_of S.flow source.old source.new) }
     ensures no_more { HasGiven (MOST_SCRIPT_BYTES + 1)
-        (change_of S.left S.faults source.old source.new) }
+        (change_of S.flow source.old source.new) }
     ensures fault { IsErrOf result ReadError.Fault →
-        Rose (S.faults source.old) (S.faults source.new) }
+        ReadFailed (change_of S.flow source.old source.new) }
     ensures within { IsErrOf result ReadError.Fault →
-        HasGiven MOST_SCRIPT_BYTES (change_of S.left S.faults source.old source.new) }
-    ensures later { S.faults source.old ≤ S.faults source.new }
+        HasGiven MOST_SCRIPT_BYTES (change_of S.flow source.old source.new) }
+    ensures later { (S.flow source.old).faults ≤ (S.flow source.new).faults }
 {
     let mut bytes = Vec::new(alloc);
     let mut chunk = [0; CHUNK];

@@ -1,12 +1,12 @@
 use Rattle.std.proofs.Common.{length, ◌-◌, ◌≤◌, take}
-use Rattle.std.specs.Io.KnownBytes.{Appends}
+use Rattle.hg_streams.specs.Streams.{Took, change_of}
 use Rattle.hg_streams.proofs.sink.write_all.Given as goal
 
 abbrev pub invariant-loop-at : goal.invariant-loop-at
 invariant-loop-at g l = record {
   within : l.at ≤ length l.text;
-  taken : Appends (g.S.Sink.taken l.initial.sink) (g.S.Sink.taken l.sink) (take l.at l.text);
-  later : g.S.Sink.faults l.initial.sink ≤ g.S.Sink.faults l.sink;
+  taken : Took (change_of g.S.Sink.flow l.initial.sink l.sink) (take l.at l.text);
+  later : (g.S.Sink.flow l.initial.sink).faults ≤ (g.S.Sink.flow l.sink).faults;
 }
 
 abbrev pub decreases-loop-at : goal.decreases-loop-at
