@@ -1,10 +1,12 @@
 //! Streams in memory of which listed calls fail, for tests.
 
-ghost use Rattle.std.specs.Prelude.{◌≡◌, ◌+◌, ◌-◌, ◌<◌, ◌≤◌, ◌==◌, ◌&&◌, ◌||◌, ◌++◌, [], Ok, Some, length, take, drop, min, max, is_err, vec_len, vec_capacity, IfOk, OnOk, OnErr, nat_lt};
+ghost use Rattle.std.specs.Prelude.{◌≡◌, ◌+◌, ◌-◌, ◌<◌, ◌≤◌, ◌==◌, ◌&&◌, ◌||◌, ◌++◌, [], false, Ok, Some, length, take, drop, min, max, is_err, vec_len, vec_capacity, IfOk, OnOk, OnErr, nat_lt};
 ghost use Rattle.std.specs.Io.{ReadsAtMost};
-ghost use Rattle.std.specs.Io.KnownBytes.{ReadConsumes, WriteAppends};
+ghost use Rattle.std.specs.Io.KnownBytes.{ReadConsumes};
 ghost use Rattle.std.specs.List.{list_any};
 ghost use Rattle.hg_base.specs.Faults.{HasCause, TakesSome, next_count};
+ghost use Rattle.hg_base.specs.Flows.{AddsFirst, finds_end};
+ghost use Rattle.hg_memory.specs.Memory.{inflow_of, outflow_of};
 
 use hg_base::{Failed, NoMemory, Sink, Source};
 use std::alloc::Global;
@@ -15,6 +17,7 @@ use std::marker::Model;
 pub struct MemorySource {
     bytes: Vec<u8>,
     at: usize,
+    is_over: bool,
     most: usize,
     failing: Vec<u64>,
     calls: u64,
@@ -22,12 +25,20 @@ pub struct MemorySource {
 }
 
 impl Model for MemorySource {
-    ghost use Rattle.std.specs.Prelude.{◌<◌, ◌≤◌, length, drop};
+    ghost use Rattle.std.specs.Prelude.{◌<◌, ◌≤◌, length, take, drop};
     ghost use Rattle.hg_memory.specs.Memory.{Feed};
 
     ghost Value = { Feed };
 
-    ghost view = { λ s. record { left = drop s.at s.bytes.items; most = s.most; failing = s.failing.items; calls = s.calls; faults = s.faults } };
+    ghost view = { λ s. record {
+      given = take s.at s.bytes.items;
+      left = drop s.at s.bytes.items;
+      is_over = s.is_over;
+      most = s.most;
+      failing = s.failing.items;
+      calls = s.calls;
+      faults = s.faults;
+    } };
 
     ghost invariant = { λ s. (s.at ≤ length s.bytes.items) × (0 < s.most) };
 }
@@ -52,12 +63,20 @@ impl MemorySource {
     pub fn new(bytes: Vec<u8>, most: usize, failing: Vec<u64>) -> MemorySource
         requires { 0 < most }
         ensures { result ≡
-            record
-            { left = bytes.items; most = most; failing = failing.items; calls = 0; faults = 0 } }
+            record {
+              given = [];
+              left = bytes.items;
+              is_over = false;
+              most = most;
+              failing = failing.items;
+              calls = 0;
+              faults = 0;
+            } }
     {
         MemorySource {
             bytes,
             at: 0,
+            is_over: false,
             most,
             failing,
             calls: 0,
@@ -67,13 +86,13 @@ impl MemorySource {
 }
 
 impl Source for MemorySource {
-    ghost left = { λ s. Some s.left };
-
-    ghost faults = { λ s. s.faults };
+    ghost flow = { inflow_of };
 
     fn read(&mut self, into: &mut [u8]) -> Result<usize, Failed>
         ensures bound { ReadsAtMost result into.new }
-        ensures bytes { ReadConsumes (Some self.old.left) (Some self.new.left) result into.new }
+        ensures given { AddsFirst self.old.given self.new.given result into.new }
+        ensures over { IfOk result (λ n. self.new.is_over ≡ finds_end n into.new) }
+        ensures left { ReadConsumes (Some self.old.left) (Some self.new.left) result into.new }
         ensures cause { HasCause self.old.faults self.new.faults result }
 
         // Exactly the listed calls fail, and the others give as much as they may.
@@ -81,8 +100,13 @@ impl Source for MemorySource {
             list_any (λ k. k == next_count self.old.calls) self.old.failing }
         ensures count { IfOk result
             (λ n. n ≡ min (min (length self.old.left) self.old.most) (length into.old)) }
-        ensures given { OnOk result (self.new ≡
-            record self.old { left = self.new.left; calls = next_count self.old.calls }) }
+        ensures moved { OnOk result (self.new ≡
+            record self.old {
+              given = self.new.given;
+              left = self.new.left;
+              is_over = self.new.is_over;
+              calls = next_count self.old.calls;
+            }) }
         ensures failed { OnErr result (self.new ≡
             record self.old
             { calls = next_count self.old.calls; faults = next_count self.old.faults }) }
@@ -94,6 +118,7 @@ impl Source for MemorySource {
         }
         let count = copy_front(&self.bytes[self.at..], self.most, into);
         self.at += count;
+        self.is_over = count == 0 && !into.is_empty();
         Ok(count)
     }
 }
@@ -157,13 +182,11 @@ impl MemorySink {
 }
 
 impl Sink for MemorySink {
-    ghost taken = { λ s. Some s.taken };
-
-    ghost faults = { λ s. s.faults };
+    ghost flow = { outflow_of };
 
     fn write(&mut self, piece: &[u8]) -> Result<usize, Failed>
         ensures bound { TakesSome result piece.now }
-        ensures bytes { WriteAppends (Some self.old.taken) (Some self.new.taken) result piece.now }
+        ensures taken { AddsFirst self.old.taken self.new.taken result piece.now }
         ensures cause { HasCause self.old.faults self.new.faults result }
 
         // Exactly the listed calls fail, and those past the room, and the others take as much as they may.
@@ -172,7 +195,7 @@ impl Sink for MemorySink {
             ((self.old.room == 0) && nat_lt 0 (length piece.now))) }
         ensures count { IfOk result
             (λ n. n ≡ min (min (length piece.now) self.old.most) self.old.room) }
-        ensures taken { IfOk result (λ n.
+        ensures moved { IfOk result (λ n.
             self.new ≡
             record self.old {
               taken = self.new.taken;

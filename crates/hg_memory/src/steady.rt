@@ -1,12 +1,14 @@
 //! Streams in memory that never fail, for tests.
 
-ghost use Rattle.std.specs.Prelude.{◌≡◌, ◌-◌, ◌<◌, ◌++◌, [], Ok, Some, None, length, take, min, max, OnOk, OnErr};
+ghost use Rattle.std.specs.Prelude.{◌≡◌, ◌-◌, ◌<◌, ◌++◌, [], false, Ok, Some, length, take, min, max, IfOk, OnOk, OnErr};
 ghost use Rattle.std.specs.Io.{ReadsAtMost};
-ghost use Rattle.std.specs.Io.KnownBytes.{ReadConsumes, WriteAppends};
+ghost use Rattle.std.specs.Io.KnownBytes.{ReadConsumes};
 ghost use Rattle.hg_base.specs.Faults.{HasCause, TakesSome, counted};
+ghost use Rattle.hg_base.specs.Flows.{AddsFirst, finds_end};
+ghost use Rattle.hg_memory.specs.Memory.{steady_inflow, steady_outflow};
 
 use crate::memory::copy_front;
-use hg_base::{Failed, NoMemory, Sink, Source};
+use hg_base::{Failed, NoMemory, Piece, Sink, Source, ToldBytes};
 use std::alloc::Global;
 use std::marker::Model;
 
@@ -15,16 +17,22 @@ use std::marker::Model;
 pub struct SteadySource {
     bytes: Vec<u8>,
     at: usize,
+    is_over: bool,
     most: usize,
 }
 
 impl Model for SteadySource {
-    ghost use Rattle.std.specs.Prelude.{◌<◌, ◌≤◌, length, drop};
+    ghost use Rattle.std.specs.Prelude.{◌<◌, ◌≤◌, length, take, drop};
     ghost use Rattle.hg_memory.specs.Memory.{SteadyFeed};
 
     ghost Value = { SteadyFeed };
 
-    ghost view = { λ s. record { left = drop s.at s.bytes.items; most = s.most } };
+    ghost view = { λ s. record {
+      given = take s.at s.bytes.items;
+      left = drop s.at s.bytes.items;
+      is_over = s.is_over;
+      most = s.most;
+    } };
 
     ghost invariant = { λ s. (s.at ≤ length s.bytes.items) × (0 < s.most) };
 }
@@ -32,39 +40,44 @@ impl Model for SteadySource {
 impl SteadySource {
     pub fn new(bytes: Vec<u8>, most: usize) -> SteadySource
         requires { 0 < most }
-        ensures { result ≡ record { left = bytes.items; most = most } }
+        ensures { result ≡
+            record { given = []; left = bytes.items; is_over = false; most = most } }
     {
-        SteadySource { bytes, at: 0, most }
+        SteadySource {
+            bytes,
+            at: 0,
+            is_over: false,
+            most,
+        }
     }
 }
 
 impl Source for SteadySource {
-    ghost left = { λ s. Some s.left };
-
-    ghost faults = { λ s. 0 };
+    ghost flow = { steady_inflow };
 
     fn read(&mut self, into: &mut [u8]) -> Result<usize, Failed>
         ensures bound { ReadsAtMost result into.new }
-        ensures bytes { ReadConsumes (Some self.old.left) (Some self.new.left) result into.new }
+        ensures given { AddsFirst self.old.given self.new.given result into.new }
+        ensures over { IfOk result (λ n. self.new.is_over ≡ finds_end n into.new) }
+        ensures left { ReadConsumes (Some self.old.left) (Some self.new.left) result into.new }
         ensures cause { HasCause 0 0 result }
 
         // Each call gives as much as it may.
-        ensures given { result ≡
+        ensures count { result ≡
             Ok (min (min (length self.old.left) self.old.most) (length into.old)) }
         ensures most { self.new.most ≡ self.old.most }
     {
         let count = copy_front(&self.bytes[self.at..], self.most, into);
         self.at += count;
+        self.is_over = count == 0 && !into.is_empty();
         Ok(count)
     }
 }
 
 /// Takes all that it is given, at most `most` bytes a call, and keeps what its room holds. Past its room it only counts.
-///
-/// It never tells as a sink what it took: a sink that tells has to tell for good, and this one keeps no more than its room holds.
-/// `bytes` lends what was kept.
 #[derive(Drop)]
 pub struct SteadySink {
+    taken: ToldBytes,
     bytes: Vec<u8>,
     room: usize,
     most: usize,
@@ -72,22 +85,24 @@ pub struct SteadySink {
 }
 
 impl Model for SteadySink {
-    ghost use Rattle.std.specs.Prelude.{◌+◌, ◌<◌, ◌≤◌, vec_len, vec_capacity};
+    ghost use Rattle.std.specs.Prelude.{◌≡◌, ◌+◌, ◌<◌, ◌≤◌, vec_len, vec_capacity};
     ghost use Rattle.hg_memory.specs.Memory.{SteadyTray};
 
     ghost Value = { SteadyTray };
 
-    ghost view = { λ s. record { kept = s.bytes.items; room = s.room; most = s.most; past = s.past } };
+    ghost view = { λ s. record { taken = s.taken.bytes; kept = s.bytes.items; room = s.room; most = s.most; past = s.past } };
 
-    ghost invariant = { λ s. (vec_len s.bytes + s.room ≤ vec_capacity s.bytes) × (0 < s.most) };
+    ghost invariant = { λ s. (vec_len s.bytes + s.room ≤ vec_capacity s.bytes) × (0 < s.most) ×
+        (s.past ≡ 0 → s.bytes.items ≡ s.taken.bytes) };
 }
 
 impl SteadySink {
     pub fn new(alloc: Global, most: usize) -> SteadySink
         requires { 0 < most }
-        ensures { result ≡ record { kept = []; room = 0; most = most; past = 0 } }
+        ensures { result ≡ record { taken = []; kept = []; room = 0; most = most; past = 0 } }
     {
         SteadySink {
+            taken: ToldBytes::new(),
             bytes: Vec::new(alloc),
             room: 0,
             most,
@@ -107,7 +122,8 @@ impl SteadySink {
 
     /// The bytes that were kept.
     pub fn bytes(&self) -> &[u8]
-        ensures { result.now ≡ self.now.kept }
+        ensures kept { result.now ≡ self.now.kept }
+        ensures all { self.now.past ≡ 0 → result.now ≡ self.now.taken }
     {
         &self.bytes
     }
@@ -121,17 +137,15 @@ impl SteadySink {
 }
 
 impl Sink for SteadySink {
-    ghost taken = { λ s. None };
-
-    ghost faults = { λ s. 0 };
+    ghost flow = { steady_outflow };
 
     fn write(&mut self, piece: &[u8]) -> Result<usize, Failed>
         ensures bound { TakesSome result piece.now }
-        ensures bytes { WriteAppends None None result piece.now }
+        ensures taken { AddsFirst self.old.taken self.new.taken result piece.now }
         ensures cause { HasCause 0 0 result }
 
         // Each call takes as much as it may, and keeps of it what there is room for.
-        ensures taken { result ≡ Ok (min (length piece.now) self.old.most) }
+        ensures count { result ≡ Ok (min (length piece.now) self.old.most) }
         ensures kept { self.new.kept ≡
             self.old.kept ++
             take (min (min (length piece.now) self.old.most) self.old.room) piece.now }
@@ -147,6 +161,9 @@ impl Sink for SteadySink {
             unreachable!();
         }
         self.past = self.past.saturating_add((count - kept) as u64);
+        self.taken = self.taken.then(&Piece {
+            bytes: &piece[..count],
+        });
         Ok(count)
     }
 }
