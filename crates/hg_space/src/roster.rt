@@ -1,6 +1,6 @@
 //! Which records of a table are listed.
 
-ghost use Rattle.std.specs.Prelude.{◌≡◌, ℕ, ◌+◌, ◌<◌, ◌^◌, [], ◌∷◌, ◌++◌, length, take, Some, IfOk, OnOk, OnErr, slice_get, slice_set, vec_len, option_map, ◌↔◌};
+ghost use Rattle.std.specs.Prelude.{◌≡◌, ℕ, ◌+◌, ◌<◌, ◌≤◌, ◌^◌, [], ◌∷◌, ◌++◌, length, take, Some, IsTrue, IfOk, OnOk, OnErr, slice_get, slice_set, vec_len, option_map, ◌↔◌};
 ghost use Rattle.std.specs.List.{swap_remove};
 ghost use Rattle.hg_space.specs.declared.roster.Listed.{Listed};
 ghost use Rattle.hg_space.specs.Rosters.{list_of, keys_of, lists_in, Has, StandsNowhere, StandsIn, StandOnce};
@@ -141,6 +141,13 @@ fn begin(lists: &mut Vec<Vec<Listed>>, table: TableId, alloc: Global) -> Result<
     Ok(())
 }
 
+// Whether a list has as many records as an index can count.
+fn is_full(list: &[Listed]) -> bool
+    ensures { IsTrue result ↔ (2 ^ 32 ≤ length list.now) }
+{
+    list.len() >= 1 << 32
+}
+
 // Puts a record at the end of a table's list. The answer is its index.
 fn append(
     lists: &mut Vec<Vec<Listed>>,
@@ -158,7 +165,10 @@ fn append(
 {
     begin(lists, table, alloc)?;
     let list = &mut lists[table.0 as usize];
-    let at = u32::try_from(list.len()).map_err(|_| NoMemory)?;
+    if is_full(list.as_slice()) {
+        return Err(NoMemory);
+    }
+    let at = list.len() as u32;
     list.push(listed)?;
     Ok(at)
 }
