@@ -1,6 +1,6 @@
 //! What is kept of the groups that were not taken, and what a collector's pass takes of it while it holds the commit lock.
 
-ghost use Rattle.std.specs.Prelude.{◌≡◌, ◌+◌, ◌≤◌, ◌++◌, length, vec_capacity};
+ghost use Rattle.std.specs.Prelude.{◌≡◌, ◌+◌, ◌<◌, ◌≤◌, ◌++◌, length, vec_capacity, IfSome};
 ghost use Rattle.hg_lock.specs.Locks.{IsLoanOf};
 ghost use Rattle.hg_rule.specs.Views.{pass as own_pass};
 ghost use Rattle.hg_rule.specs.Holding.{HasCommit, commit};
@@ -87,6 +87,7 @@ fn pop_below(
 fn push_all(into: &mut Vec<Rid>, rids: &[Rid])
     requires room { length into.old.items + length rids.now ≤ vec_capacity into.old }
     ensures pushed { into.new.items ≡ into.old.items ++ rids.now }
+    ensures same { vec_capacity into.new ≡ vec_capacity into.old }
 {
     for rid in rids {
         into.push_reserved(*rid);
@@ -111,6 +112,9 @@ fn pop_some(
         (commit (pass_view pass.old)).taken contexts.old.items }
     ensures popped { PopsSome (pass_view pass.old) bound into.old.items result into.new.items
         (pass_view pass.new) }
+    ensures same { vec_capacity into.new ≡ vec_capacity into.old }
+    ensures full { IfSome result (λ last.
+        vec_capacity into.old < length into.new.items + length last.records.list) }
     ensures contexts { AreContexts (commit (pass_view pass.new)).history.list
         (commit (pass_view pass.new)).taken contexts.new.items }
     ensures own { IsPassOf (board_id board.now) pass.new }
@@ -187,6 +191,9 @@ impl GroupList {
         requires bound { bound ≤ (own_pass (pass_view pass.old)).mark }
         ensures taken { TakesSome (pass_view pass.old) bound into.old.items result into.new.items
             (pass_view pass.new) }
+        ensures same { vec_capacity into.new ≡ vec_capacity into.old }
+        ensures full { IfSome result (λ last.
+            vec_capacity into.old < length into.new.items + length last.records.list) }
         ensures own { IsPassOf (board_id board.now) pass.new }
     {
         let (mut held, seat) = self.take(rt);

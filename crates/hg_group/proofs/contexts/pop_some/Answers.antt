@@ -1,4 +1,4 @@
-use Rattle.std.proofs.Common.{◌++◌, ◌∷◌, [], sym, ap, ◌∙◌, append_assoc, append-nil}
+use Rattle.std.proofs.Common.{◌++◌, ◌∷◌, [], refl, sym, ap, ◌∙◌, append_assoc, append-nil}
 use Rattle.hg_rule.specs.Seats.{pass_view}
 use Rattle.hg_group.specs.Oldest.{records_of}
 use Rattle.hg_group.proofs.NextGroup.{pops_none, pops_more, records_more}
@@ -9,6 +9,7 @@ loop-context-init c = record {
   popped = ([], (sym (append-nil c.args.into.now.items), pops_none (pass_view c.args.pass.now) c.args.bound c.requires.own.1 c.requires.held));
   contexts = c.requires.contexts;
   own = c.requires.own;
+  same = refl;
 }
 
 pub returns-then-len-capacity-clause-popped : goal.returns-then-len-capacity-clause-popped
@@ -36,4 +37,5 @@ loop-context-preserved c =
       );
       contexts = c.in-Some.ensures.contexts;
       own = c.in-Some.ensures.own;
+      same = c.push_all.ensures.same ∙ c.loop-context.invariant.same;
     }

@@ -1,4 +1,4 @@
-use Rattle.std.specs.Prelude.{◌≡◌, ◌++◌, ◌-◌, List}
+use Rattle.std.specs.Prelude.{◌≡◌, ◌++◌, ◌-◌, List, vec_capacity}
 use Rattle.hg_rule.specs.Holding.{commit}
 use Rattle.hg_rule.specs.Seats.{board_id, pass_view, IsPassOf}
 use Rattle.hg_group.specs.declared.contexts.GroupContext.{GroupContext}
@@ -12,6 +12,7 @@ invariant-loop-context l = record {
   popped : (cs : List GroupContext) × ((l.into.items ≡ l.fn.into.items ++ records_of cs) × PopsNext (pass_view l.fn.pass) l.bound cs (pass_view l.pass));
   contexts : AreContexts (commit (pass_view l.pass)).history.list (commit (pass_view l.pass)).taken l.contexts.items;
   own : IsPassOf (board_id l.board) l.pass;
+  same : vec_capacity l.into ≡ vec_capacity l.fn.into;
 }
 
 -- the groups that are left below the bound

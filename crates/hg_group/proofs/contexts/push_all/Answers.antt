@@ -22,4 +22,7 @@ pub returns : goal.returns
 returns c =
     let xs = c.args.rids.now in
     let end : c.loop-rid.rid-index ≡ length xs = omega (arith, c.loop-rid.auto.rid-index-end, c.loop-rid-test.false) in
-    record { pushed = c.loop-rid.invariant.0 ∙ ap (λ l. c.args.into.now.items ++ l) (ap (λ n. take n xs) end ∙ take_all xs) }
+    record {
+      pushed = c.loop-rid.invariant.0 ∙ ap (λ l. c.args.into.now.items ++ l) (ap (λ n. take n xs) end ∙ take_all xs);
+      same = c.loop-rid.invariant.1;
+    }
