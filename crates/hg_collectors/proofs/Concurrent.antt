@@ -20,7 +20,7 @@ collectors_made t z long rounds old new told own group table interval made = rec
   table_is = table;
   interval_is = interval;
   alone = record {
-    group = lone_rounds t 0 Group z long (made Group).sweeps (groups.pass_of old.group) (groups.pass_of new.group) own.alone.group group.0 (made Group).made;
+    group = lone_rounds t 0 Group z long (made Group).sweeps (groups.pass_of old.group) (groups.pass_of new.group) own.alone.group group.0.0 (made Group).made;
     table = lone_rounds t 1 Table z long (made Table).sweeps (tables.pass_of old.table) (tables.pass_of new.table) own.alone.table table.0 (made Table).made;
     interval = lone_rounds t 2 Interval z long (made Interval).sweeps (intervals.pass_of old.interval) (intervals.pass_of new.interval) own.alone.interval
         (worker_pass t z new.interval interval) (made Interval).made;

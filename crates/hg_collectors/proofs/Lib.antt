@@ -2,6 +2,7 @@
 pub mod Going
 pub mod Held
 pub mod One
+pub mod Stretches
 -- It takes groups, and makes a round of them.
 pub mod Groups
 pub mod GroupRounds

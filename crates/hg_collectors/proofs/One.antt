@@ -1,8 +1,9 @@
 -- A bucket is taken, some of its records are cut, and it is given back.
-use Rattle.std.proofs.Common.{◌≡◌, inl, ℕ, ◌≤◌, ◌^◌, List, [], ◌∷◌, ◌++◌, sym, ap, ◌∙◌, subst, arith}
+use Rattle.std.proofs.Common.{◌≡◌, inl, ℕ, ◌≤◌, ◌^◌, List, [], ◌∷◌, ◌++◌, map, sym, ap, ◌∙◌, subst, arith}
 use Rattle.hg_base.specs.declared.rid.Rid.{Rid}
 use Rattle.hg_base.specs.declared.report.Kind.TheVariants.{Group}
 use Rattle.hg_base.specs.Lists.{Each}
+use Rattle.hg_core.specs.declared.visit.Visit.{Visit}
 use Rattle.hg_core.specs.Contents.{Content, bucket_of}
 use Rattle.hg_core.specs.Counters.{removed_all}
 use Rattle.hg_rule.specs.declared.view.PassPart.{PassPart}
@@ -23,7 +24,7 @@ use Rattle.hg_rounds.specs.Visits.{closed_visit}
 use Rattle.hg_rounds.proofs.Counted.{few}
 use Rattle.hg_rounds.proofs.Going.{more_is, more_only, visits_after}
 use Rattle.hg_rounds.proofs.Visiting.{parts_taken, pass_taken, number_taken, own_taken}
-use Rattle.hg_collectors.specs.Cutting.{AreIn, WasCut, IsCutIn, CutsHeld, CutsAll}
+use Rattle.hg_collectors.specs.Cutting.{AreIn, WasCut, IsCutIn, CutsHeld, CutsAll, VisitsInOrder}
 
 each_both : (P Q S : Rid → Type 0) → ((r : Rid) → P r → Q r → S r) → (rids : List Rid) → Each P rids → Each Q rids → Each S rids
 each_both P Q S f [] a b = tt
@@ -71,6 +72,11 @@ module _ (buckets b bound gone : ℕ) (v x y w : View) (rids : List Rid) (own : 
     cut = each_both (λ r. bucket_of buckets r ≡ b) (IsCutIn bound (number x) c.removes.steps y)
         (WasCut buckets (number v) (pass v).mark bound (closed_visit Group (pass v).mark b gone content ∷ []) c.removes.steps) was_cut rids placed c.cut;
   }
+
+  -- the bucket was visited, and no other
+  pub visits_run : VisitsInOrder (b ∷ []) v w
+  unfolding cuts_run
+  visits_run = ap (λ (visits : List Visit). map (λ visit. visit.bucket) visits) (visits_after Group v w cuts_run.on)
 
   -- no more went than was ever made
   pub run_few : (z : Sizes) (mark : ℕ) → IsBacked z mark x → HasRoom z → HoldsBucket b x → removed_all Group (pass w).visits ≤ 2 ^ 41

@@ -1,5 +1,7 @@
 -- What cutting records makes of a pass's view.
-use Rattle.std.specs.Prelude.{◌≡◌, ℕ, List}
+use Rattle.std.specs.Prelude.{◌≡◌, ◌≢◌, ℕ, List, [], ◌∷◌, ◌++◌, map, reverse, nat_eq, Any, Contains, ⊤}
+use Rattle.std.specs.List.{dedup}
+use Rattle.std.specs.List.Sorted.{IsStrictlyIncreasing}
 use Rattle.hg_base.specs.declared.rid.Rid.{Rid}
 use Rattle.hg_base.specs.declared.report.Kind.TheVariants.{Group}
 use Rattle.hg_base.specs.Lists.{Each}
@@ -35,6 +37,32 @@ pub record CutsAll (buckets bound : ℕ) (v : View) (rids : List Rid) (gone : �
   pub gone_is : gone ≡ gone_in on.steps
   pub takes_none : takes_in on.steps ≡ 0
   pub cut : Each (WasCut buckets (number v) (pass v).mark bound on.visits on.steps) rids
+
+-- ---- which buckets were visited
+
+-- the buckets that the pass has visited, the last one first
+abbrev pub visited : View → List ℕ
+visited v = map (λ visit. visit.bucket) (pass v).visits
+
+-- from v to w the pass visited these buckets, in this order, and no other
+abbrev pub VisitsInOrder : List ℕ → View → View → Type 0
+VisitsInOrder numbers v w = visited w ≡ reverse numbers ++ visited v
+
+-- the buckets of the records in their order, one for each stretch of records of one bucket
+abbrev pub stretches : ℕ → List Rid → List ℕ
+stretches buckets rids = dedup nat_eq (map (bucket_of buckets) rids)
+
+-- the first of the records, if there is one, is not of bucket b
+abbrev pub BeginsElsewhere : ℕ → ℕ → List Rid → Type 0
+BeginsElsewhere buckets b [] = ⊤
+BeginsElsewhere buckets b (r ∷ rids) = bucket_of buckets r ≢ b
+
+-- It visited buckets of these records, and none twice: their numbers rise.
+pub record VisitsEachOnce (buckets : ℕ) (rids : List Rid) (v w : View) : Type 0 where
+  pub numbers : List ℕ
+  pub in_order : VisitsInOrder numbers v w
+  pub rise : IsStrictlyIncreasing numbers
+  pub needed : (b : ℕ) → Contains numbers b → Any (λ r. bucket_of buckets r ≡ b) rids
 
 -- ---- while a bucket is held
 

@@ -1,4 +1,5 @@
 -- What a clause says of a group collector.
+use Rattle.std.specs.Prelude.{◌≡◌, vec_capacity}
 use Rattle.hg_base.specs.declared.report.Kind.TheVariants.{Group}
 use Rattle.hg_base.specs.declared.report.Report.{Report}
 use Rattle.hg_core.specs.Passes.{group_bound}
@@ -13,6 +14,7 @@ use Rattle.hg_rounds.specs.Reports.{Reports}
 use Rattle.hg_rounds.specs.Rounds as rounds
 use Rattle.hg_collectors.specs.Taking.{TakesAll}
 use Rattle.hg_collectors.specs.declared.group.GroupCollector.{GroupCollector}
+use Rattle.hg_collectors.specs.declared.group.TheConstants.{ROOM}
 
 -- its pass
 abbrev pub pass_of : GroupCollector → CollectorPass
@@ -30,9 +32,9 @@ report_in c = rounds.report_in c.rounds
 abbrev pub with_pass : GroupCollector → CollectorPass → GroupCollector
 with_pass c p = record c { rounds = rounds.with_pass c.rounds p }
 
--- its pass is of this board, and it has room for the board's sessions and tables
+-- Its pass is of this board, and it has room for the board's sessions and tables. So many records of groups are taken together.
 abbrev pub IsCollectorOf : BoardId → Sizes → GroupCollector → Type 0
-IsCollectorOf t z c = rounds.AreRoundsOf t z c.rounds
+IsCollectorOf t z c = rounds.AreRoundsOf t z c.rounds × (vec_capacity c.rids ≡ ROOM)
 
 -- One round: a gather, and then groups were taken until as many as the bound of its record were, and their records cut at that
 -- bound. The report is that of the round.

@@ -1,6 +1,6 @@
 //! Cuts of records at the bound of the pass's record, bucket by bucket.
 
-ghost use Rattle.std.specs.Prelude.{◌≡◌, ℕ, ◌<◌, ◌≤◌, ◌^◌, [], length};
+ghost use Rattle.std.specs.Prelude.{◌≡◌, ℕ, ◌<◌, ◌≤◌, ◌^◌, [], ◌∷◌, length, drop, vec_capacity};
 ghost use Rattle.std.specs.List.{between};
 ghost use Rattle.hg_base.specs.declared.report.Kind.TheVariants.{Group};
 ghost use Rattle.hg_core.specs.Passes.{IsWhole, group_bound};
@@ -10,7 +10,7 @@ ghost use Rattle.hg_rule.specs.Holding.{bucket};
 ghost use Rattle.hg_rule.specs.Views.{pass as own_pass};
 ghost use Rattle.hg_rule.specs.Seats.{board_id, sizes_of, pass_view, IsPassOf};
 ghost use Rattle.hg_store.specs.Stores.{store_board_id, store_buckets, held_board_id, held_number, Holds};
-ghost use Rattle.hg_collectors.specs.Cutting.{AreIn, CutsHeld, CutsAll};
+ghost use Rattle.hg_collectors.specs.Cutting.{AreIn, CutsHeld, CutsAll, BeginsElsewhere, VisitsInOrder, VisitsEachOnce, stretches};
 
 use hg_base::Rid;
 use hg_rule::{Board, CollectorPass};
@@ -66,6 +66,8 @@ fn cut_run<R: Wait>(
     requires one { (b : ℕ) × AreIn (sizes_of board.now).buckets b rids.now }
     ensures cuts { CutsAll (sizes_of board.now).buckets bound (pass_view pass.old) rids.now result
         (pass_view pass.new) }
+    ensures visits { (b : ℕ) → AreIn (sizes_of board.now).buckets b rids.now →
+        VisitsInOrder (b ∷ []) (pass_view pass.old) (pass_view pass.new) }
     ensures few { removed_all Group (own_pass (pass_view pass.new)).visits ≤ 2 ^ 41 }
     ensures own { IsPassOf (board_id board.now) pass.new }
 {
@@ -80,7 +82,8 @@ fn run_end(store: &Store, rids: &[Rid], from: usize) -> usize
     requires buckets { 0 < store_buckets store.now }
     requires inside { from < length rids.now }
     ensures some { (from < result) × (result ≤ length rids.now) }
-    ensures one { (b : ℕ) × AreIn (store_buckets store.now) b (between from result rids.now) }
+    ensures one { (b : ℕ) × (AreIn (store_buckets store.now) b (between from result rids.now) ×
+        BeginsElsewhere (store_buckets store.now) b (drop result rids.now)) }
 {
     let bucket = store.bucket_of(rids[from]);
     let mut next = from + 1;
@@ -90,8 +93,7 @@ fn run_end(store: &Store, rids: &[Rid], from: usize) -> usize
     next
 }
 
-/// Cuts each of these records. Those that follow one another and are of one bucket take its lock once. The answer says how many
-/// versions went.
+/// Cuts each of these records. The answer says how many versions went.
 pub(crate) fn cut_all<R: Wait>(
     rt: &R,
     board: &Board,
@@ -110,6 +112,8 @@ pub(crate) fn cut_all<R: Wait>(
     requires few { removed_all Group (own_pass (pass_view pass.old)).visits ≤ 2 ^ 41 }
     ensures cuts { CutsAll (sizes_of board.now).buckets bound (pass_view pass.old) rids.now result
         (pass_view pass.new) }
+    ensures visits { VisitsInOrder (stretches (sizes_of board.now).buckets rids.now)
+        (pass_view pass.old) (pass_view pass.new) }
     ensures few { removed_all Group (own_pass (pass_view pass.new)).visits ≤ 2 ^ 41 }
     ensures own { IsPassOf (board_id board.now) pass.new }
 {
@@ -123,8 +127,7 @@ pub(crate) fn cut_all<R: Wait>(
     gone
 }
 
-/// Cuts each of these records, once and in the order of their buckets, so that each bucket is taken once. The list is empty then,
-/// with its room. The answer says how many versions went.
+/// Cuts each of these records, in the order of their buckets. The answer says how many versions went.
 pub(crate) fn cut_batch<R: Wait>(
     rt: &R,
     board: &Board,
@@ -143,6 +146,9 @@ pub(crate) fn cut_batch<R: Wait>(
     requires few { removed_all Group (own_pass (pass_view pass.old)).visits ≤ 2 ^ 41 }
     ensures cuts { CutsAll (sizes_of board.now).buckets bound (pass_view pass.old) rids.old.items
         result (pass_view pass.new) }
+    ensures visits { VisitsEachOnce (sizes_of board.now).buckets rids.old.items
+        (pass_view pass.old) (pass_view pass.new) }
+    ensures room { vec_capacity rids.new ≡ vec_capacity rids.old }
     ensures empty { rids.new.items ≡ [] }
     ensures few { removed_all Group (own_pass (pass_view pass.new)).visits ≤ 2 ^ 41 }
     ensures own { IsPassOf (board_id board.now) pass.new }

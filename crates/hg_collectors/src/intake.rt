@@ -1,6 +1,6 @@
 //! The intake of groups: they are taken up to a bound, oldest first.
 
-ghost use Rattle.std.specs.Prelude.{◌≡◌, ◌<◌, ◌≤◌, ◌^◌};
+ghost use Rattle.std.specs.Prelude.{◌≡◌, ◌<◌, ◌≤◌, ◌^◌, vec_capacity};
 ghost use Rattle.hg_base.specs.declared.report.Kind.TheVariants.{Group};
 ghost use Rattle.hg_core.specs.Passes.{IsWhole, group_bound};
 ghost use Rattle.hg_core.specs.Counters.{removed_all};
@@ -45,6 +45,7 @@ impl GroupCollector {
         ensures own { IsPassOf (board_id board.now) (pass_of self.new) }
         ensures same { (self.new.rounds.gathered ≡ self.old.rounds.gathered) ×
             (self.new.rounds.report ≡ self.old.rounds.report) }
+        ensures room { vec_capacity self.new.rids ≡ vec_capacity self.old.rids }
     {
         let pass = &mut self.rounds.pass;
         let rids = &mut self.rids;

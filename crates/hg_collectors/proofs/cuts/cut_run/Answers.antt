@@ -1,13 +1,13 @@
-use Rattle.std.proofs.Common.{◌≡◌, get_or, sym, ap, ◌∙◌, subst, arith}
+use Rattle.std.proofs.Common.{◌≡◌, ◌∷◌, [], get_or, sym, ap, ◌∙◌, subst, arith}
 use Rattle.hg_base.specs.declared.rid.Rid.{Rid}
 use Rattle.hg_core.specs.Contents.{bucket_of}
 use Rattle.hg_rule.specs.Places.{HoldsBucket}
 use Rattle.hg_rule.specs.Seats.{sizes_of, pass_view}
 use Rattle.hg_store.specs.Stores.{held_number}
 use Rattle.hg_store.proofs.Holding.{total_at}
-use Rattle.hg_collectors.specs.Cutting.{AreIn}
+use Rattle.hg_collectors.specs.Cutting.{AreIn, VisitsInOrder}
 use Rattle.hg_collectors.proofs.Going.{first_of}
-use Rattle.hg_collectors.proofs.One.{cuts_run, run_few}
+use Rattle.hg_collectors.proofs.One.{cuts_run, run_few, visits_run}
 use Rattle.hg_collectors.proofs.cuts.cut_run.Given as given
 use Rattle.hg_collectors.proofs.cuts.cut_run.Goals as goal
 
@@ -43,3 +43,13 @@ returns-clause-few g c =
     (pass_view c.give.new.pass) c.args.rids.now
     c.requires.own.1 c.take-held.ensures.view c.cut_held-gone.ensures.own.1 c.cut_held-gone.ensures.cuts c.give.ensures.view (placed g c)
     (sizes_of c.args.board.now) t.0 t.1 c.args.board.now.room (subst (λ n. HoldsBucket n x) c.take-held.ensures.held.1 c.take-held.ensures.holds.has)
+
+pub returns-clause-visits : goal.returns-clause-visits
+returns-clause-visits g c = λ b all.
+    let z = (sizes_of c.args.board.now).buckets in
+    let at = first_of (λ r. bucket_of z r ≡ b) c.args.rids.now first c.requires.some all in
+    let taken = first_of (λ r. bucket_of z r ≡ c.bucket_of.result) c.args.rids.now first c.requires.some (placed g c) in
+    subst (λ n. VisitsInOrder (n ∷ []) (pass_view c.args.pass.now) (pass_view c.give.new.pass)) (sym taken ∙ at)
+    (visits_run z c.bucket_of.result c.args.bound c.cut_held-gone.result (pass_view c.args.pass.now) (pass_view c.take-held.new.pass)
+    (pass_view c.cut_held-gone.new.pass) (pass_view c.give.new.pass) c.args.rids.now
+    c.requires.own.1 c.take-held.ensures.view c.cut_held-gone.ensures.own.1 c.cut_held-gone.ensures.cuts c.give.ensures.view (placed g c))

@@ -118,7 +118,7 @@ returns-in-Group-clause-own g c =
       table_is = own.table_is;
       interval_is = own.interval_is;
       alone = record {
-        group = lone_swept t 0 kinds.Group z.sessions made.0 (group.pass_of old.group) (group.pass_of new) own.alone.group c.make_round.ensures.own.0 swept;
+        group = lone_swept t 0 kinds.Group z.sessions made.0 (group.pass_of old.group) (group.pass_of new) own.alone.group c.make_round.ensures.own.0.0 swept;
         table = own.alone.table;
         interval = own.alone.interval;
       };

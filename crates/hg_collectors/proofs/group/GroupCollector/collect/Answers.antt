@@ -29,7 +29,7 @@ rewrite-requires g c =
     let z = (board_sizes c.args.trackers.now).sessions in
     let x = pass (pass_view c.gather.new.pass) in
     let same = c.take_groups-removed.ensures.same in
-    record { room = (z, x, subst (IsGatherOf z x) (sym same.0) c.gather.ensures.shown, subst (λ (r : Report). z ≤ r.entries.room) (sym same.1) c.requires.own.1.1) }
+    record { room = (z, x, subst (IsGatherOf z x) (sym same.0) c.gather.ensures.shown, subst (λ (r : Report). z ≤ r.entries.room) (sym same.1) c.requires.own.0.1.1) }
 
 pub returns-clause-collects : goal.returns-clause-collects
 returns-clause-collects g c =

@@ -1,4 +1,4 @@
-use Rattle.std.proofs.Common.{Some, subst, arith}
+use Rattle.std.proofs.Common.{Some, refl, ◌∙◌, subst, arith}
 use Rattle.hg_rule.specs.Seats.{sizes_of, pass_view}
 use Rattle.hg_group.specs.Oldest.{TakesSome}
 use Rattle.hg_collectors.proofs.Groups.{groups_none, groups_all, batch_few, turn, turn_few, turn_ends, bound_low}
@@ -9,6 +9,7 @@ loop-last-init g c = record {
   takes = groups_none (sizes_of c.args.board.now).buckets c.args.bound (pass_view c.args.self.now.rounds.pass) c.requires.own.1;
   few = c.requires.few;
   own = c.requires.own;
+  room = refl;
 }
 
 pub take_some-requires-clause-bound : goal.take_some-requires-clause-bound
@@ -36,7 +37,7 @@ loop-last-preserved g c =
     (pass_view c.cut_batch-gone.new.pass) (pass_view c.cut_all-gone.new.pass) c.loop-last.gone c.cut_batch-gone.result c.cut_all-gone.result c.loop-last.rids.items
     c.take_some.new.into.items c.as_slice.result.now c.in-Some.last
     c.loop-last.invariant.takes c.in-Some.ensures.taken c.cut_batch-gone.ensures.cuts c.as_slice.ensures c.cut_all-gone.ensures.cuts in
-    record { takes = more; few = c.cut_all-gone.ensures.few; own = c.cut_all-gone.ensures.own }
+    record { takes = more; few = c.cut_all-gone.ensures.few; own = c.cut_all-gone.ensures.own; room = c.cut_batch-gone.ensures.room ∙ c.in-Some.ensures.same ∙ c.loop-last.invariant.room }
 
 pub loop-last-smaller : goal.loop-last-smaller
 loop-last-smaller g c = turn_ends (sizes_of c.args.board.now).buckets c.args.bound (pass_view c.args.self.now.rounds.pass) (pass_view c.loop-last.pass)

@@ -1,4 +1,4 @@
-use Rattle.std.proofs.Common.{◌≤◌, ◌^◌, ◌-◌}
+use Rattle.std.proofs.Common.{◌≡◌, ◌≤◌, ◌^◌, ◌-◌, vec_capacity}
 use Rattle.hg_base.specs.declared.report.Kind.TheVariants.{Group}
 use Rattle.hg_rule.specs.Views.{pass as own_pass}
 use Rattle.hg_rule.specs.Rounds.{seen_taken}
@@ -12,6 +12,7 @@ invariant-loop-last g l = record {
   takes : TakesGroups (sizes_of l.board).buckets l.bound (pass_view l.fn.self.rounds.pass) l.gone (pass_view l.pass);
   few : removed_all Group (own_pass (pass_view l.pass)).visits ≤ 2 ^ 41;
   own : IsPassOf (board_id l.board) l.pass;
+  room : vec_capacity l.rids ≡ vec_capacity l.fn.self.rids;
 }
 
 -- the groups that are left below the bound
