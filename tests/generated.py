@@ -1,6 +1,7 @@
 """Tests whose scripts are made by code."""
 
 import collections
+import time
 
 import clients
 from program import NO_TOTALS, Wrong, audit, expect, expect_end, records_of, replies_of, run_to_full_disk, shown, sound_text
@@ -29,6 +30,13 @@ def records_are_limited():
     wanted = b"".join(b"1,%d,begun,0\n1,%d,ended\n" % (place, place + 1) for place in range(1, MOST_RECORDS, 2))
     expect("the text", wanted + NO_TOTALS, text_of("replay", script))
     expect_end("replay", script + b"1,begin\n", 3, b"script record 1048577: Count\n")
+
+
+def lists_go_past_sixteen_bits():
+    """One bucket has more records than sixteen bits count, its table's list too, and an audit judges more lines: none of them refuses
+    memory."""
+    script = b"table,t,1\n" + b"".join(b"1,put,t,%d,7\n" % key for key in range(70_000))
+    has(totals_of(records_of(sound_text("replay --buckets 1", script))), made=70_000, left=70_000)
 
 
 def a_text_cannot_be_written(words):
@@ -106,6 +114,19 @@ def rounds_remove_more_than_half():
     removed = totals["group"] + totals["interval"] + sum(by_table)
     if removed <= 7_800:
         raise Wrong(f"the versions that the rounds remove\n    wanted: more than 7800\n    found:  {removed}")
+
+
+def each_session_is_counted():
+    """64 sessions put ten keys each, and the last of 100 rounds waits for nearly all of the records. If a session is not counted, a
+    collector waits for records that never come, until it gives up after a tenth of a second. The fastest of five runs is compared."""
+    script = b"table,t,1\n" + b"".join(b"%d,put,t,%d,7\n" % (session, 100 * session + i) for i in range(10) for session in range(1, 65))
+    took = []
+    for _ in range(5):
+        start = time.monotonic()
+        text_of("run --rounds 100", script)
+        took.append(time.monotonic() - start)
+    if min(took) >= 0.1:
+        raise Wrong(f"the seconds that the fastest of five runs takes\n    wanted: less than 0.1\n    found:  {min(took):.3f}")
 
 
 def cursors_stay_beside_the_collectors(words):
@@ -190,6 +211,7 @@ def scripts_by_chance():
 TESTS = (
     (length_is_limited,),
     (records_are_limited,),
+    (lists_go_past_sixteen_bits,),
     (a_text_cannot_be_written, "replay", "live"),
     (twenty_accounts_are_left,),
     (long_readers_stay, "run --rounds 50", "run --rounds 50 --sweepers 4"),
@@ -218,3 +240,4 @@ def tests_alone():
     """Yields the tests that depend on how much else is at work, which are made one after the other when the others are over."""
     for count in range(1, 4):
         yield f"rounds_remove_more_than_half {count}", rounds_remove_more_than_half, ()
+    yield "each_session_is_counted", each_session_is_counted, ()
