@@ -191,6 +191,24 @@ def eight_writers_are_dumped():
         is_put_back(dump)
 
 
+def a_dump_shows_whole_transactions():
+    """Eight sessions put two keys of their own in each transaction, whose sum is 200. So it is in a dump, if it has them."""
+    script = b"table,t,1\n" + b"".join(
+        b"%d,begin\n%d,put,t,%d,%d\n%d,put,t,%d,%d\n%d,commit\n"
+        % (session, session, 2 * session, 100 - count, session, 2 * session + 1, 100 + count, session)
+        for count in range(50)
+        for session in range(1, 9)
+    )
+    parts = text_of("dump --rounds 20", script).split(b"snapshot,")
+    expect("the parts of a dump", 3, len(parts))
+    for dump in parts[1:]:
+        sums = collections.Counter()
+        for record in records_of(dump)[2:]:
+            sums[int(record[3]) // 2] += int(record[4])
+        expect("the sums", {pair: 200 for pair in sums}, dict(sums))
+    expect("the pairs in the last dump", 8, len(sums))
+
+
 def what_is_left_is_left_again(version, script):
     """What a script by chance leaves is left again by the script that is written of it."""
     rows = rows_left(script)
@@ -224,6 +242,7 @@ TESTS = (
     (a_made_script_is_sound, *range(10), 2**32, 2**64 - 1),
     (edited_texts_are_unsound,),
     (eight_writers_are_dumped,),
+    (a_dump_shows_whole_transactions,),
 )
 
 
