@@ -49,6 +49,7 @@ pub mod Counts
 pub mod InOrder
 pub mod Opens
 pub mod Fetched
+pub mod PutRows
 pub mod FitRows
 pub mod Widths
 pub mod Few

@@ -27,7 +27,7 @@ use Rattle.hg_headline.proofs.Words.{same_number}
 use Rattle.hg_script.specs.declared.rules.TheConstants.{MOST_FETCHED}
 use Rattle.hg_script.specs.Lawful.{IsLawful, IsStatement, FitsTables, HasWidths}
 use Rattle.hg_exact.specs.Rows.{AsksRow, FoundRow, FoundRows}
-use Rattle.hg_exact.proofs.FitRows.{all_ask}
+use Rattle.hg_exact.proofs.PutRows.{all_ask}
 use Rattle.hg_exact.proofs.Counts.{IsIn, no_more}
 use Rattle.hg_exact.proofs.Fetched.{IsRestOf}
 use Rattle.hg_exact.proofs.InOrder.{each_in_order}

@@ -35,6 +35,7 @@
 //!
 //! What is sound for a script, in any mode, has its rows, its numbers and its lines in the widths and columns of the format (`fit`):
 //!
+//!     any lines                                    =>     each row that their history shows was put by a record
 //!     lawful script  +  sound lines and totals     =>     each row has its table's columns
 //!                                                  =>     each number has its width, each line answers its record
 //!
@@ -52,7 +53,7 @@ pub use conversations::{
     next_answer_is_due, scripts_are_conversed_as_replayed, totals_are_of_the_lines_so_far,
     totals_so_far_are_replayed, what_is_conversed_is_replayed,
 };
-pub use fit::{rows_have_their_columns, what_is_sound_fits};
+pub use fit::{rows_have_their_columns, shown_rows_were_put, what_is_sound_fits};
 pub use laws::{
     answered_records_are_replayed, commit_numbers_ascend, lawful_scripts_are_answered,
     newest_group_is_of_the_history, shown_first_causes_are_replayed,
