@@ -37,5 +37,6 @@ pub mod Exported
 pub mod Stored
 pub mod Images
 pub mod Restored
+pub mod Backup
 -- The example.
 pub mod Examples

@@ -3,6 +3,8 @@ pub mod Rows
 pub mod Dumps
 -- The text of that script: its records as lists of fields, and their bytes.
 pub mod Records
+-- What that text is worth.
+pub mod Backup
 -- What an export needs of a session, and what it leaves.
 pub mod Exports
 -- What the parts of an export write.

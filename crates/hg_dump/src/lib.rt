@@ -46,6 +46,9 @@
 //! order within a group. A replay of a dump stores each of its rows, and at its end shows what the snapshot showed
 //! (`a_replay_restores_a_dump`).
 //!
+//! So a printed dump is a backup (`IsBackup`): each of its rows was put by a statement of the script, and fits its table as that does, and
+//! no statement put two of them. So a dump has at most as many records as its script.
+//!
 //! `HasRunWith` is what a driver shows at its end. Its logs have what the reader did in full, with one look for each bucket that it
 //! read; the lines need the begins and ends alone, and `looks_leave_the_log_right` leaves the looks out.
 #![tactic(auto)]
@@ -71,6 +74,8 @@ pub use laws::{
 };
 pub use puts::puts_text;
 pub use read_back::{a_dump_is_read_back, a_snapshot_has_one_dump};
-pub use restore::{a_replay_of_a_dump_text_restores_it, a_replay_restores_a_dump};
+pub use restore::{
+    a_dump_of_put_rows_is_a_backup, a_replay_of_a_dump_text_restores_it, a_replay_restores_a_dump,
+};
 pub use tools::Tools;
 pub use worked::{a_dump_is_replayed, a_held_reader_is_sound_with_its_lines};

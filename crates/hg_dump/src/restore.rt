@@ -12,6 +12,7 @@ ghost use Rattle.hg_base.specs.Transcript.{history_of};
 ghost use Rattle.hg_script.specs.Fields.{rows_of};
 ghost use Rattle.hg_script.specs.Lawful.{IsLawful};
 ghost use Rattle.hg_script.specs.Meaning.{script_of};
+ghost use Rattle.hg_dump.specs.Backup.{IsBackup, ShowsPutRows};
 ghost use Rattle.hg_dump.specs.Dumps.{IsReadable, dump_of};
 ghost use Rattle.hg_dump.specs.Records.{dump_text};
 ghost use Rattle.hg_dump.specs.Rows.{is_declared, rows_at};
@@ -52,4 +53,14 @@ pub fn a_replay_of_a_dump_text_restores_it()
         LinesAreSound replay read lines →
         let restored = history_of (all_said replay read lines) in
         rows_at script.tables restored (length restored) ≡ rows_at script.tables h s }
+{}
+
+/// The dump of rows that were put by the records of a lawful script is a backup: each row fits its table, as its put does, and no
+/// put is that of two rows.
+pub fn a_dump_of_put_rows_is_a_backup()
+    ensures readable { (script : Script) (h : History) (s : ℕ) → IsLawful script →
+        ShowsPutRows script.records h s → IsReadable script (rows_at script.tables h s) }
+    ensures backup { (script : Script) (h : History) (s : ℕ) → IsLawful script →
+        ShowsPutRows script.records h s →
+        IsBackup script h s (dump_text script (rows_at script.tables h s)) }
 {}
