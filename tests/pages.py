@@ -1,8 +1,9 @@
 #!/usr/bin/env python3
 """Runs the examples of pages, and compares what they print with what the pages say: tests/pages.py [PAGE..]
 
-    tests/pages.py                        docs/TOOLS.md
+    tests/pages.py                        docs/TUTORIAL.md and docs/TOOLS.md
     tests/pages.py docs/TOOLS.md          one page
+    tests/pages.py --in FOLDER PAGE..     in an unpacked archive of ./dist, and with its program and tools
     HYBRIDGC=PATH tests/pages.py          another program than crates/hybridgc/out/hybridgc
 
 An example is a fenced block whose first line begins with `$ `: such a line is a command, and the lines up to the next one are what it
@@ -11,14 +12,13 @@ whose `<<` document is not at its end. A line `...` stands for any number of lin
 are not run.
 
 The blocks of a page run in order in one shell and in one new folder, so a later block sees files and processes of those before it. There
-are `tools/` and `examples/` in it, and both the tools and `hybridgc` are on the PATH. What a page leaves running is ended. A block that
+are `hybridgc`, `tools/` and `examples/` in it, and both the tools and `hybridgc` are on the PATH. What a page leaves running is ended. A block that
 fails is shown as a diff. The last line is 'N examples of pages passed, M failed', and the exit status is 1 if any failed.
 """
 
 from __future__ import annotations
 
 import difflib
-import glob
 import os
 import re
 import signal
@@ -98,16 +98,22 @@ def is_as_wanted(wanted: list[str], found: list[str]) -> bool:
     return re.fullmatch(pattern_of(wanted), "".join(line + "\n" for line in found)) is not None
 
 
+def furnish(folder: str) -> None:
+    """Puts into a folder what an archive has there: the program, the tools and the examples."""
+    for name in ("tools", "examples"):
+        os.symlink(os.path.join(ROOT, name), os.path.join(folder, name))
+    os.symlink(program(), os.path.join(folder, "hybridgc"))
+
+
 class Shell:
-    """A shell in a new folder, whose commands run one after the other."""
+    """A shell in a folder with a program, tools and examples, whose commands run one after the other."""
 
     def __init__(self, folder: str):
-        os.symlink(os.path.join(ROOT, "tools"), os.path.join(folder, "tools"))
-        os.symlink(os.path.join(ROOT, "examples"), os.path.join(folder, "examples"))
-        os.mkdir(os.path.join(folder, ".bin"))
-        os.symlink(program(), os.path.join(folder, ".bin", "hybridgc"))
-        path = os.pathsep.join([os.path.join(folder, ".bin"), os.path.join(ROOT, "tools"), os.environ["PATH"]])
-        env = {**os.environ, "PATH": path, "HYBRIDGC": program(), "PYTHONDONTWRITEBYTECODE": "1", "NO_COLOR": "1", "COLUMNS": "120", "LC_ALL": "C.UTF-8"}
+        path = os.pathsep.join([folder, os.path.join(folder, "tools"), os.environ["PATH"]])
+        env = {**os.environ, "PATH": path, "PYTHONDONTWRITEBYTECODE": "1", "NO_COLOR": "1", "COLUMNS": "120", "LC_ALL": "C.UTF-8"}
+        # Tools that are linked look for the program where they lie.
+        if os.path.islink(os.path.join(folder, "tools")):
+            env["HYBRIDGC"] = os.path.join(folder, "hybridgc")
         self.process = subprocess.Popen(
             ["bash", "--noprofile", "--norc"], cwd=folder, env=env, stdin=subprocess.PIPE, stdout=subprocess.PIPE,
             stderr=subprocess.STDOUT, text=True, errors="backslashreplace", start_new_session=True,
@@ -147,11 +153,13 @@ def difference(wanted: list[str], found: list[str]) -> str:
     return "\n".join(list(difflib.unified_diff(wanted, found, "the page", "what was printed", lineterm="", n=2)))
 
 
-def check(page: str) -> tuple[int, int]:
-    """Runs the examples of a page, and returns how many passed and how many failed."""
+def check(page: str, archive: str | None) -> tuple[int, int]:
+    """Runs the examples of a page, in an archive or in a new folder, and returns how many passed and how many failed."""
     passed = failed = 0
-    with tempfile.TemporaryDirectory() as folder:
-        shell = Shell(folder)
+    with tempfile.TemporaryDirectory() as new:
+        if not archive:
+            furnish(new)
+        shell = Shell(archive or new)
         signal.signal(signal.SIGALRM, lambda *_: os.killpg(shell.process.pid, signal.SIGKILL))
         signal.alarm(SECONDS)
         try:
@@ -175,10 +183,14 @@ def main() -> None:
     if sys.argv[1:] in (["--help"], ["-h"]):
         print(__doc__.strip())
         return
-    pages = sys.argv[1:] or sorted(glob.glob(os.path.join(ROOT, "docs", "TOOLS*.md")))
+    words, archive = sys.argv[1:], None
+    if words[:1] == ["--in"] and len(words) > 2:
+        archive, words = os.path.abspath(words[1]), words[2:]
+    pages = words or [os.path.join(ROOT, "docs", name) for name in ("TUTORIAL.md", "TOOLS.md")]
     try:
-        program()
-        counts = [check(page) for page in pages]
+        if not archive:
+            program()
+        counts = [check(page, archive) for page in pages]
     except (Missing, OSError) as fault:
         sys.exit(f"tests/pages.py: {fault}")
     passed, failed = (sum(count[i] for count in counts) for i in (0, 1))
