@@ -13,7 +13,7 @@ LENGTHS = (20, 40, 80, 160)
 
 
 class NoMaker(Exception):
-    """bench/chance.py is missing, as in an archive of ./dist."""
+    """bench/chance.py is missing, as where tools/ was copied alone."""
 
 
 class OneWriter:
