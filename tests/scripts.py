@@ -79,7 +79,7 @@ def readers_in_parts():
 
 
 class Chance:
-    """Numbers by chance, as docs/FORMATS.md draws them for the script of a seed."""
+    """Numbers by chance, as crates/hg_seed/specs/Generator.antt draws them for the script of a seed."""
 
     def __init__(self, seed):
         self.state = seed
@@ -91,7 +91,7 @@ class Chance:
 
 
 def made(seed):
-    """Returns the script of a seed, as docs/FORMATS.md tells it."""
+    """Returns the script of a seed, a second reading of crates/hg_seed/specs/Generator.antt."""
     draw = Chance(seed).below
     script = ["table,a,1\ntable,b,2\ntable,c,1\n"]
     within = [False] * 9
