@@ -1,5 +1,6 @@
 -- A conversation, from what its host and its client leave.
 use Rattle.std.proofs.Common.{◌≡◌, ◌∙◌, inl, inr, ℕ, ◌≤◌, arith, false, List, [], ◌∷◌, ◌++◌, map, Result, Ok, Err, None, refl, sym, ap, subst, append_assoc, append-nil}
+use Rattle.std.proofs.lemmas.List.{map_push}
 use Rattle.std.specs.Prelude.{OnOk, IfErr}
 use Rattle.csv.specs.Reading.{strip_bom}
 use Rattle.hg_base.specs.Faults.{Rose}
@@ -31,22 +32,18 @@ use Rattle.hg_run.proofs.Stopping.{live_stopped}
 
 -- ---- one more is heard
 
-map_one : {A B : Type 0} (f : A → B) (xs : List A) (x : A) → map f (xs ++ x ∷ []) ≡ map f xs ++ f x ∷ []
-map_one f [] x = refl
-map_one f (y ∷ xs) x = ap (λ l. f y ∷ l) (map_one f xs x)
-
 -- the answer was made, and is among what was heard
 pub ready_more : (t : Talk) (heard : List Exchange) (answers : List Answered) (x : Sent) (text : List ℕ) → AreHeard heard answers →
     IsSaid t.desk (asked_in heard) answers x [] text → t.minutes.exchanges ≡ heard ++ (record { asked = x; answer = text }) ∷ [] → IsReady t
 ready_more t heard answers x text are said is =
     let e : Exchange = record { asked = x; answer = text } in
-    let asked : asked_in t.minutes.exchanges ≡ asked_in heard ++ x ∷ [] = ap asked_in is ∙ map_one (λ (e : Exchange). e.asked) heard e in
+    let asked : asked_in t.minutes.exchanges ≡ asked_in heard ++ x ∷ [] = ap asked_in is ∙ map_push (λ (e : Exchange). e.asked) heard e in
     record {
       answers = answers ++ said.answer ∷ [];
       going = subst (λ s. IsGoing t.desk s (answers ++ said.answer ∷ [])) (sym asked) said.going;
-      heard = ap (map (λ (e : Exchange). e.answer)) is ∙ map_one (λ (e : Exchange). e.answer) heard e
+      heard = ap (map (λ (e : Exchange). e.answer)) is ∙ map_push (λ (e : Exchange). e.answer) heard e
           ∙ ap (λ l. l ++ text ∷ []) are ∙ ap (λ b. map (answer_text record_bytes) answers ++ b ∷ []) said.text
-          ∙ sym (map_one (answer_text record_bytes) answers said.answer);
+          ∙ sym (map_push (answer_text record_bytes) answers said.answer);
     }
 
 -- the answer was made, and lost

@@ -26,6 +26,7 @@ mod Unsaid
 mod RunningOut
 mod Living
 mod Stopping
+mod Accepting
 mod Desking
 mod Conversing
 -- Its totals, in the midst and at its end.

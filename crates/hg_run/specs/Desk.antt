@@ -59,7 +59,7 @@ abbrev pub IsCause : List Sent → Stop → Type 0
 IsCause sent stop.NoMemory = ⊤
 IsCause sent stop.Spent = IsSpent sent
 
--- All this was sent and answered so, and then no more may be. Of what was sent last, `unsaid`, the answers were lost for lack of memory.
+-- All this was sent and answered so, and then no more may be. The answers to what was sent last (`unsaid`) were lost when memory ran out.
 pub record HasEnded (d : Desk) (sent : List Sent) (answers : List Answered) (why : Stop) : Type 0 where
   pub unsaid : List Sent
   pub lost : List Answered

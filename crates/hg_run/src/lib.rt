@@ -63,6 +63,7 @@ mod reply;
 mod run;
 mod run_text;
 mod saying;
+mod statement;
 mod steps;
 mod talk;
 mod turn;

@@ -3,7 +3,7 @@ use Rattle.std.specs.Prelude.{bytes_eq}
 use Rattle.csv.proofs.RecordFacts.{field-get}
 use Rattle.csv.specs.Records.{fields_of}
 use Rattle.hg_script.proofs.Rows.{field-none}
-use Rattle.hg_run.proofs.Desking.{asks_one, asks_other}
+use Rattle.hg_run.proofs.Accepting.{asks_one}
 use Rattle.hg_run.proofs.saying.asks_totals.Goals as goal
 
 pub returns-in-Some : goal.returns-in-Some

@@ -4,7 +4,7 @@ use Rattle.hg_base.specs.Transcript.{of_session}
 use Rattle.hg_session.specs.Engines.{engine_sizes}
 use Rattle.hg_collectors.proofs.Among.{if_ok}
 use Rattle.hg_run.specs.Asked.{IsOnTables}
-use Rattle.hg_run.proofs.Desking.{on_err}
+use Rattle.hg_run.proofs.RunningOut.{on_err}
 use Rattle.hg_run.proofs.desk.Desk.reply.Goals as goal
 
 pub answer_next-reply-requires-clause-may : goal.answer_next-reply-requires-clause-may

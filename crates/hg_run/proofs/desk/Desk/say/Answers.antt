@@ -7,7 +7,8 @@ use Rattle.hg_run.specs.Desk.{IsSaid}
 use Rattle.hg_talk.specs.declared.trouble.Stop.TheVariants as stop
 use Rattle.hg_exact.specs.Conversed.{TooLong, accepted}
 use Rattle.hg_exact.proofs.Due.{due_long}
-use Rattle.hg_run.proofs.Desking.{going_ended, going_stops, if_err, on_ok, said_quiet, stops}
+use Rattle.hg_run.proofs.Asking.{on_ok}
+use Rattle.hg_run.proofs.Desking.{going_ended, going_stops, if_err, said_quiet, stops}
 use Rattle.hg_run.proofs.desk.Desk.say.Goals as goal
 
 pub returns-then-self-clause-ended : goal.returns-then-self-clause-ended

@@ -9,7 +9,9 @@ use Rattle.hg_talk.specs.declared.trouble.Stop.TheVariants as stop
 use Rattle.hg_exact.specs.AnswerText.{answer_text}
 use Rattle.hg_exact.specs.Conversed.{Bad, Declared, accepted}
 use Rattle.hg_exact.proofs.Due.{due_bad, due_declared}
-use Rattle.hg_run.proofs.Desking.{going_stops, heard_as, hearing_of, if_err, on_ok, said_quiet, stops}
+use Rattle.hg_run.proofs.Accepting.{heard_as, hearing_of}
+use Rattle.hg_run.proofs.Asking.{on_ok}
+use Rattle.hg_run.proofs.Desking.{going_stops, if_err, said_quiet, stops}
 use Rattle.hg_run.proofs.desk.Desk.say_record.Goals as goal
 
 pub returns-in_err-code-clause-ended : goal.returns-in_err-code-clause-ended

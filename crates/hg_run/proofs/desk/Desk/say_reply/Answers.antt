@@ -14,7 +14,8 @@ use Rattle.hg_run.specs.declared.desk.Desk.{Desk}
 use Rattle.hg_run.specs.Desk.{IsHearing}
 use Rattle.hg_run.specs.Live.{IsLive}
 use Rattle.hg_run.specs.Untold.{HaveTold}
-use Rattle.hg_run.proofs.Desking.{cause_spent, ended_now, hearing_accepted, hearing_comes, reply_lost, reply_said, stops}
+use Rattle.hg_run.proofs.Accepting.{hearing_accepted, hearing_comes}
+use Rattle.hg_run.proofs.Desking.{cause_spent, ended_now, reply_lost, reply_said, stops}
 use Rattle.hg_run.proofs.desk.Desk.say_reply.Goals as goal
 
 pub reply-requires-clause-may : goal.reply-requires-clause-may
