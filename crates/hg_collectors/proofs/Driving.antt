@@ -1,5 +1,5 @@
 -- Rounds one after the other, with meetings between them.
-use Rattle.std.proofs.Common.{◌≡◌, ◌⊎◌, inl, inr, ℕ, suc, ◌+◌, ◌≢◌, List, [], ◌∷◌, ◌++◌, Bool, true, false, Option, None, refl, sym, ap, ◌∙◌, subst, arith}
+use Rattle.std.proofs.Common.{◌≡◌, ◌⊎◌, inl, inr, ℕ, ◌+◌, ◌≢◌, List, [], ◌∷◌, ◌++◌, Bool, true, false, Option, None, refl, sym, ap, ◌∙◌, subst, arith}
 use Rattle.std.specs.Prelude.{cond, filter, filter_map, sum_by, IfOk, Result}
 use Rattle.std.specs.List.{cons_option}
 use Rattle.std.proofs.lemmas.List.Elements.{filter-append, filter_map-append}
@@ -27,7 +27,7 @@ use Rattle.hg_rule.specs.Views.{part_number, pass, pass_there, first_in, after_f
 use Rattle.hg_collectors.specs.declared.collectors.Collectors.{Collectors}
 use Rattle.hg_collectors.specs.Collecting.{HaveMade, IsLone, removed_of, view_in}
 use Rattle.hg_collectors.specs.Rounding.{IsRoundBy, AreRounds}
-use Rattle.hg_collectors.specs.Telling.{reply_of, sweep_lines, sweeps_in, sweeps_of}
+use Rattle.hg_collectors.specs.Telling.{reply_of, sweeps_in, sweeps_of}
 use Rattle.hg_collectors.specs.Swept.{HasSwept, HasMetSessions, swept_by}
 use Rattle.hg_collectors.proofs.Among.{if_ok}
 use Rattle.hg_collectors.proofs.Meetings.{met_none, met_more}
@@ -152,35 +152,6 @@ pub made_more : (z : Sizes) (long : ℕ) (a b c : Collectors) (lines : List Line
 made_more z long a b c lines line before now k =
     subst (λ sweeps. AreRounds (IsRoundBy k z long) (view_in k a) sweeps (view_in k c)) (sym (told_append k lines (line ∷ [])))
     (rounds_append (IsRoundBy k z long) (view_in k a) (view_in k b) (view_in k c) (sweeps_of k lines) (sweeps_in k line.reply) (before k) (now k))
-
--- the lines of a collector's rounds tell these
-lines_told : (n : ℕ) (sweeps : List Sweep) → filter_map (λ (line : Line). report_of line.reply) (sweep_lines n sweeps) ≡ sweeps
-lines_told n [] = refl
-lines_told n (sweep ∷ sweeps) = ap (λ l. sweep ∷ l) (lines_told (suc n) sweeps)
-
--- rounds of one kind are told as rounds of that kind alone
-kinds_told : (kind k : Kind) (z : Sizes) (long : ℕ) (v w : View) (sweeps : List Sweep) → AreRounds (IsRoundBy kind z long) v sweeps w →
-    filter (λ (sweep : Sweep). same_kind sweep.kind k) sweeps ≡ cond (same_kind kind k) sweeps []
-kinds_told kind k z long v w [] m = go (same_kind kind k)
-  where
-    go : (t : Bool) → ◌≡◌ {A = List Sweep} [] (cond t [] [])
-    go true = refl
-    go false = refl
-kinds_told kind k z long v w (sweep ∷ sweeps) (a, (m, (b, (round, rest)))) =
-    subst (λ t. cond t (sweep ∷ filter (λ (s : Sweep). same_kind s.kind k) sweeps) (filter (λ (s : Sweep). same_kind s.kind k) sweeps) ≡ cond (same_kind kind k) (sweep ∷ sweeps) [])
-    (sym (ap (λ (x : Kind). same_kind x k) is)) (go (same_kind kind k) (kinds_told kind k z long b w sweeps rest))
-  where
-    is : sweep.kind ≡ kind
-    is = ap (λ (s : Sweep). s.kind) (swept_of kind z long a b sweep round).told
-
-    go : (t : Bool) → filter (λ (s : Sweep). same_kind s.kind k) sweeps ≡ cond t sweeps [] →
-        cond t (sweep ∷ filter (λ (s : Sweep). same_kind s.kind k) sweeps) (filter (λ (s : Sweep). same_kind s.kind k) sweeps) ≡ cond t (sweep ∷ sweeps) []
-    go true later = ap (λ l. sweep ∷ l) later
-    go false later = later
-
-pub told_lines : (kind k : Kind) (z : Sizes) (long : ℕ) (v w : View) (sweeps : List Sweep) → AreRounds (IsRoundBy kind z long) v sweeps w →
-    sweeps_of k (sweep_lines 1 sweeps) ≡ cond (same_kind kind k) sweeps []
-told_lines kind k z long v w sweeps rounds = ap (filter (λ (s : Sweep). same_kind s.kind k)) (lines_told 1 sweeps) ∙ kinds_told kind k z long v w sweeps rounds
 
 -- ---- what a round of one leaves of all
 

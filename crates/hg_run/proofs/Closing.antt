@@ -1,4 +1,4 @@
--- A run or a replay that was closed is sound, and its lines report the rounds that were made.
+-- A run or a replay that was closed is sound.
 use Rattle.std.proofs.Common.{◌≡◌, ◌≤◌, ℕ, List, sym, subst, arith, ◌∙◌}
 use Rattle.std.specs.Prelude.{Result, Ok, Err, IfOk, IsOkAnd}
 use Rattle.hg_base.specs.declared.line.Line.{Line}
@@ -22,38 +22,27 @@ use Rattle.hg_headline.proofs.Closing.{following_last}
 use Rattle.hg_session.specs.Finished.{logs_of}
 use Rattle.hg_collectors.specs.Collecting.{removed_of}
 use Rattle.hg_run.specs.Ended.{HasReplayedToEnd, HasRunToEnd}
-use Rattle.hg_run.specs.Printing.{AreExact, ReportsRounds}
-use Rattle.hg_run.specs.Words.{Settings}
-use Rattle.hg_run.proofs.WholeRun.{driven_sound, rounds_told}
+use Rattle.hg_run.specs.Printing.{AreExact}
+use Rattle.hg_run.proofs.WholeRun.{driven_sound}
 
 -- what holds of a value where there is one holds of this one
 pub of_ok : {T E : Type 0} (r : Result T E) (x : T) (P : T → Type 0) → IsOkAnd r (λ t. t ≡ x) → IfOk r P → P x
 of_ok (Ok t) x P same h = subst P same h
 of_ok (Err e) x P same h = absurd same
 
-module _ (settings : Settings) (rounds : ℕ) (script : Script) (lawful : IsLawful script) (e : Engine) (list : List Session) (before : Collectors)
-    (o : IsOpenedFor script settings.buckets e list before) (lines : List Line) (totals : Totals)
-    (h : HasRunToEnd e settings.long rounds script list before lines totals) where
+module _ (buckets long rounds : ℕ) (script : Script) (lawful : IsLawful script) (e : Engine) (list : List Session) (before : Collectors)
+    (o : IsOpenedFor script buckets e list before) (lines : List Line) (totals : Totals)
+    (h : HasRunToEnd e long rounds script list before lines totals) where
   numbered : Each (λ (r : Record). 1 ≤ r.session) script.records
   numbered = each_keeps (IsStatement script.tables) (λ (r : Record). 1 ≤ r.session) (λ r s. s.some) script.records lawful.statements
 
   pub run_sound : IsSound (run rounds) script (record { lines = lines; totals = totals })
-  run_sound = driven_sound e settings.long rounds script list h.new before h.after lines totals h.driven h.closed
+  run_sound = driven_sound e long rounds script list h.new before h.after lines totals h.driven h.closed
       (new_logs e (engine_sizes e).quota list o.new) o.none numbered (sym o.all) (o.all ∙ o.sessions_are)
 
-  pub run_reports : ReportsRounds settings script lines
-  run_reports = record {
-    engine = e;
-    sessions = list;
-    new = before;
-    opened = o;
-    done = h.after;
-    rounds = rounds_told e settings.long rounds script list h.new before h.after lines h.driven;
-  }
-
-module _ (settings : Settings) (script : Script) (lawful : IsLawful script) (e : Engine) (list : List Session) (before : Collectors)
-    (o : IsOpenedFor script settings.buckets e list before) (lines : List Line) (totals : Totals)
-    (h : HasReplayedToEnd e settings.long script list before lines totals) where
+module _ (buckets long : ℕ) (script : Script) (lawful : IsLawful script) (e : Engine) (list : List Session) (before : Collectors)
+    (o : IsOpenedFor script buckets e list before) (lines : List Line) (totals : Totals)
+    (h : HasReplayedToEnd e long script list before lines totals) where
   told : (k : Kind) → removed_of k h.after ≡ told_removed k lines
   told k = let first = o.none k in let all = h.played.told k in omega (arith, first, all)
 
@@ -74,13 +63,3 @@ module _ (settings : Settings) (script : Script) (lawful : IsLawful script) (e :
       let p = h.played in
       let t = h.closed in
       shown_at_end z.buckets z.sessions p.seen p.top t.history p.logs (logs_of h.new) script lines p.following p.firsts p.closes t.logged (t.saw p.seen p.last p.within p.saw) lawful
-
-  pub replay_reports : ReportsRounds settings script lines
-  replay_reports = record {
-    engine = e;
-    sessions = list;
-    new = before;
-    opened = o;
-    done = h.after;
-    rounds = h.driven.rounds;
-  }

@@ -27,7 +27,6 @@ use Rattle.hg_run.specs.declared.dump_text.Dumps.{Dumps}
 use Rattle.hg_run.specs.Dumping.{HasReadBoth, HasRunAndRead}
 use Rattle.hg_run.proofs.Dumped.{all_read, first_text, last_closed, last_text, no_log, read_once, read_twice}
 use Rattle.hg_run.proofs.WholeDump.{groups_printed, rows_printed, sound_with_reader}
-use Rattle.hg_run.proofs.WholeRun.{rounds_told}
 
 module _ (buckets long rounds : ℕ) (script : Script) (lawful : IsLawful script) (e : Engine) (list : List Session) (before : Collectors) (pass : SessionPass)
     (o : IsOpenedBeside script buckets e list before pass) (alloc : Global) (was : Dumps) (empty : (was.first.items ≡ []) × (was.last.items ≡ []))
@@ -43,7 +42,7 @@ module _ (buckets long rounds : ℕ) (script : Script) (lawful : IsLawful script
   numbered : Each (λ (r : Record). 1 ≤ r.session) script.records
   numbered = each_keeps (IsStatement script.tables) (λ (r : Record). 1 ≤ r.session) (λ r s. s.some) script.records lawful.statements
 
-  pub has_read_both : HasReadBoth (record { mode = run rounds; buckets = buckets; long = long }) script lines totals dumps
+  pub has_read_both : HasReadBoth (run rounds) script lines totals dumps
   has_read_both =
       let at : ℕ = dumps.at in
       let n : ℕ = dumps.end in
@@ -69,14 +68,6 @@ module _ (buckets long rounds : ℕ) (script : Script) (lawful : IsLawful script
       record {
         sound = sound;
         within = (within_alone rounds script (at ∷ []) printed sound).0;
-        rounds = record {
-          engine = e;
-          sessions = list ++ o.last ∷ [];
-          new = before;
-          opened = o.opened;
-          done = after;
-          rounds = rounds_told e long rounds script list new before after lines d;
-        };
         first = one ∙ ap (λ (l : List ℕ). l ++ dump_text script (rows_at script.tables read.closed.history at)) empty.0 ∙ ap (dump_text script) (rows at);
         end_is = all_read alloc e script new after first was.last.items dumps.last.items totals n read closed ∙ groups;
         last = two ∙ ap (λ (l : List ℕ). l ++ dump_text script (rows_at script.tables read.closed.history n)) empty.1 ∙ ap (dump_text script) (rows n);

@@ -1,26 +1,23 @@
 -- What is driven beside each other, and closed then, is sound as a run.
 use Rattle.std.proofs.Common.{◌≡◌, ℕ, zero, suc, ◌≤◌, List, [], ◌∷◌, ◌++◌, length, map, Option, None, refl, sym, ap, ◌∙◌, subst, arith}
-use Rattle.std.specs.Prelude.{cond, filter, filter_map, max, sum_by}
-use Rattle.std.specs.List.{cons_option, flat_map}
+use Rattle.std.specs.Prelude.{max, sum_by}
+use Rattle.std.specs.List.{flat_map}
 use Rattle.std.specs.Option.{option_map_or}
-use Rattle.std.proofs.lemmas.List.Elements.{filter_map-append}
 use Rattle.std.proofs.lemmas.List.Sums.{sum_by-cons, sum_by-append}
 use Rattle.hg_base.specs.declared.line.Line.{Line}
 use Rattle.hg_base.specs.declared.line.Totals.{Totals}
 use Rattle.hg_base.specs.declared.report.Kind.{Kind}
 use Rattle.hg_base.specs.declared.report.Kind.TheVariants.{Group, Table, Interval}
 use Rattle.hg_base.specs.declared.report.Report.{Report}
-use Rattle.hg_base.specs.declared.report.Sweep.{Sweep}
 use Rattle.hg_base.specs.declared.statement.Record.{Record}
 use Rattle.hg_base.specs.declared.statement.Statement.{Statement}
 use Rattle.hg_base.specs.Counts.{removed_by}
 use Rattle.hg_base.specs.History.{History, Write}
 use Rattle.hg_base.specs.Lists.{Each, greatest, numbers_from}
 use Rattle.hg_base.specs.Script.{Script, run}
-use Rattle.hg_base.specs.Shape.{HasShape, report_of, same_kind}
+use Rattle.hg_base.specs.Shape.{HasShape, report_of}
 use Rattle.hg_base.specs.Sound.{IsSound}
 use Rattle.hg_base.specs.Transcript.{Rest, of_session, rest_after, said_from, in_order}
-use Rattle.hg_base.proofs.ListFacts.{append_nil}
 use Rattle.hg_core.specs.declared.log.LogEntry.{LogEntry}
 use Rattle.hg_core.specs.Logs.{own_writes}
 use Rattle.hg_core.specs.Reading.{Unprinted, FitsAnswer, Tells, log_after}
@@ -41,13 +38,13 @@ use Rattle.hg_session.specs.Engines.{engine_sizes}
 use Rattle.hg_session.specs.Finished.{logs_of}
 use Rattle.hg_collectors.specs.declared.collectors.Collectors.{Collectors}
 use Rattle.hg_run.specs.Closed.{IsClosedBy}
-use Rattle.hg_collectors.specs.Collecting.{HaveMade, view_in, removed_of}
+use Rattle.hg_collectors.specs.Collecting.{view_in, removed_of}
 use Rattle.hg_run.specs.Driven.{HasDrivenAll}
-use Rattle.hg_collectors.specs.Telling.{sweeps_of, sweep_lines}
+use Rattle.hg_collectors.specs.Telling.{sweep_lines}
 use Rattle.hg_collectors.specs.Rounding.{BeganIn, IsRoundBy, AreRounds}
 use Rattle.hg_collectors.specs.Swept.{HasSwept, swept_by}
 use Rattle.hg_run.proofs.Begun.{began_before}
-use Rattle.hg_collectors.proofs.Driving.{swept_of, removed_rounds, told_append, told_lines}
+use Rattle.hg_collectors.proofs.Driving.{swept_of, removed_rounds}
 use Rattle.hg_collectors.proofs.Reported.{rounds_map, reported, lines_removed}
 
 -- ---- a session's lines tell of no round
@@ -78,22 +75,6 @@ flat_none k lines none i (suc n) =
     let sum = sum_by-append (told_by k) (lines i) (flat_map lines (numbers_from (suc i) n)) in
     omega (arith, here, later, sum)
 
-abbrev report : Line → Option Sweep
-report line = report_of line.reply
-
-no_reports : (buckets : ℕ) (rs : List Record) (lines : List Line) (log final : List LogEntry) (left : Option Rest) →
-    Tells buckets (λ r line. LeavesGc r.statement line.reply.answer) log left rs lines final → filter_map report lines ≡ []
-no_reports buckets [] [] log final left t = refl
-no_reports buckets [] (line ∷ lines) log final left t = absurd t
-no_reports buckets (r ∷ rs) [] log final left t = absurd t
-no_reports buckets (r ∷ rs) (line ∷ lines) log final left t =
-    ap (λ o. cons_option o (filter_map report lines)) (none_reported buckets t.1.0 (own_writes log) r.statement line t.1.1.answer t.0) ∙
-    no_reports buckets rs lines (log_after buckets t.1.0 r.statement line.reply log) final (rest_after r.statement line.reply.answer left) t.1.2
-
-flat_reports : (lines : ℕ → List Line) → ((j : ℕ) → filter_map report (lines j) ≡ []) → (i n : ℕ) → filter_map report (flat_map lines (numbers_from i n)) ≡ []
-flat_reports lines none i zero = refl
-flat_reports lines none i (suc n) = filter_map-append report (lines i) (flat_map lines (numbers_from (suc i) n)) ∙ (λ j. none i j ++ flat_reports lines none (suc i) n j)
-
 -- ---- which sessions there are
 
 within : (m : ℕ) (records : List Record) → greatest (map (λ (r : Record). r.session) records) ≤ m → Each (λ (r : Record). r.session ≤ m) records
@@ -112,42 +93,11 @@ no_lines records lines e h = go lines (subst (λ rs. HasShape rs lines) e h)
     go [] h = refl
     go (line ∷ lines) h = absurd h
 
--- the lines of a run tell the rounds of each collector
+-- what the lines of a run tell of each collector's rounds
 module _ (e : Engine) (long rounds : ℕ) (script : Script) (old new : List Session) (before after : Collectors) (all : List Line)
     (d : HasDrivenAll (engine_sizes e) long rounds script.records old before all new after) where
   abbrev sizes : Sizes
   sizes = engine_sizes e
-
-  told_rounds : (k : Kind) → sweeps_of k all ≡ d.sweeps k
-  told_rounds k = ap (sweeps_of k) d.told ∙ (told_append k flat (g ++ (t ++ i)) ∙
-      ((λ j. flat_told j ++ (told_append k g (t ++ i) ∙ (λ j. of_kind Group j ++ (told_append k t i ∙ (λ j. of_kind Table j ++ of_kind Interval j)) j)) j) ∙ only k))
-    where
-      flat : List Line
-      flat = flat_map d.lines (numbers_from 1 (length old))
-
-      g : List Line
-      g = sweep_lines 1 (d.sweeps Group)
-
-      t : List Line
-      t = sweep_lines 1 (d.sweeps Table)
-
-      i : List Line
-      i = sweep_lines 1 (d.sweeps Interval)
-
-      flat_told : sweeps_of k flat ≡ []
-      flat_told = ap (filter (λ (s : Sweep). same_kind s.kind k))
-          (flat_reports d.lines (λ j. no_reports sizes.buckets (of_session j script.records) (d.lines j) (logs_of old j) (d.worked j).log None (d.worked j).tells) 1 (length old))
-
-      of_kind : (kind : Kind) → sweeps_of k (sweep_lines 1 (d.sweeps kind)) ≡ cond (same_kind kind k) (d.sweeps kind) []
-      of_kind kind = told_lines kind k sizes long (view_in kind before) (view_in kind after) (d.sweeps kind) (d.made kind)
-
-      only : (k : Kind) → [] ++ (cond (same_kind Group k) (d.sweeps Group) [] ++ (cond (same_kind Table k) (d.sweeps Table) [] ++ cond (same_kind Interval k) (d.sweeps Interval) [])) ≡ d.sweeps k
-      only Group = append_nil (d.sweeps Group)
-      only Table = append_nil (d.sweeps Table)
-      only Interval = refl
-
-  pub rounds_told : HaveMade sizes long before (λ kind. sweeps_of kind all) after
-  rounds_told k = subst (λ sweeps. AreRounds (IsRoundBy k sizes long) (view_in k before) sweeps (view_in k after)) (sym (told_rounds k)) (d.made k)
 
   -- what the lines tell is what the passes removed
   pub told_all : ((k : Kind) → removed_of k before ≡ 0) → (k : Kind) → removed_of k after ≡ told_removed k all

@@ -151,7 +151,7 @@ fn round<R: Threads + Wait + Sync>(
     collectors.collect(rt, &lent_by(engine), kind, long)
 }
 
-/// A round of a collector, which the session at i asks for.
+/// A round of one collector, as the session at i asks.
 pub(crate) fn sweep<R: Threads + Wait + Sync>(
     rt: &R,
     engine: &Engine,

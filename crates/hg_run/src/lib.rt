@@ -13,17 +13,15 @@
 //! `dump` is a `run` during which one more session, the reader, reads all tables. `load` has a seed instead of a source: the steps
 //! between the first and the last are `make_script`, a replay, and the text of its totals only. For `audit` the bytes are split at a
 //! line `====` (`part`) into a script, which is read as above, and a text, which is checked against it; the text that is written is
-//! the verdict. Running out of memory may end every step but the last. The text is
-//! complete before its first byte is written. So a refused script has run nothing, and what a sink took is a prefix of the text of a
-//! whole run.
+//! the verdict. Running out of memory may end every step but the last. The text is complete before its first byte is written. So a
+//! refused script has run nothing, and what a sink took is a prefix of the text of a whole run.
 //!
 //! `Comes` says when each status comes. Its line for `Done` is the headline: the sink took the text of a printed value that is sound,
-//! in the mode that the words ask for, for the script that all the bytes of the source mean; that fits this script; and whose reports
-//! are those of rounds made with the buckets and the `--long` that the words ask for (`ReportsRounds`). No other value that fits has
-//! this text (`text_determines_what_was_printed`). For `load` the text is that of the totals of such a value, for the script of the
-//! seed. For `audit` it says whether the text after the script is sound for it, and if not, what fails first. For `dump` the value is
-//! sound next to a reader of all tables at a snapshot, and two dumps of the history that it prints follow: at that snapshot, and at the
-//! end.
+//! in the mode that the words ask for, for the script that all the bytes of the source mean, and that fits this script. No other value
+//! that fits has this text (`text_determines_what_was_printed`). For `load` the text is that of the totals of such a value, for the
+//! script of the seed. For `audit` it says whether the text after the script is sound for it, and if not, what fails first. For `dump` the
+//! value is sound next to a reader of all tables at a snapshot, and two dumps of the history that it prints follow: at that snapshot, and
+//! at the end. That reports are those of rounds made with the buckets and the `--long` of the words, the drivers say, and `serve` does not.
 //!
 //! Reading the source, writing to the sink and the statuses are in `hg_streams`.
 //!

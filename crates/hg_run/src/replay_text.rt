@@ -9,8 +9,7 @@ ghost use Rattle.hg_session.specs.Engines.{engine_sizes};
 ghost use Rattle.hg_words.specs.Options.{AreWithin};
 ghost use Rattle.hg_run.specs.Driven.{MayDrive};
 ghost use Rattle.hg_run.specs.Ended.{HasReplayedToEnd};
-ghost use Rattle.hg_run.specs.Printing.{AreExact, IsPrintedFor, ReportsRounds};
-ghost use Rattle.hg_run.specs.Words.{settings_in};
+ghost use Rattle.hg_run.specs.Printing.{AreExact, IsPrintedFor};
 
 use crate::crew::Crew;
 use crate::ended::{Ended, close_crew};
@@ -59,8 +58,6 @@ pub(crate) fn replay_lines<'a, R: Threads + Wait + Sync>(
     ensures exact { IfOk result (λ o. AreExact replay script.now o.transcript.lines) }
     ensures fit { IfOk result (λ o.
         IsFit script.now (record { lines = o.transcript.lines; totals = o.totals })) }
-    ensures rounds { IfOk result (λ o.
-        ReportsRounds (settings_in replay options.now) script.now o.transcript.lines) }
     ensures tables { IfOk result (λ o. o.transcript.tables ≡ script.now.tables) }
 {
     let (engine, crew) = open_for(alloc, script, options)?;
@@ -79,7 +76,7 @@ pub(crate) fn replay<R: Threads + Wait + Sync>(
     requires lawful { IsLawful script.now }
     requires within { AreWithin options.now }
     ensures { IfOk result
-        (λ text. IsPrintedFor (settings_in replay options.now) script.now text.items) }
+        (λ text. IsPrintedFor replay script.now text.items) }
 {
     let ended = replay_lines(rt, alloc, script, options)?;
     ended.into_text()

@@ -9,8 +9,7 @@ ghost use Rattle.hg_session.specs.Engines.{engine_sizes};
 ghost use Rattle.hg_words.specs.Options.{AreWithin};
 ghost use Rattle.hg_run.specs.Driven.{MayDrive};
 ghost use Rattle.hg_run.specs.Ended.{HasRunToEnd};
-ghost use Rattle.hg_run.specs.Printing.{IsPrintedFor, ReportsRounds};
-ghost use Rattle.hg_run.specs.Words.{settings_in};
+ghost use Rattle.hg_run.specs.Printing.{IsPrintedFor};
 
 use crate::crew::Crew;
 use crate::ended::{Ended, close_crew};
@@ -61,9 +60,6 @@ fn run_script<'a, R: Threads + Wait + Sync, G: Gate + Sync>(
         (record { lines = o.transcript.lines; totals = o.totals })) }
     ensures fit { IfOk result (λ o.
         IsFit script.now (record { lines = o.transcript.lines; totals = o.totals })) }
-    ensures rounds { IfOk result (λ o.
-        ReportsRounds (settings_in (run options.now.rounds) options.now) script.now
-        o.transcript.lines) }
     ensures tables { IfOk result (λ o. o.transcript.tables ≡ script.now.tables) }
 {
     let plan = Plan {
@@ -88,7 +84,7 @@ pub(crate) fn run_all<R: Threads + Wait + Sync, G: Gate + Sync>(
     requires lawful { IsLawful script.now }
     requires within { AreWithin options.now }
     ensures { IfOk result (λ text.
-        IsPrintedFor (settings_in (run options.now.rounds) options.now) script.now text.items) }
+        IsPrintedFor (run options.now.rounds) script.now text.items) }
 {
     let records = script.record_count() as u64;
     let pace = Pace::new(alloc, script.sessions(), records, options.rounds, gate)?;

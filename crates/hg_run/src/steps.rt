@@ -1,13 +1,13 @@
 //! The steps in their order: of a script that is run, of one that is made, and of one whose text is audited.
 
 ghost use Rattle.std.specs.Prelude.{◌≡◌, ◌+◌, map, None, IfOk, IfErr, IsFalse, OnOk, string_bytes};
-ghost use Rattle.hg_base.specs.Script.{run};
+ghost use Rattle.hg_base.specs.Script.{Mode, run};
 ghost use Rattle.hg_script.specs.Fields.{rows_of};
 ghost use Rattle.hg_script.specs.Lawful.{IsLawful};
 ghost use Rattle.hg_script.specs.Meaning.{refusal_of, script_of};
 ghost use Rattle.hg_words.specs.Options.{AreWithin, options_of};
 ghost use Rattle.hg_run.specs.Printing.{IsPrintedFor};
-ghost use Rattle.hg_run.specs.Words.{Settings, AsksFor, IsMaking, audits, dumps, reads, settings_in, settings_of, task_of};
+ghost use Rattle.hg_run.specs.Words.{AsksFor, IsMaking, audits, dumps, mode_of, reads, task_of};
 ghost use Rattle.hg_run.specs.Serving.{Answers, Comes, IsDecided, IsDumpFor, IsTextFor, IsUnlessNoMemory, RefusesBytes, RefusesTask, WritesAll, WritesExactly, may_write};
 ghost use Rattle.hg_streams.specs.Streams.{HasGiven, change_of};
 
@@ -29,10 +29,8 @@ fn script_of_bytes(alloc: Global, bytes: Vec<u8>) -> Result<Script, Status>
     ensures valid { OnOk result (refusal_of (rows_of bytes.items) ≡ None) }
     ensures script { IfOk result (λ script. script ≡ script_of (rows_of bytes.items)) }
     ensures lawful { IfOk result IsLawful }
-    ensures refused { (settings : Settings) →
-        IfErr result (RefusesBytes (reads settings) bytes.items) }
-    ensures refused_dump { (settings : Settings) →
-        IfErr result (RefusesBytes (dumps settings) bytes.items) }
+    ensures refused { (mode : Mode) → IfErr result (RefusesBytes (reads mode) bytes.items) }
+    ensures refused_dump { (mode : Mode) → IfErr result (RefusesBytes (dumps mode) bytes.items) }
 {
     let script = read_script(alloc, &bytes).map_err(Status::from);
     free(bytes);
@@ -59,7 +57,7 @@ fn text_of_script<R: Threads + Wait + Sync, G: Gate + Sync>(
     requires lawful { IsLawful script.now }
     requires within { AreWithin options.now }
     ensures { IfOk result (λ text.
-        IsPrintedFor (settings_of options.now) script.now text.items) }
+        IsPrintedFor (mode_of options.now) script.now text.items) }
 {
     match options.command {
         Command::Run | Command::Dump => run_all(rt, alloc, script, options, gate),
@@ -77,8 +75,8 @@ fn text_of_bytes<R: Threads + Wait + Sync, G: Gate + Sync>(
 ) -> Result<Vec<u8>, Status>
     requires { AreWithin options.now }
     ensures text { IfOk result
-        (λ text. IsTextFor (settings_of options.now) bytes.items text.items) }
-    ensures refused { IfErr result (RefusesBytes (reads (settings_of options.now)) bytes.items) }
+        (λ text. IsTextFor (mode_of options.now) bytes.items text.items) }
+    ensures refused { IfErr result (RefusesBytes (reads (mode_of options.now)) bytes.items) }
 {
     let script = script_of_bytes(alloc, bytes)?;
     text_of_script(rt, alloc, options, &script, gate).map_err(Status::from)
@@ -94,9 +92,9 @@ fn text_of_source<R: Threads + Wait + Sync, S: Source, G: Gate + Sync>(
 ) -> Result<Vec<u8>, Status>
     requires { AreWithin options.now }
     ensures text { IfOk result (λ text.
-        Answers (reads (settings_of options.now))
+        Answers (reads (mode_of options.now))
         (change_of S.left S.faults source.old source.new) text.items) }
-    ensures refused { IfErr result (RefusesTask (reads (settings_of options.now))
+    ensures refused { IfErr result (RefusesTask (reads (mode_of options.now))
         (change_of S.left S.faults source.old source.new)) }
     ensures no_more { HasGiven (MOST_SCRIPT_BYTES + 1)
         (change_of S.left S.faults source.old source.new) }
@@ -115,9 +113,9 @@ fn dump_of_bytes<R: Threads + Wait + Sync, G: Gate + Sync>(
 ) -> Result<Vec<u8>, Status>
     requires { AreWithin options.now }
     ensures text { IfOk result (λ text.
-        IsDumpFor (settings_in (run options.now.rounds) options.now) bytes.items text.items) }
+        IsDumpFor (run options.now.rounds) bytes.items text.items) }
     ensures refused { IfErr result
-        (RefusesBytes (dumps (settings_in (run options.now.rounds) options.now)) bytes.items) }
+        (RefusesBytes (dumps (run options.now.rounds)) bytes.items) }
 {
     let script = script_of_bytes(alloc, bytes)?;
     dump_all(rt, alloc, &script, options, gate).map_err(Status::from)
@@ -133,10 +131,10 @@ fn dump_of_source<R: Threads + Wait + Sync, S: Source, G: Gate + Sync>(
 ) -> Result<Vec<u8>, Status>
     requires { AreWithin options.now }
     ensures text { IfOk result (λ text.
-        Answers (dumps (settings_in (run options.now.rounds) options.now))
+        Answers (dumps (run options.now.rounds))
         (change_of S.left S.faults source.old source.new) text.items) }
     ensures refused { IfErr result
-        (RefusesTask (dumps (settings_in (run options.now.rounds) options.now))
+        (RefusesTask (dumps (run options.now.rounds))
         (change_of S.left S.faults source.old source.new)) }
     ensures no_more { HasGiven (MOST_SCRIPT_BYTES + 1)
         (change_of S.left S.faults source.old source.new) }
@@ -229,8 +227,8 @@ pub fn serve<R: Threads + Wait + Sync, So: Source, Si: Sink, G: Gate + Sync>(
     sink: &mut Si,
     gate: &G,
 ) -> Status
-    // The sink took the whole text of a printed value that is sound for the script in the source, with the settings that the words ask
-    // for; or the text of the totals of one that is sound for the script of the seed; or the verdict on the text that follows the script.
+    // The sink took the whole text of a printed value that is sound for the script in the source, in the mode that the words ask for; or
+    // the text of the totals of one that is sound for the script of the seed; or the verdict on the text that follows the script.
     ensures sound { result ≡ Status.Done → AsksFor (map string_bytes words.now) (λ task.
         WritesAll task (change_of So.left So.faults source.old source.new)
         (change_of Si.taken Si.faults sink.old sink.new)) }

@@ -11,6 +11,5 @@ returns g c =
       sound = o.sound;
       exact = o.exact;
       fit = o.fit;
-      rounds = o.rounds;
       same = same;
     }) (c.into_text.ensures c.args.script.now (sym o.tables))
