@@ -17,7 +17,7 @@ use Rattle.hg_tracker.specs.declared.gathered.Gathered.{Gathered}
 use Rattle.hg_tracker.specs.Gathers.{IsGatherOf}
 use Rattle.hg_rounds.specs.declared.draws.Drawn.{Drawn}
 use Rattle.hg_rounds.specs.declared.helper.Helper.{Helper}
-use Rattle.hg_rounds.specs.Word.{fresh, hirer, whole_quota, helper_quota}
+use Rattle.hg_rounds.specs.Word.{hired, hirer, whole_quota, helper_quota, IsFresh}
 use Rattle.hg_rounds.specs.Helpers.{IsHelperOf}
 use Rattle.hg_rounds.specs.Crew.{share_of, shares, branched, IsHiredBy, HasHired, IsWilling}
 use Rattle.hg_rounds.specs.Seats.{drawn_by}
@@ -41,14 +41,15 @@ kept_share v w e = ap (λ (u : View). (pass u).share) e
 -- ---- a crew is hired
 
 module _ (t : BoardId) (d : TableId) (x : View) where
-  pub hired_none : HasPass x → (drawn : Drawn) → drawn ≡ fresh → HasHired t d 0 x [] x drawn
+  pub hired_none : HasPass x → (drawn : Drawn) → IsFresh drawn → HasHired t d 0 x [] x drawn
   hired_none own drawn e = record {
     own_is = ap (λ (ps : List Part). seeing ps x.sights x.events) own;
     shared = (let a : ℕ = (pass x).share in omega arith);
     each = tt;
     count = refl;
-    none = ap (λ (v : Drawn). v.numbers) e;
-    left = (let l : drawn.left ≡ whole_quota = ap (λ (v : Drawn). v.left) e in omega arith);
+    none = e.numbers;
+    joined = e.joined;
+    left = (let l : drawn.left ≡ whole_quota = e.left in omega arith);
   }
 
   module _ (n : ℕ) (hs : List Helper) (y : View) (drawn : Drawn) (a : HasHired t d n x hs y drawn) where
@@ -75,7 +76,7 @@ module _ (t : BoardId) (d : TableId) (x : View) where
 
     -- a helper more
     module _ (z : View) (z_is : z ≡ halved y) (h : Helper) (view_is : pass_view h.pass ≡ branch (number (pass_view h.pass)) y) (own : IsHelperOf t d h) (few : h.number ≤ 16)
-        (nothing : h.removed ≡ 0) (mine : drawn_by h.drawer ≡ record { left = helper_quota; numbers = [] }) (later : Drawn) (later_is : later ≡ hirer drawn) (enough : helper_quota ≤ drawn.left) where
+        (nothing : h.removed ≡ 0) (mine : drawn_by h.drawer ≡ hired) (later : Drawn) (later_is : later ≡ hirer drawn) (enough : helper_quota ≤ drawn.left) where
       kept : (pass z).share ≡ kept_of (pass y).share
       kept = ap (λ (v : View). (pass v).share) z_is
 
@@ -99,6 +100,7 @@ module _ (t : BoardId) (d : TableId) (x : View) where
         );
         count = (let l : length (hs ++ h ∷ []) ≡ length hs + 1 = length-append hs (h ∷ []) in let e = a.count in omega (arith, l, e));
         none = ap (λ (v : Drawn). v.numbers) later_is ∙ a.none;
+        joined = ap (λ (v : Drawn). v.joined) later_is ∙ a.joined;
         left = (let l : later.left ≡ drawn.left - helper_quota = ap (λ (v : Drawn). v.left) later_is in let e : drawn.left + n * helper_quota ≡ whole_quota = a.left in omega (arith, l, e, enough));
       }
 

@@ -2,6 +2,7 @@
 use Rattle.std.proofs.Common.{◌≡◌, inl, inr, ℕ, suc, ◌+◌, ◌*◌, ◌<◌, ◌≤◌, ◌^◌, eqb, ltb, List, [], ◌∷◌, ◌++◌, length, take, get_or, refl, sym, ap, ◌∙◌, subst, arith, append_assoc}
 use Rattle.std.proofs.Common.{append-nil, length-append, eq-eqb, ne_eqb}
 use Rattle.std.proofs.lemmas.Bool.{lt-ltb, le-ltb}
+use Rattle.std.specs.List.{flat_map}
 use native.Mathlib.Decide.{dec_le}
 use Rattle.atomic_table.specs.Seated.{TableId}
 use Rattle.hg_base.specs.declared.report.Kind.TheVariants.{Interval}
@@ -25,7 +26,7 @@ use Rattle.hg_rounds.specs.Sweeping.{IsCleanBy}
 use Rattle.hg_rounds.specs.declared.draws.Drawn.{Drawn}
 use Rattle.hg_rounds.specs.declared.helper.Helper.{Helper}
 use Rattle.hg_rounds.specs.Word.{times, AreAll, together, whole_quota, helper_quota}
-use Rattle.hg_rounds.specs.Helpers.{visited, AreVisits, IsHelperOf, HasHelped}
+use Rattle.hg_rounds.specs.Helpers.{visited, own_buckets, AreVisits, EndsPast, IsHelperOf, HasHelped}
 use Rattle.hg_rounds.specs.Crew.{share_of, shares, IsHiredBy, HasHired, IsBack, HasPast, Unites}
 use Rattle.hg_rounds.specs.Seats.{drawn_by}
 use Rattle.hg_rounds.specs.Teams.{VisitOnce}
@@ -83,6 +84,10 @@ module _ (t : BoardId) (d : TableId) (buckets n : ℕ) (x : View) where
     past = inl (w.many ∙ a.count);
     few = (let a1 : ℕ = length later in let a2 : ℕ = length hs in let h1 : a1 ≡ a2 = w.many in let h2 : a2 ≡ n = a.count in omega arith);
     back = w.back;
+    many = (let a1 : ℕ = length later in let a2 : ℕ = length hs in let a3 : ℕ = length drawn.joined in let h1 : a1 ≡ a2 = w.many in let h2 : a2 ≡ n = a.count in
+        let h3 : a3 ≡ 0 = ap length a.joined in omega arith);
+    ended = subst (Each (EndsPast buckets)) (sym a.joined) tt;
+    by_helpers = ap (flat_map own_buckets) (sym a.joined);
   }
 
   -- what the part of a helper that is back is
@@ -135,6 +140,9 @@ module _ (t : BoardId) (d : TableId) (buckets n : ℕ) (x : View) where
 
       numbers_after : later.numbers ≡ (b.helped.past ∷ nh) ++ drawn.numbers
       numbers_after = ap (λ (v : Drawn). v.numbers) later_is ∙ ap (λ ns. ns ++ drawn.numbers) b.helped.drew
+
+      joined_after : later.joined ≡ (b.helped.past ∷ nh) ∷ drawn.joined
+      joined_after = ap (λ (v : Drawn). v.joined) later_is ∙ ap (λ ns. ns ∷ drawn.joined) b.helped.drew
 
       visited_append : (vs us : List Visit) → visited (vs ++ us) ≡ visited vs ++ visited us
       visited_append [] us = refl
@@ -198,6 +206,10 @@ module _ (t : BoardId) (d : TableId) (buckets n : ℕ) (x : View) where
         few = (let r1 : ℕ = h.removed in let r2 : ℕ = length hs in let r3 : ℕ = length (hs ++ h ∷ []) in let e1 : r3 ≡ r2 + 1 = longer in let l1 : r1 ≤ 2 ^ 41 = b.helped.few in
             let l2 : m + r3 * 2 ^ 41 ≤ n * 2 ^ 41 = a.few in omega arith);
         back = each_left (IsBack t d buckets x) hs (h ∷ []) a.back;
+        many = (let l1 : ℕ = length later.joined in let l2 : ℕ = length drawn.joined in let l3 : ℕ = length hs in let l4 : ℕ = length (hs ++ h ∷ []) in
+            let e1 : l1 ≡ suc l2 = ap length joined_after in let e2 : l4 ≡ l3 + 1 = longer in let e3 : l2 + l4 ≡ n = a.many in omega arith);
+        ended = subst (Each (EndsPast buckets)) (sym joined_after) (b.helped.over, a.ended);
+        by_helpers = visited_append more a.visits ∙ ((λ i. sym b.helped.helps.numbers_are i ++ a.by_helpers i) ∙ ap (flat_map own_buckets) (sym joined_after));
       }
 
   -- ---- all are back

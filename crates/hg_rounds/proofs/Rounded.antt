@@ -1,5 +1,5 @@
 -- A round of a team.
-use Rattle.std.proofs.Common.{◌≡◌, ℕ, ◌<◌, List, [], ◌++◌, length, take, drop, get_or, sym, ap, ◌∙◌, subst}
+use Rattle.std.proofs.Common.{◌≡◌, ℕ, ◌+◌, ◌<◌, List, [], ◌++◌, length, take, drop, get_or, sym, ap, ◌∙◌, subst, arith}
 use Rattle.atomic_table.specs.Seated.{TableId}
 use Rattle.hg_base.specs.declared.report.Kind.TheVariants.{Interval}
 use Rattle.hg_base.specs.declared.report.Report.{Report}
@@ -15,7 +15,7 @@ use Rattle.hg_rounds.specs.declared.helper.Helper.{Helper}
 use Rattle.hg_rounds.specs.Word.{AreAll}
 use Rattle.hg_rounds.specs.Helpers.{IsHelperOf, HasHelped}
 use Rattle.hg_rounds.specs.Crew.{HasHired, Unites}
-use Rattle.hg_rounds.specs.Teams.{SweepsBeside}
+use Rattle.hg_rounds.specs.Teams.{SweepsBeside, IsShared}
 use Rattle.hg_rounds.proofs.Joined.{worked, unites_none, goes, visit_once, take_whole}
 
 -- the helpers are back, and none is united yet
@@ -57,6 +57,18 @@ round_made t d z n v x w drawn removed report gathers a some all r =
       visit_once = visit_once t d z.buckets n x w drawn removed a some all;
       reports = gathered_reports Interval v x w z.sessions report removed gathers on r gone;
     }
+
+-- each helper had its part
+pub round_shared : (t : BoardId) (d : TableId) (z : Sizes) (n : ℕ) (v x w : View) (drawn : Drawn) (removed : ℕ) → HasGathered v z.sessions x →
+    Unites t d z.buckets n x [] w drawn removed → 0 < n → AreAll drawn.numbers → IsShared n z.buckets v drawn.joined w
+round_shared t d z n v x w drawn removed gathers a some all = record {
+  many = (let l : ℕ = length drawn.joined in let e : l + 0 ≡ n = a.many in let h : l ≡ n = omega arith in h);
+  ended = a.ended;
+  visits = a.visits;
+  more = ap (λ ps. (pass_there (first_in ps)).visits) (goes t d z.buckets n x w drawn removed a some all).parts ∙
+      ap (λ ps. a.visits ++ (pass_there (first_in ps)).visits) gathers.parts;
+  by_helpers = a.by_helpers;
+}
 
 -- its share is what it was
 pub round_share : (t : BoardId) (d : TableId) (z : Sizes) (n : ℕ) (v x w : View) (drawn : Drawn) (removed : ℕ) → HasGathered v z.sessions x →

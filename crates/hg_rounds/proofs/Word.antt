@@ -10,7 +10,7 @@ use Rattle.atomic_table.specs.Table.{State, Me, step, keeps, Allows, Splits, Joi
 use Rattle.hg_rule.specs.Keys.{one}
 use Rattle.hg_rule.proofs.Found.{ltb_less}
 use Rattle.hg_rounds.specs.declared.draws.Drawn.{Drawn}
-use Rattle.hg_rounds.specs.Word.{times, sum, many, quota, whole_quota, helper_quota, IsDrawn, fresh, hired, hirer, together, spent, top, draws, restarts}
+use Rattle.hg_rounds.specs.Word.{times, sum, many, quota, whole_quota, helper_quota, IsDrawn, fresh, hired, hirer, together, spent, anew, top, draws, restarts}
 use Rattle.hg_rounds.proofs.Adding.{sum_set, sum_snoc, sum_one, sum_whole}
 
 abbrev Seated : Type 0
@@ -67,7 +67,7 @@ pub may_draw : (slots id : ℕ) (m : Seated) → 0 < m.0.left → Allows IsDrawn
 may_draw slots id m some_left t r deep at small =
     let v : Drawn = m.0 in
     let n : ℕ = get_or t.words 0 0 in
-    let w : Drawn = record { left = v.left - 1; numbers = n ∷ v.numbers } in
+    let w : Drawn = record v { left = v.left - 1; numbers = n ∷ v.numbers } in
     let new : ℕ = (n + 1) % 2 ^ 64 in
     let all : ℕ = sum quota t.views in
     let mine : ℕ = quota v in
@@ -89,7 +89,7 @@ may_draw slots id m some_left t r deep at small =
         shared = (let a : ℕ = sum quota (set t.views id w) in let b : ℕ = sum quota t.views in let c : ℕ = length v.numbers in let l : ℕ = v.left in
             let h1 : a + (l + c) ≡ b + ((l - 1) + suc c) = sum_set quota t.views id v w at in let h3 : a ≡ b = omega arith in h3) ∙ r.shared;
       },
-      (record { numbers = refl; left = (let l : ℕ = v.left in let h : suc (l - 1) ≡ l = omega arith in h); over = below t r id v at }, refl),
+      (record { numbers = refl; left = (let l : ℕ = v.left in let h : suc (l - 1) ≡ l = omega arith in h); over = below t r id v at; kept = (refl, refl) }, refl),
     )
   where
     plus_one : (n : ℕ) → n + 1 ≡ suc n
@@ -101,7 +101,7 @@ may_draw slots id m some_left t r deep at small =
     -- who has left some has them beside all that were drawn
     room : (vs : List Drawn) (i : ℕ) (v : Drawn) → get_elem? vs i ≡ some v → sum many vs + v.left ≤ sum quota vs
     room vs i v at =
-        let w : Drawn = record { left = 0; numbers = v.numbers } in
+        let w : Drawn = record v { left = 0 } in
         let a : ℕ = sum quota (set vs i w) in let b : ℕ = sum quota vs in let c : ℕ = length v.numbers in let l : ℕ = v.left in let h : a + (l + c) ≡ b + (0 + c) = sum_set quota vs i v w at in
         let d : ℕ = sum many (set vs i w) in let e : ℕ = sum many vs in let k : d + c ≡ e + c = sum_set many vs i v w at in
         let f : d ≤ a = less (set vs i w) in omega arith
@@ -113,6 +113,7 @@ may_draw slots id m some_left t r deep at small =
 pub may_restart : (slots id : ℕ) (m : Seated) → m.0.left + length m.0.numbers ≡ whole_quota → Allows IsDrawn slots id m 0 (λ n. 0) (λ n. restarts (step slots 0 0 0 none) m 0)
 may_restart slots id m all t r deep at small =
     let v : Drawn = m.0 in
+    let w : Drawn = anew v in
     let word : slice_index (set t.words 0 0) 0 ≡ 0 = get_or-set_same t.words 0 0 0 (let e = r.words in omega arith) in
     let mine : sum quota t.views ≡ quota v = r.shared ∙ sym all in
     let alone : (n : ℕ) → sum (λ v. times n v.numbers) t.views ≡ times n v.numbers =
@@ -120,18 +121,18 @@ may_restart slots id m all t r deep at small =
     let h : b ≡ 0 = omega arith in h)) t.views id v at mine) in
     let length_alone : sum many t.views ≡ many v = sum_whole quota many (λ x e. (let a : ℕ = x.left in let b : ℕ = length x.numbers in let e' : a + b ≡ 0 = e in
     let h : b ≡ 0 = omega arith in h)) t.views id v at mine in (
-      fresh,
+      w,
       keeps,
       tt,
       record {
         words = length-set t.words 0 0 ∙ r.words;
-        each = λ n. (let a : ℕ = sum (λ v. times n v.numbers) (set t.views id fresh) in let b : ℕ = sum (λ v. times n v.numbers) t.views in let c : ℕ = times n v.numbers in
-            let h1 : a + c ≡ b + 0 = sum_set (λ v. times n v.numbers) t.views id v fresh at in let h2 : b ≡ c = alone n in let h3 : a ≡ 0 = omega arith in h3) ∙
+        each = λ n. (let a : ℕ = sum (λ v. times n v.numbers) (set t.views id w) in let b : ℕ = sum (λ v. times n v.numbers) t.views in let c : ℕ = times n v.numbers in
+            let h1 : a + c ≡ b + 0 = sum_set (λ v. times n v.numbers) t.views id v w at in let h2 : b ≡ c = alone n in let h3 : a ≡ 0 = omega arith in h3) ∙
             (sym (ap one (le-ltb n 0 (omega arith))) ∙ ap (λ u. one (ltb n u)) (sym word));
-        many_are = (let a : ℕ = sum many (set t.views id fresh) in let b : ℕ = sum many t.views in let c : ℕ = length v.numbers in
-            let h1 : a + c ≡ b + 0 = sum_set many t.views id v fresh at in let h2 : b ≡ c = length_alone in let h3 : a ≡ 0 = omega arith in h3) ∙ sym word;
-        shared = let a : ℕ = sum quota (set t.views id fresh) in let b : ℕ = sum quota t.views in let c : ℕ = v.left + length v.numbers in let x : ℕ = whole_quota in
-            let h1 : a + c ≡ b + (x + 0) = sum_set quota t.views id v fresh at in let h2 : c ≡ x = all in let h4 : b ≡ x = r.shared in omega arith;
+        many_are = (let a : ℕ = sum many (set t.views id w) in let b : ℕ = sum many t.views in let c : ℕ = length v.numbers in
+            let h1 : a + c ≡ b + 0 = sum_set many t.views id v w at in let h2 : b ≡ c = length_alone in let h3 : a ≡ 0 = omega arith in h3) ∙ sym word;
+        shared = let a : ℕ = sum quota (set t.views id w) in let b : ℕ = sum quota t.views in let c : ℕ = v.left + length v.numbers in let x : ℕ = whole_quota in
+            let h1 : a + c ≡ b + (x + 0) = sum_set quota t.views id v w at in let h2 : c ≡ x = all in let h4 : b ≡ x = r.shared in omega arith;
       },
       ((get_or t.words 0 0, λ n. sym (alone n) ∙ r.each n), (refl, refl)),
     )

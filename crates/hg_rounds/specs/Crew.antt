@@ -1,5 +1,6 @@
 -- Helpers of a round: how they are hired, and what is left of their parts once they are back.
 use Rattle.std.specs.Prelude.{◌≡◌, ◌⊎◌, ℕ, ◌+◌, ◌*◌, ◌<◌, ◌≤◌, ◌^◌, List, [], ◌∷◌, ◌++◌, length}
+use Rattle.std.specs.List.{flat_map}
 use Rattle.atomic_table.specs.Seated.{TableId}
 use Rattle.hg_base.specs.declared.report.Kind.TheVariants.{Interval}
 use Rattle.hg_base.specs.Lists.{Each}
@@ -21,7 +22,7 @@ use Rattle.hg_rounds.specs.Sweeping.{IsCleanBy}
 use Rattle.hg_rounds.specs.declared.draws.Drawn.{Drawn}
 use Rattle.hg_rounds.specs.declared.helper.Helper.{Helper}
 use Rattle.hg_rounds.specs.Word.{times, sum, whole_quota, helper_quota}
-use Rattle.hg_rounds.specs.Helpers.{visited, AreVisits, IsHelperOf, IsReady, HasHelped}
+use Rattle.hg_rounds.specs.Helpers.{visited, own_buckets, AreVisits, EndsPast, IsHelperOf, IsReady, HasHelped}
 
 -- a helper's share
 abbrev pub share_of : Helper → ℕ
@@ -54,6 +55,7 @@ pub record HasHired (t : BoardId) (d : TableId) (n : ℕ) (x : View) (hs : List 
   pub each : Each (IsHiredBy t d x) hs
   pub count : length hs ≡ n
   pub none : drawn.numbers ≡ []
+  pub joined : drawn.joined ≡ []
   pub left : drawn.left + n * helper_quota ≡ whole_quota
 
 -- a helper is back from its part of the round
@@ -87,3 +89,6 @@ pub record Unites (t : BoardId) (d : TableId) (buckets n : ℕ) (x : View) (hs :
   pub past : HasPast buckets n hs drawn.numbers
   pub few : removed + length hs * 2 ^ 41 ≤ n * 2 ^ 41
   pub back : Each (IsBack t d buckets x) hs
+  pub many : length drawn.joined + length hs ≡ n
+  pub ended : Each (EndsPast buckets) drawn.joined
+  pub by_helpers : visited visits ≡ flat_map own_buckets drawn.joined

@@ -1,5 +1,5 @@
 -- What a helper makes of its pass in a round.
-use Rattle.std.specs.Prelude.{◌≡◌, ℕ, suc, ◌+◌, ◌<◌, ◌≤◌, ◌^◌, List, ◌∷◌, length, map}
+use Rattle.std.specs.Prelude.{◌≡◌, ℕ, suc, ◌+◌, ◌<◌, ◌≤◌, ◌^◌, List, [], ◌∷◌, length, map}
 use Rattle.atomic_table.specs.Seated.{TableId}
 use Rattle.hg_base.specs.declared.rid.Rid.{Rid}
 use Rattle.hg_base.specs.declared.report.Kind.TheVariants.{Interval}
@@ -30,6 +30,16 @@ pub record IsReady (h : Helper) : Type 0 where
 -- the numbers of the buckets that were visited
 abbrev pub visited : List Visit → List ℕ
 visited visits = map (λ (x : Visit). x.bucket) visits
+
+-- of the numbers that a helper drew, the last one first: that one, at which it ended, is of no bucket
+abbrev pub EndsPast : ℕ → List ℕ → Type 0
+EndsPast buckets [] = ⊥
+EndsPast buckets (past ∷ numbers) = buckets ≤ past
+
+-- and the others are those of its buckets
+abbrev pub own_buckets : List ℕ → List ℕ
+own_buckets [] = []
+own_buckets (past ∷ numbers) = numbers
 
 -- each visit is of a bucket that is there, and gave each of its records back as Q has it
 abbrev pub AreVisits : (Rid → List Version → Type 0) → ℕ → ℕ → List Visit → Type 0

@@ -1,7 +1,9 @@
 -- What a clause says of a team.
-use Rattle.std.specs.Prelude.{◌≡◌, ℕ, ◌<◌, ◌≤◌, List, [], ltb, vec_capacity}
+use Rattle.std.specs.Prelude.{◌≡◌, ℕ, ◌<◌, ◌≤◌, List, [], ◌++◌, length, ltb, vec_capacity}
+use Rattle.std.specs.List.{flat_map}
 use Rattle.hg_base.specs.declared.report.Kind.TheVariants.{Interval}
 use Rattle.hg_base.specs.declared.report.Report.{Report}
+use Rattle.hg_base.specs.Lists.{Each}
 use Rattle.hg_core.specs.declared.visit.Visit.{Visit}
 use Rattle.hg_rule.specs.declared.passes.CollectorPass.{CollectorPass}
 use Rattle.hg_rule.specs.declared.view.View.{View}
@@ -18,8 +20,8 @@ use Rattle.hg_rounds.specs.Reports.{Reports}
 use Rattle.hg_rounds.specs.Rounds as rounds
 use Rattle.hg_rounds.specs.Sweeping.{IsCleanBy}
 use Rattle.hg_rounds.specs.declared.team.SweepTeam.{SweepTeam}
-use Rattle.hg_rounds.specs.Word.{times, fresh}
-use Rattle.hg_rounds.specs.Helpers.{visited, AreVisits}
+use Rattle.hg_rounds.specs.Word.{times, IsFresh}
+use Rattle.hg_rounds.specs.Helpers.{visited, own_buckets, AreVisits, EndsPast}
 use Rattle.hg_rounds.specs.Seats.{draws_id, drawn_by, IsDrawerOf}
 
 -- its pass
@@ -33,6 +35,14 @@ view_of c = rounds.view_of c.rounds
 -- its last report
 abbrev pub report_in : SweepTeam → Report
 report_in c = rounds.report_in c.rounds
+
+-- how many helpers it has
+abbrev pub size_of : SweepTeam → ℕ
+size_of c = c.count
+
+-- what each helper drew in the last round, the last number first
+abbrev pub draws_of : SweepTeam → List (List ℕ)
+draws_of c = (drawn_by c.drawer).before
 
 -- it with another pass
 abbrev pub with_pass : SweepTeam → CollectorPass → SweepTeam
@@ -48,7 +58,7 @@ pub record IsTeamOf (t : BoardId) (z : Sizes) (c : SweepTeam) : Type 0 where
   pub none : c.helpers.items ≡ []
   pub places : c.count ≤ vec_capacity c.helpers
   pub drawer : IsDrawerOf (draws_id c.draws) c.drawer
-  pub fresh_is : drawn_by c.drawer ≡ fresh
+  pub fresh_is : IsFresh (drawn_by c.drawer)
 
 -- Visits of buckets, each of the first n once and no other, which gave it back clean for what the pass of x gathered.
 pub record VisitOnce (n : ℕ) (x : View) (visits : List Visit) : Type 0 where
@@ -64,3 +74,12 @@ pub record SweepsBeside (z : Sizes) (v : View) (report : Report) (w : View) : Ty
   pub gone_is : report.removed ≡ gone_in on.steps
   pub visit_once : VisitOnce z.buckets gathered on.visits
   pub reports : Reports Interval v report w
+
+-- The round was shared by so many helpers. Each drew numbers of its own: those of the buckets that it visited, and at last one that no
+-- bucket has. The visits are those of the helpers, one helper after the other.
+pub record IsShared (n buckets : ℕ) (v : View) (draws : List (List ℕ)) (w : View) : Type 0 where
+  pub many : length draws ≡ n
+  pub ended : Each (EndsPast buckets) draws
+  pub visits : List Visit
+  pub more : (pass w).visits ≡ visits ++ (pass v).visits
+  pub by_helpers : visited visits ≡ flat_map own_buckets draws

@@ -45,23 +45,33 @@ pub record IsDrawn (t : State ℕ Drawn) : Type 0 where
 
 -- a drawer that has everything, and has drawn nothing
 abbrev pub fresh : Drawn
-fresh = record { left = whole_quota; numbers = [] }
+fresh = record { left = whole_quota; numbers = []; joined = []; before = [] }
+
+-- it may draw everything, and in this round nothing was drawn yet
+pub record IsFresh (v : Drawn) : Type 0 where
+  pub left : v.left ≡ whole_quota
+  pub numbers : v.numbers ≡ []
+  pub joined : v.joined ≡ []
 
 -- the view of a new helper, which has drawn nothing
 abbrev pub hired : Drawn
-hired = record { left = helper_quota; numbers = [] }
+hired = record { left = helper_quota; numbers = []; joined = []; before = [] }
 
 -- the view that hired a helper, after it gave the helper's quota away
 abbrev pub hirer : Drawn → Drawn
 hirer v = record v { left = v.left - helper_quota }
 
--- the view of two that are joined
+-- the view of two that are joined, which shows what the second one drew
 abbrev pub together : Drawn → Drawn → Drawn
-together v w = record { left = v.left + w.left; numbers = w.numbers ++ v.numbers }
+together v w = record { left = v.left + w.left; numbers = w.numbers ++ v.numbers; joined = w.numbers ∷ v.joined; before = v.before }
 
 -- the view of a seat that was joined to another: it has nothing, and may draw nothing
 abbrev pub spent : Drawn
-spent = record { left = 0; numbers = [] }
+spent = record { left = 0; numbers = []; joined = []; before = [] }
+
+-- the view that begins a round again, and shows what those that were joined to it drew in the one before
+abbrev pub anew : Drawn → Drawn
+anew v = record { left = whole_quota; numbers = []; joined = []; before = v.joined }
 
 -- one more than the last number that was drawn
 abbrev pub top : List ℕ → ℕ
@@ -73,6 +83,7 @@ pub record Drew (v : Drawn) (n : ℕ) (w : Drawn) : Type 0 where
   pub numbers : w.numbers ≡ n ∷ v.numbers
   pub left : suc w.left ≡ v.left
   pub over : top v.numbers ≤ n
+  pub kept : (w.joined ≡ v.joined) × (w.before ≡ v.before)
 
 -- ---- the same steps, as the table plays them
 
@@ -82,4 +93,4 @@ draws step m n w = Drew m.0 n w.0 × (w.1 ≡ m.1)
 
 -- the step that begins a round again, where all numbers were drawn
 abbrev pub restarts : Step ℕ → Me ℕ Drawn → ℕ → Me ℕ Drawn → Type 0
-restarts step m n w = AreAll m.0.numbers × ((w.0 ≡ fresh) × (w.1 ≡ m.1))
+restarts step m n w = AreAll m.0.numbers × ((w.0 ≡ anew m.0) × (w.1 ≡ m.1))

@@ -9,7 +9,7 @@ ghost use Rattle.hg_tracker.specs.Boards.{trackers_board_id, board_sizes};
 ghost use Rattle.hg_store.specs.Stores.{store_buckets};
 ghost use Rattle.hg_rounds.specs.declared.helper.Helper.{Helper};
 ghost use Rattle.hg_rounds.specs.declared.draws.Drawn.{Drawn};
-ghost use Rattle.hg_rounds.specs.Word.{fresh, AreAll};
+ghost use Rattle.hg_rounds.specs.Word.{AreAll, IsFresh};
 ghost use Rattle.hg_rounds.specs.Helpers.{IsHelperOf, HasHelped};
 ghost use Rattle.hg_rounds.specs.Crew.{IsWilling, HasHired, Unites};
 ghost use Rattle.hg_rounds.specs.Seats.{draws_id, drawn_by, IsDrawerOf};
@@ -34,7 +34,7 @@ pub(crate) fn hire(
 )
     requires own { IsPassOf (board_id board.now) pass.old
         × IsDrawerOf (draws_id draws.now) drawer.old }
-    requires fresh { drawn_by drawer.old ≡ fresh }
+    requires fresh { IsFresh (drawn_by drawer.old) }
     requires may { MaySplit count (own_pass (pass_view pass.old)).share }
     requires few { count ≤ 16 }
     requires none { helpers.old.items ≡ [] }
@@ -72,15 +72,15 @@ pub(crate) fn retire(
         Unites (board_id board.now) (draws_id draws.now) buckets (length helpers.old.items) x
         helpers.old.items (pass_view pass.old) (drawn_by drawer.old) 0 }
     requires few { length helpers.old.items ≤ 16 }
-    // for the same buckets and pass, all are united with it, and each number was drawn once
+    // for the same buckets and pass, all are united with it, each number was drawn once, and what each helper drew is shown
     ensures united { (buckets : ℕ) (x : View) →
         Unites (board_id board.now) (draws_id draws.now) buckets (length helpers.old.items) x
         helpers.old.items (pass_view pass.old) (drawn_by drawer.old) 0 →
         (drawn : Drawn) ×
         Unites (board_id board.now) (draws_id draws.now) buckets (length helpers.old.items) x
         [] (pass_view pass.new) drawn result ×
-        AreAll drawn.numbers }
-    ensures fresh { drawn_by drawer.new ≡ fresh }
+        AreAll drawn.numbers × ((drawn_by drawer.new).before ≡ drawn.joined) }
+    ensures fresh { IsFresh (drawn_by drawer.new) }
     ensures none { helpers.new.items ≡ [] }
     ensures places { vec_capacity helpers.old ≤ vec_capacity helpers.new }
     ensures own { IsPassOf (board_id board.now) pass.new

@@ -7,11 +7,13 @@ use atomic_table::{Join, Play, Seat, Split, Table, TableRule};
 use hg_base::NoMemory;
 use std::alloc::Global;
 
-/// How many numbers a seat may draw still, and those that it drew in this round, the last one first. No code makes a value of this
-/// type: contracts speak of it.
+/// How many numbers a seat may draw still, and those that it drew in this round, the last one first; what each seat drew that was joined
+/// to it in this round, and the same of the round before. No code makes a value of this type: contracts speak of it.
 pub struct Drawn {
     pub left: u64,
     pub numbers: [u64; 0],
+    pub joined: [[u64; 0]; 0],
+    pub before: [[u64; 0]; 0],
 }
 
 /// The rule of the word: the numbers below it are each in exactly one view.
@@ -70,7 +72,7 @@ pub struct Draws {
 
 impl Draws {
     ghost use Rattle.std.specs.Prelude.{◌+◌, ◌<◌, ◌≤◌, IfOk, length};
-    ghost use Rattle.hg_rounds.specs.Word.{whole_quota, helper_quota, Drew, AreAll};
+    ghost use Rattle.hg_rounds.specs.Word.{whole_quota, helper_quota, anew, Drew, AreAll};
     ghost use Rattle.hg_rounds.specs.Seats.{draws_id, drawn_by, IsDrawerOf};
 
     /// No number was drawn yet.
@@ -107,7 +109,7 @@ impl Draws {
         Drawer { seat }
     }
 
-    /// What the other drew comes before what this one did.
+    /// What the other drew comes before what this one did, and is kept apart besides.
     pub(crate) fn take_back(&self, drawer: &mut Drawer, other: Drawer)
         requires own { IsDrawerOf (draws_id self.now) drawer.old
             × IsDrawerOf (draws_id self.now) other }
@@ -126,7 +128,7 @@ impl Draws {
         requires all { (drawn_by drawer.old).left + length (drawn_by drawer.old).numbers ≡
             whole_quota }
         ensures all { AreAll (drawn_by drawer.old).numbers }
-        ensures fresh { drawn_by drawer.new ≡ fresh }
+        ensures anew { drawn_by drawer.new ≡ anew (drawn_by drawer.old) }
         ensures own { IsDrawerOf (draws_id self.now) drawer.new }
     {
         self.table

@@ -17,8 +17,8 @@ use std::marker::Brand;
 use std::sync::Wait;
 use std::sync::ledger::{Blank, Ledger};
 
-// A gate knows helper h by this number and h.
-const FIRST: u32 = 200;
+/// A gate knows helper h by this number and h.
+pub const HELPERS: u32 = 200;
 
 /// A pass with the round's record, the right to draw, and how many versions its visits removed. Helpers are counted from 1.
 #[derive(Drop)]
@@ -54,7 +54,7 @@ impl Helper {
         let mut b = draws.draw(&mut self.drawer);
         while b < tools.store.buckets() as u64 {
             asked += 1;
-            gate.at(rt, FIRST + self.number, asked);
+            gate.at(rt, HELPERS + self.number, asked);
             self.removed += visit_bucket(rt, tools, &mut self.pass, b as u32, steps);
             b = draws.draw(&mut self.drawer);
         }

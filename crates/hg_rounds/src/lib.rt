@@ -77,7 +77,7 @@ mod team;
 mod tools;
 
 pub use draws::{Drawer, Drawn, Draws};
-pub use helper::Helper;
+pub use helper::{HELPERS, Helper};
 pub use interval::IntervalCollector;
 pub use rounds::Rounds;
 pub use table::TableCollector;

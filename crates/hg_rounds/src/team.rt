@@ -35,7 +35,7 @@ impl SweepTeam {
     ghost use Rattle.std.specs.Borrow.{sem};
     ghost use Rattle.hg_rounds.specs.Lending.{LendsPass, EndsAs};
     ghost use Rattle.hg_rounds.specs.contracts.team.SweepTeam.{the_row};
-    ghost use Rattle.hg_rounds.specs.Teams.{pass_of, view_of, report_in, with_pass, IsTeamOf, SweepsBeside};
+    ghost use Rattle.hg_rounds.specs.Teams.{pass_of, view_of, report_in, size_of, draws_of, with_pass, IsTeamOf, IsShared, SweepsBeside};
 
     /// Allocates all that rounds with so many helpers need on a board of so many sessions and tables. If memory runs out, the pass comes
     /// back.
@@ -52,6 +52,7 @@ impl SweepTeam {
         ensures team { (t : BoardId) (z : Sizes) →
             IsPassOf t pass → MaySplit helpers (own_pass (pass_view pass)).share →
             z.sessions ≡ sessions → z.tables ≡ tables → IfOk result (IsTeamOf t z) }
+        ensures size { IfOk result (λ c. size_of c ≡ helpers) }
         ensures same { IfOk result (λ c. pass_of c ≡ pass) }
         ensures refused { IfErr result (λ e. e.0 ≡ pass) }
     {
@@ -96,6 +97,9 @@ impl SweepTeam {
         requires buckets { store_buckets store.now ≡ (board_sizes trackers.now).buckets }
         ensures sweeps { SweepsBeside (board_sizes trackers.now) (view_of self.old)
             (report_in self.new) (view_of self.new) }
+        ensures shared { IsShared (size_of self.old) (board_sizes trackers.now).buckets
+            (view_of self.old) (draws_of self.new) (view_of self.new) }
+        ensures size { size_of self.new ≡ size_of self.old }
         ensures own { IsTeamOf (trackers_board_id trackers.now) (board_sizes trackers.now)
             self.new }
     {
@@ -140,6 +144,9 @@ impl SweepTeam {
         // what `collect` says, of the team as it is once the report is given back
         ensures* ends { sem 𝓛 (EndsAs the_row self.entry (λ c.
             SweepsBeside (board_sizes trackers.now) (view_of self.old) result.now (view_of c)
+            × IsShared (size_of self.old) (board_sizes trackers.now).buckets (view_of self.old)
+            (draws_of c) (view_of c)
+            × (size_of c ≡ size_of self.old)
             × IsTeamOf (trackers_board_id trackers.now) (board_sizes trackers.now) c)) }
     {
         self.collect(rt, trackers, store, gate);

@@ -1,7 +1,9 @@
-use Rattle.std.proofs.Common.{rules, ◌≡◌, ◌++◌, ◌∷◌, [], List, length, subst, arith}
+use Rattle.std.proofs.Common.{rules, ◌≡◌, ◌++◌, ◌∷◌, [], List, length, refl, sym, ap, subst, arith}
 use Rattle.std.specs.Prelude.{vec_capacity}
 use Rattle.hg_rule.specs.Seats.{board_id, pass_view}
+use Rattle.hg_rounds.specs.declared.draws.Drawn.{Drawn}
 use Rattle.hg_rounds.specs.declared.helper.Helper.{Helper}
+use Rattle.hg_rounds.specs.Word.{IsFresh}
 use Rattle.hg_rounds.specs.Crew.{Unites}
 use Rattle.hg_rounds.specs.Seats.{draws_id, drawn_by}
 use Rattle.hg_rounds.proofs.Joined.{back_alone, unites_more, last_unites, last_back, last_fits, all_quota}
@@ -64,4 +66,8 @@ returns-clause-united c buckets x first =
       subst (λ (l : List Helper). Unites (board_id c.args.board.now) (draws_id c.args.draws.now) buckets (length c.args.helpers.now.items) x l
           (pass_view c.loop-helper.pass) (drawn_by c.loop-helper.drawer) c.loop-helper.removed) none (c.loop-helper.invariant.0 buckets x first),
       c.restart.ensures.all,
+      ap (λ (v : Drawn). v.before) c.restart.ensures.anew,
     )
+
+pub returns-clause-fresh : goal.returns-clause-fresh
+returns-clause-fresh c = subst IsFresh (sym c.restart.ensures.anew) record { left = refl; numbers = refl; joined = refl }

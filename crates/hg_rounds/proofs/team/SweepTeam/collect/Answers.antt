@@ -10,9 +10,9 @@ use Rattle.hg_rounds.specs.Rounds.{report_in}
 use Rattle.hg_rounds.specs.declared.helper.Helper.{Helper}
 use Rattle.hg_rounds.specs.Crew.{IsWilling, Unites}
 use Rattle.hg_rounds.specs.Seats.{draws_id, drawn_by}
-use Rattle.hg_rounds.specs.Teams.{SweepsBeside}
+use Rattle.hg_rounds.specs.Teams.{SweepsBeside, IsShared}
 use Rattle.hg_rounds.proofs.Hired.{willing}
-use Rattle.hg_rounds.proofs.Rounded.{many_back, places_back, round_made, round_share}
+use Rattle.hg_rounds.proofs.Rounded.{many_back, places_back, round_made, round_share, round_shared}
 use Rattle.hg_rounds.proofs.team.SweepTeam.collect.Given as given
 use Rattle.hg_rounds.proofs.team.SweepTeam.collect.Goals as goal
 
@@ -69,6 +69,23 @@ returns-clause-sweeps g c =
     let report = report_in c.rewrite.new.self in
     subst (λ (p : CollectorPass). SweepsBeside z v report (pass_view p)) (sym c.rewrite.ensures.same.0)
     (round_made t d z n v x w u.0 c.retire-removed.result report c.gather.ensures.gathered made some u.2 (c.rewrite.ensures.reports _ _ c.gather.ensures.shown))
+
+pub returns-clause-shared : goal.returns-clause-shared
+returns-clause-shared g c =
+    let t = board_id c.board-board.result.now in
+    let d = draws_id c.args.self.now.draws in
+    let z = board_sizes c.args.trackers.now in
+    let v = pass_view c.args.self.now.rounds.pass in
+    let x = pass_view c.gather.new.pass in
+    let w = pass_view c.retire-removed.new.pass in
+    let u = c.retire-removed.ensures.united (store_buckets c.args.store.now) x (began g c).1 in
+    let n : ℕ = length (taken_of g c) in
+    let made : Unites t d z.buckets n x [] w u.0 c.retire-removed.result = subst (λ k. Unites t d k n x [] w u.0 c.retire-removed.result) c.requires.buckets u.1 in
+    let some : 0 < n = (let many = (began g c).0 in let least = c.requires.own.some in omega (arith, many, least)) in
+    let shared = round_shared t d z n v x w u.0 c.retire-removed.result c.gather.ensures.gathered made some u.2 in
+    subst (λ k. IsShared k z.buckets v (drawn_by c.retire-removed.new.drawer).before (pass_view c.rewrite.new.self.pass)) (began g c).0
+    (subst (λ (p : CollectorPass). IsShared n z.buckets v (drawn_by c.retire-removed.new.drawer).before (pass_view p)) (sym c.rewrite.ensures.same.0)
+    (subst (λ draws. IsShared n z.buckets v draws w) (sym u.3) shared))
 
 pub returns-clause-own : goal.returns-clause-own
 returns-clause-own g c =

@@ -1,8 +1,9 @@
-use Rattle.std.proofs.Common.{rules, sym, subst}
+use Rattle.std.proofs.Common.{rules, refl, sym, subst}
 use Rattle.hg_rule.specs.declared.passes.CollectorPass.{CollectorPass}
 use Rattle.hg_rule.specs.Sharing.{MaySplit}
 use Rattle.hg_rule.specs.Views.{pass}
 use Rattle.hg_rule.specs.Seats.{pass_view}
+use Rattle.hg_rounds.specs.Word.{IsFresh}
 use Rattle.hg_rounds.proofs.team.SweepTeam.new.Goals as goal
 
 pub returns-in-Ok-new-2-clause-team : goal.returns-in-Ok-new-2-clause-team
@@ -14,5 +15,5 @@ returns-in-Ok-new-2-clause-team c t z own may sessions tables = record {
   none = c.in-Ok.ensures.items;
   places = search rules;
   drawer = c.in-Ok-new.ensures.own;
-  fresh_is = c.in-Ok-new.ensures.fresh;
+  fresh_is = subst IsFresh (sym c.in-Ok-new.ensures.fresh) record { left = refl; numbers = refl; joined = refl };
 }
