@@ -1,4 +1,5 @@
 -- What a clause says of the interval collector, one or a team.
+use Rattle.std.specs.Prelude.{◌≡◌, ℕ, ◌<◌, ◌≤◌}
 use Rattle.hg_rule.specs.declared.passes.CollectorPass.{CollectorPass}
 use Rattle.hg_rule.specs.declared.view.View.{View}
 use Rattle.hg_rule.specs.declared.view.Sizes.{Sizes}
@@ -21,3 +22,8 @@ view_of w = pass_view (pass_of w)
 abbrev pub IsCollectorOf : BoardId → Sizes → IntervalWorker → Type 0
 IsCollectorOf t z (One c) = one.IsCollectorOf t z c
 IsCollectorOf t z (Team c) = team.IsTeamOf t z c
+
+-- so many share a round: a team of that many if there is more than one
+abbrev pub HasHelpers : ℕ → IntervalWorker → Type 0
+HasHelpers n (One c) = n ≤ 1
+HasHelpers n (Team c) = (1 < n) × (team.size_of c ≡ n)

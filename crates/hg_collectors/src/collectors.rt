@@ -45,9 +45,9 @@ impl Collectors {
     ghost use Rattle.hg_rule.specs.declared.view.Sizes.{Sizes};
     ghost use Rattle.hg_collectors.specs.Swept.{HasSwept, swept_by};
     ghost use Rattle.hg_collectors.specs.Collecting.{AreCollectorsOf, IsLone, pass_in, removed_of, view_in};
+    ghost use Rattle.hg_collectors.specs.Workers.{HasHelpers};
 
-    /// The collectors of an engine, with these passes. If `sweepers` is above 1, a team of that many helpers makes the interval rounds.
-    /// If memory runs out, the passes are lost.
+    /// The collectors of an engine, with these passes. If memory runs out, the passes are lost.
     pub fn new(
         alloc: Global,
         group: CollectorPass,
@@ -57,6 +57,7 @@ impl Collectors {
     ) -> Result<Collectors, NoMemory>
         requires tables { room.tables ≤ 64 }
         requires sweepers { room.sweepers ≤ 16 }
+        ensures helpers { IfOk result (λ c. HasHelpers room.sweepers c.interval) }
         ensures same { IfOk result (λ c.
             (pass_in kinds.Group c ≡ group) × (pass_in kinds.Table c ≡ table) ×
             (pass_in kinds.Interval c ≡ interval)) }

@@ -19,9 +19,9 @@ pub enum IntervalWorker {
 
 impl IntervalWorker {
     ghost use Rattle.hg_rule.specs.declared.view.Sizes.{Sizes};
-    ghost use Rattle.hg_collectors.specs.Workers.{pass_of, IsCollectorOf};
+    ghost use Rattle.hg_collectors.specs.Workers.{pass_of, HasHelpers, IsCollectorOf};
 
-    /// A team if there is more than one helper. If memory runs out, the pass is lost.
+    /// If memory runs out, the pass is lost.
     pub fn new(
         alloc: Global,
         pass: CollectorPass,
@@ -31,6 +31,7 @@ impl IntervalWorker {
     ) -> Result<IntervalWorker, NoMemory>
         requires tables { tables ≤ 64 }
         requires helpers { helpers ≤ 16 }
+        ensures helpers { IfOk result (HasHelpers helpers) }
         ensures same { IfOk result (λ w. pass_of w ≡ pass) }
         // for each board of which the pass is one, with all of its share, and which has so many sessions and tables
         ensures own { (t : BoardId) (z : Sizes) →

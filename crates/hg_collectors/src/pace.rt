@@ -17,7 +17,8 @@ ghost use Rattle.std.specs.Prelude.{◌≡◌, ◌+◌, ◌*◌, ◌<◌, ◌≤
 ghost use Rattle.hg_collectors.specs.Pacing.{turn_of, records_before};
 ghost use Rattle.hg_collectors.specs.declared.pace.TheConstants.{LONGEST_PAUSE};
 
-use hg_base::{Gate, NoMemory};
+use hg_base::{Gate, MOST_SESSIONS, NoMemory};
+use hg_rounds::HELPERS;
 use std::alloc::Global;
 use std::sync::Wait;
 use std::sync::atomic::AtomicU64;
@@ -41,6 +42,11 @@ pub(crate) const INTERVAL: u32 = 103;
 
 /// The number by which a gate knows the worker that reads for a dump.
 pub const READER: u32 = 104;
+
+// No worker has the number of another: sessions are below the collectors, and these and the reader below the helpers.
+const _: () = prove!(MOST_SESSIONS < GROUP);
+
+const _: () = prove!(READER < HELPERS);
 
 // How many words a cache line has.
 const LINE: usize = 8;
