@@ -11,7 +11,7 @@
 //!
 //!     serve          sources and sinks that fail, that watch how they are called, and that never fail
 //!     order_tests    workers that are held, so that one schedule alone is possible
-//!     round          the same, of rounds that are made while a session stays
+//!     round          the same, of rounds that are made while a session stays, or a helper
 //!     order          a gate that holds workers
 //!     watched        a source and a sink that watch how they are called
 //!

@@ -35,15 +35,18 @@ impl<'a> Order<'a> {
         })
     }
 
-    /// Whether each worker that was held has seen what it waited for.
+    /// Whether each worker came to each step that is named, and none gave up what it waited for.
     pub(crate) fn was_kept(&self) -> bool {
-        self.given_up.load(SeqCst) == 0
+        let have_come = self.holds.iter().all(|(held, other)| self.has_come_to(*held)
+            && self.has_come_to(*other));
+        have_come && self.given_up.load(SeqCst) == 0
     }
 
+    // A helper counts its buckets anew in each round, so a step may have come before.
     fn come_to(&self, step: Step) {
         let (worker, number) = step;
         if let Some(come) = self.come.get(worker as usize) {
-            come.store(number as u64, SeqCst);
+            come.store(come.load(SeqCst).max(number as u64), SeqCst);
         }
     }
 

@@ -89,28 +89,6 @@ fn two_workers_are_held(rt: HostRuntime) {
     assert!(rt; is_meeting(sink.bytes()));
 }
 
-// Two helpers of the interval collector each wait before their first bucket until the other has come to its own. If one thread made the
-// whole round, it would wait for itself.
-const HELPERS_HOLDS: [(Step, Step); 2] = [((201, 1), (202, 1)), ((202, 1), (201, 1))];
-
-const HELPERS_TEXT: &[u8] = b"0,1,swept,group,0,0,0
-0,1,swept,table,0,0,0
-0,1,swept,interval,0,0,0
-total,made,0
-total,undone,0
-total,group,0
-total,table,0
-total,interval,0
-total,left,0
-";
-
-#[test]
-fn two_helpers_are_held(rt: HostRuntime) {
-    let words = "run --buckets 2 --rounds 1 --sweepers 2";
-    let sink = written_in_order(&rt, rt.alloc(), words, "", &HELPERS_HOLDS);
-    assert_eq!(rt; sink.bytes(), HELPERS_TEXT);
-}
-
 const TWO_PUTS: &str = "table,t,1\n1,put,t,5,7\n1,put,t,6,8\n";
 
 // The reader waits until session 1 comes to its second put, which waits until the reader has read once.

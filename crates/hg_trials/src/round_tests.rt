@@ -1,4 +1,4 @@
-//! Texts of rounds that a gate has made while a session stays.
+//! Texts of rounds that a gate has made while a session stays, or a helper.
 
 use crate::order::Step;
 use crate::order_tests::written_in_order;
@@ -13,6 +13,11 @@ const GROUP: u32 = 101;
 const TABLE: u32 = 102;
 
 const INTERVAL: u32 = 103;
+
+// And the first two helpers of the interval collector.
+const HELPER_1: u32 = 201;
+
+const HELPER_2: u32 = 202;
 
 // Whether an audit finds a text sound for its script.
 fn is_sound<R: Abort>(rt: &R, alloc: Global, script: &str, text: &[u8]) -> bool {
@@ -166,4 +171,49 @@ fn rounds_are_made_between_two_fetches(rt: HostRuntime) {
     let sink = written_in_order(&rt, rt.alloc(), words, FETCHED, &FETCHED_HOLDS);
     assert_eq!(rt; sink.bytes(), FETCHED_TEXT);
     assert!(rt; is_sound(&rt, rt.alloc(), FETCHED, FETCHED_TEXT));
+}
+
+// Each of two keys is stored twice.
+const TWICE: &str =
+    "table,t,1\n1,put,t,5,10\n1,put,t,6,20\n1,put,t,5,30\n1,put,t,6,40\n1,gc,interval\n";
+
+// When session 1 has stored all, the interval collector gathers. Its two helpers are each held before a first bucket until the other
+// has come to its own: one thread would wait for itself. Meanwhile the group collector makes its first round and takes all that there is
+// to take. The second helper waits until the first one has gone on to a second bucket.
+const HELPERS_HOLDS: [(Step, Step); 9] = [
+    ((INTERVAL, 1), (1, 5)),
+    ((HELPER_1, 1), (HELPER_2, 1)),
+    ((HELPER_2, 1), (HELPER_1, 1)),
+    ((GROUP, 1), (HELPER_1, 1)),
+    ((GROUP, 1), (HELPER_2, 1)),
+    ((HELPER_1, 1), (GROUP, 2)),
+    ((HELPER_2, 1), (GROUP, 2)),
+    ((HELPER_2, 1), (HELPER_1, 2)),
+    ((TABLE, 1), (GROUP, 2)),
+];
+
+const HELPERS_TEXT: &[u8] = b"1,2,at,0,stored,committed,1
+1,3,at,1,stored,committed,2
+1,4,at,2,stored,committed,3
+1,5,at,3,stored,committed,4
+1,6,beside
+0,1,swept,group,4,4,2
+0,2,swept,group,4,4,0
+0,1,swept,table,4,4,0
+0,2,swept,table,4,4,0
+0,1,swept,interval,4,4,0
+0,2,swept,interval,4,4,0
+total,made,4
+total,undone,0
+total,group,2
+total,table,0
+total,interval,0
+total,left,2
+";
+
+#[test]
+fn two_helpers_are_held(rt: HostRuntime) {
+    let words = "run --buckets 3 --rounds 2 --sweepers 2";
+    let sink = written_in_order(&rt, rt.alloc(), words, TWICE, &HELPERS_HOLDS);
+    assert_eq!(rt; sink.bytes(), HELPERS_TEXT);
 }
