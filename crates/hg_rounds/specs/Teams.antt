@@ -75,8 +75,8 @@ pub record SweepsBeside (z : Sizes) (v : View) (report : Report) (w : View) : Ty
   pub visit_once : VisitOnce z.buckets gathered on.visits
   pub reports : Reports Interval v report w
 
--- The round was shared by so many helpers. Each drew numbers of its own: those of the buckets that it visited, and at last one that no
--- bucket has. The visits are those of the helpers, one helper after the other.
+-- The round was shared by so many helpers. Each drew numbers of its own, and ended with one that no bucket has. The others are those of
+-- the buckets that were visited, one helper after the other.
 pub record IsShared (n buckets : ℕ) (v : View) (draws : List (List ℕ)) (w : View) : Type 0 where
   pub many : length draws ≡ n
   pub ended : Each (EndsPast buckets) draws

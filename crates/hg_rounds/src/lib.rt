@@ -62,7 +62,7 @@
 //! passes are united: the visits of all helpers become the team's own.
 //!
 //! The rule of the word (`IsDrawn`): each number below it is in exactly one view. At the end of a round the team has all views, so it
-//! knows that each bucket was visited once.
+//! knows that each bucket was visited once, and which numbers each helper drew (`IsShared`).
 //!
 //! The constructor of each allocates all room. A round allocates nothing for itself, and cannot be refused.
 #![tactic(auto)]
