@@ -77,14 +77,14 @@ fn due(records: u64, rounds: u32, worker: u32, round: u32) -> u64
     records.saturating_mul(turn) / parts
 }
 
-// Whether so many records are enough, or a collector has given up since no more than these were begun.
+// Whether a wait is over: as many records as it is for are begun, or no more than when a collector gave up last.
 fn is_enough(begun: u64, due: u64, given_up: u64) -> bool
     ensures { result ≡ (nat_le due begun || nat_lt begun given_up) }
 {
     begun >= due || begun < given_up
 }
 
-// What a collector's worker knows that waits.
+// What a collector's worker knows while it waits.
 #[derive(Clone, Copy)]
 struct Waiting {
     // How many records were begun when that number rose last.
@@ -199,7 +199,7 @@ impl<'a, G: Gate> Pace<'a, G> {
         sum
     }
 
-    // Whether a wait goes on: fewer are begun, and somebody waits.
+    // Whether a wait goes on. If it does not, and too few are begun, no other collector waits for more either.
     fn goes_on(&self, due: u64, waiting: &mut Waiting) -> bool
         ensures more { waiting.old.last ≤ waiting.new.last }
         ensures due { IsTrue result → waiting.old.last < waiting.new.last →
