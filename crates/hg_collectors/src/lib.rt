@@ -34,7 +34,8 @@
 //! Garbage Collection for Multi-Version Concurrency Control in SAP HANA", SIGMOD 2016.
 //!
 //! The commit lock is held for at most as many records as there is room for. Those that are taken together visit each of their buckets
-//! once (`VisitsEachOnce`). A group that finds no room left is taken too, and is cut from its own list. No bucket is held while the pass waits for the commit lock.
+//! once (`VisitsEachOnce`). A group that finds no room left is taken too, and is cut from its own list. No bucket is held while the pass
+//! waits for the commit lock.
 //!
 //! One rule (`Collects`): a call of `collect` is one round. It gathers once; it takes groups until the total number taken, by any pass,
 //! reaches its bound; and each record that one of these groups wrote is cut at that bound, and was when its bucket was given back. The
