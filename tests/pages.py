@@ -12,8 +12,8 @@ whose `<<` document is not at its end. A line `...` stands for any number of lin
 are not run.
 
 The blocks of a page run in order in one shell and in one new folder, so a later block sees files and processes of those before it. There
-are `hybridgc`, `tools/` and `examples/` in it, and both the tools and `hybridgc` are on the PATH. What a page leaves running is ended. A block that
-fails is shown as a diff. The last line is 'N examples of pages passed, M failed', and the exit status is 1 if any failed.
+are `hybridgc`, `tools/` and `examples/` in it, and both the tools and `hybridgc` are on the PATH. What a page leaves running is ended. A
+block that fails is shown as a diff. The last line is 'N examples of pages passed, M failed', and the exit status is 1 if any failed.
 """
 
 from __future__ import annotations
