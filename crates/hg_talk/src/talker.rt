@@ -8,6 +8,7 @@ ghost use Rattle.hg_talk.specs.Standard.{failed_calls, log_of};
 use crate::client::Client;
 use crate::told::{Note, ToldLog};
 use hg_base::Failed;
+use std::io;
 use std::io::{Read, Stdin, Stdout, Write};
 
 /// Standard input and output.
@@ -17,6 +18,8 @@ pub struct StandardClient {
     output: Stdout,
     faults: u64,
     log: ToldLog,
+    // why the last call that failed did
+    fault: Option<io::Error>,
 }
 
 impl StandardClient {
@@ -30,7 +33,13 @@ impl StandardClient {
             output,
             faults: 0,
             log: ToldLog::new(),
+            fault: None,
         }
+    }
+
+    /// The system's reason for the last call that failed, if it gave one.
+    pub fn fault(&self) -> Option<&io::Error> {
+        self.fault.as_ref()
     }
 
     // A call failed, as the note says.
@@ -56,7 +65,10 @@ impl Client for StandardClient {
                 self.log = self.log.then(&Note::Read(&into[..count]));
                 Ok(count)
             }
-            Err(_) => Err(self.fail(Note::ReadFailed)),
+            Err(fault) => {
+                self.fault = Some(fault);
+                Err(self.fail(Note::ReadFailed))
+            }
         }
     }
 
@@ -67,7 +79,11 @@ impl Client for StandardClient {
                 self.log = self.log.then(&Note::Wrote(&piece[..count]));
                 Ok(count)
             }
-            _ => Err(self.fail(Note::WriteFailed)),
+            Ok(_) => Err(self.fail(Note::WriteFailed)),
+            Err(fault) => {
+                self.fault = Some(fault);
+                Err(self.fail(Note::WriteFailed))
+            }
         }
     }
 }
