@@ -1,0 +1,2 @@
+-- What is printed ASCII is UTF-8.
+mod Printable

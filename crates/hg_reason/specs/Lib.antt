@@ -1,0 +1,2 @@
+-- Which texts are one line.
+pub mod Printed
