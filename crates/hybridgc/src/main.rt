@@ -6,26 +6,31 @@
 //!     hybridgc audit < script-and-text
 //!     hybridgc live
 //!
-//! If a call does not end with `Done`, its status is one line on standard error. The exit status says how the call ended.
+//! If a call does not end with `Done`, its status is one line on standard error. A line with the reason follows where there is more to say
+//! (`hg_reason`), or the page that `--help` or `--version` asks for. The exit status says how the call ended.
 #![tactic(auto)]
 
 ghost use Rattle.std.specs.Prelude.{◌≡◌};
 ghost use Rattle.std.specs.Process.{exit_status};
 ghost use Rattle.hg_streams.specs.Status.{exit_code_of};
 
+use hg_reason::{Call, explain};
 use hg_run::{NoGate, Status, StdinSource, StdoutSink, converse, serve};
 use hg_streams::words_of;
 use hg_talk::StandardClient;
 use hg_words::asks_to_talk;
 use std::process::ExitCode;
 
-// Says how the call ended, unless all was done, and gives the exit status of that.
-fn exit_with(rt: &HostRuntime, status: Status) -> ExitCode
+// Says how the call ended, unless all was done, and why, and gives the exit status of that.
+fn exit_with(rt: &HostRuntime, call: &Call<'_>, status: Status) -> ExitCode
     ensures { exit_status result ≡ exit_code_of status }
 {
     if status != Status::Done {
         // Where standard error takes nothing, the exit status alone reports it.
         let _ = eprintln!(rt; "{status}");
+    }
+    if let Ok(Some(why)) = explain(rt.alloc(), call, status) {
+        let _ = eprint!(rt; "{why}");
     }
     ExitCode::from(status.exit_code())
 }
@@ -33,15 +38,33 @@ fn exit_with(rt: &HostRuntime, status: Status) -> ExitCode
 fn main(rt: HostRuntime) -> ExitCode {
     let words = match words_of(&rt) {
         Ok(words) => words,
-        Err(status) => return exit_with(&rt, status),
+        Err(status) => return exit_with(&rt, &Call::of(&[]), status),
     };
-    let status = if asks_to_talk(&words) {
+    if asks_to_talk(&words) {
         let mut client = StandardClient::new(rt.stdin(), rt.stdout());
-        converse(&rt, rt.alloc(), &words, &mut client)
-    } else {
-        let mut source = StdinSource::new(rt.stdin());
-        let mut sink = StdoutSink::new(rt.stdout());
-        serve(&rt, rt.alloc(), &words, &mut source, &mut sink, &NoGate)
-    };
-    exit_with(&rt, status)
+        let status = converse(&rt, rt.alloc(), &words, &mut client);
+        let fault = client.fault();
+        return exit_with(
+            &rt,
+            &Call {
+                fault,
+                ..Call::of(&words)
+            },
+            status,
+        );
+    }
+    let mut source = StdinSource::new(rt.stdin());
+    let mut sink = StdoutSink::new(rt.stdout());
+    let status = serve(&rt, rt.alloc(), &words, &mut source, &mut sink, &NoGate);
+    let (words, given) = (&words, source.kept());
+    let fault = source.fault().or(sink.fault());
+    exit_with(
+        &rt,
+        &Call {
+            words,
+            given,
+            fault,
+        },
+        status,
+    )
 }
