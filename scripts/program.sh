@@ -56,3 +56,8 @@ is_built() {
     [ -x "$program" ] && [ -z "$(find "$root/crates.txt" -newer "$program")" ] || return 1
     is_newer "$program" "$inside" $(crates_of_program | cut -d ' ' -f 1)
 }
+
+# Prints what the program prints for --help after its usage: the lines of its source.
+help_page() {
+    sed -n '/^const HELP/,/^";/p' "$root/crates/hg_reason/src/help.rt" | sed '1d; $d; s/\\\\/\\/g'
+}
