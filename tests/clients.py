@@ -39,7 +39,7 @@ def a_client_closes_its_end():
     expect("the first answer", b"1,1,begun,0\n", client.answer())
     client.process.stdout.close()
     os.write(client.to, b"1,commit\n")
-    expect_end(client, 5, b"write fault\n")
+    expect_end(client, 5, b"write fault\nstandard output: Broken pipe (os error 32)\n")
 
 
 def the_input_fails_in_the_midst():
@@ -51,7 +51,8 @@ def the_input_fails_in_the_midst():
         ours.sendall(b"1,begin\n")
         select.select([ours], [], [], SECONDS)
     _, said = process.communicate(timeout=SECONDS)
-    expect("the exit status and what is said", (4, b"read fault\n"), (process.returncode, said))
+    wanted = b"read fault\nstandard input: Connection reset by peer (os error 104)\n"
+    expect("the exit status and what is said", (4, wanted), (process.returncode, said))
 
 
 def a_client_reads_late():

@@ -1,10 +1,12 @@
 """Tests whose scripts are made by code."""
 
 import collections
+import resource
+import subprocess
 import time
 
 import clients
-from program import NO_TOTALS, Wrong, audit, expect, expect_end, records_of, replies_of, run_to_full_disk, shown, sound_text
+from program import NO_TOTALS, PROGRAM, SECONDS, Wrong, audit, expect, expect_end, expect_refused, records_of, replies_of, run_to_full_disk, shown, sound_text
 from program import text_of, totals_of
 from rows import is_put_back, last_dump, quoted, rows_left
 from scripts import Chance, accounts, any_script, head, long_readers, made, own_tables, puts, readers_in_parts, rounds_beside_a_reader
@@ -20,8 +22,10 @@ def has(totals, **wanted):
 
 def length_is_limited():
     """A script of as many bytes as it may have, and of one more."""
-    expect_end("replay", b"1" * MOST_BYTES, 3, b"script record 1: Word\n")
-    expect_end("replay", b"1" * (MOST_BYTES + 1), 6, b"script longer than 16777216 bytes\n")
+    expect_refused("replay", b"1" * MOST_BYTES, b"script record 1: Word")
+    why = expect_end("replay", b"1" * (MOST_BYTES + 1), 6, b"script longer than 16777216 bytes\n")
+    wanted = b"the input goes on after 16777216 bytes; divide it, or send it to hybridgc live, where its length has no limit\n"
+    expect("the reason", wanted, why)
 
 
 def records_are_limited():
@@ -29,7 +33,18 @@ def records_are_limited():
     script = b"1,begin\n1,commit\n" * (MOST_RECORDS // 2)
     wanted = b"".join(b"1,%d,begun,0\n1,%d,ended\n" % (place, place + 1) for place in range(1, MOST_RECORDS, 2))
     expect("the text", wanted + NO_TOTALS, text_of("replay", script))
-    expect_end("replay", script + b"1,begin\n", 3, b"script record 1048577: Count\n")
+    why = expect_refused("replay", script + b"1,begin\n", b"script record 1048577: Count")
+    expect("the reason", b"line 1048577 (1,begin): a script has at most 1048576 records, and this is one more\n", why)
+
+
+def memory_runs_out():
+    """A script of many rows, where the program may have 40 MB of addresses."""
+    script = b"table,t,1\n" + b"".join(b"1,put,t,%d,1\n" % key for key in range(900_000))
+    limit = lambda: resource.setrlimit(resource.RLIMIT_AS, (40 << 20, 40 << 20))
+    done = subprocess.run([PROGRAM, "replay"], input=script, capture_output=True, preexec_fn=limit, timeout=SECONDS)
+    wanted = "out of memory/take a smaller script, or hold fewer versions: shorter transactions and cursors, and more --rounds in a run/"
+    expect("the exit status and standard error", f"7 {wanted}", f"{done.returncode} {shown(done.stderr)}")
+    expect("standard output", b"", done.stdout)
 
 
 def lists_go_past_sixteen_bits():
@@ -42,7 +57,8 @@ def lists_go_past_sixteen_bits():
 def a_text_cannot_be_written(words):
     """Standard output takes no byte."""
     status, said = run_to_full_disk(words, b"")
-    expect("the exit status and standard error", "5 write fault/", f"{status} {shown(said)}")
+    wanted = "5 write fault/standard output: No space left on device (os error 28)/"
+    expect("the exit status and standard error", wanted, f"{status} {shown(said)}")
 
 
 def twenty_accounts_are_left():
@@ -100,7 +116,7 @@ def texts_of_every_length():
     expect("the rows", rows, rows_left(script))
     for length in (65, 66):
         script = head(2) + b"1,put,t,1,1," + quoted((b"0123456789" * 7)[:length]) + b"\n"
-        expect_end("replay", script, 3, b"script record %d: Value\n" % script.count(b"\n"))
+        expect_refused("replay", script, b"script record %d: Value" % script.count(b"\n"))
 
 
 def rounds_remove_more_than_half():
@@ -230,6 +246,7 @@ TESTS = (
     (length_is_limited,),
     (records_are_limited,),
     (lists_go_past_sixteen_bits,),
+    (memory_runs_out,),
     (a_text_cannot_be_written, "replay", "live"),
     (twenty_accounts_are_left,),
     (long_readers_stay, "run --rounds 50", "run --rounds 50 --sweepers 4"),

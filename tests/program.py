@@ -97,11 +97,23 @@ def text_of(words, source):
 
 
 def expect_end(words, source, status, said):
-    """Checks that a call prints nothing, and ends with a status and a line on standard error."""
+    """Checks that a call prints nothing, and ends with a status, a line on standard error, and lines that can be printed. Returns those."""
     found, text, error = run(words, source)
     what = f"{words or '(no word)'}: "
-    expect(what + "the exit status and standard error", f"{status} {shown(said)}", f"{found} {shown(error)}")
+    first, more = error[: len(said)], error[len(said) :]
+    expect(what + "the exit status and the first line on standard error", f"{status} {shown(said)}", f"{found} {shown(first)}")
+    if not re.fullmatch(rb"([ -~]*\n)*", more):
+        raise Wrong(f"{what}standard error\n    wanted: lines of printed ASCII\n    found:  {shown(more)}")
     expect(what + "standard output", b"", text)
+    return more
+
+
+def expect_refused(words, script, refusal):
+    """Checks that a script is refused with this line on standard error, and that the reason follows in a line. Returns the reason."""
+    why = expect_end(words, script, 3, refusal + b"\n")
+    if not re.fullmatch(rb"line \d+(, field \d+)? \(.*\): .+\n", why):
+        raise Wrong(f"{words}: the reason\n    wanted: line N, field N (..): ..\n    found:  {shown(why)}")
+    return why
 
 
 def audit(script, text):

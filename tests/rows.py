@@ -2,7 +2,8 @@
 
 import os
 
-from program import FOLDER, HERE, NO_TOTALS, USAGE, audit, bytes_of, expect, expect_end, records_of, replies_of, sound_text, text_of
+from help import help_is_one_text
+from program import FOLDER, HERE, NO_TOTALS, USAGE, audit, bytes_of, expect, expect_end, expect_refused, records_of, replies_of, run, shown, sound_text, text_of
 
 
 def lines_of(name):
@@ -46,7 +47,7 @@ def cases_of(name):
 
 
 def is_refused(script, refusal):
-    expect_end("replay", bytes_of(script), 3, b"script %s\n" % refusal.encode())
+    expect_refused("replay", bytes_of(script), b"script " + refusal.encode())
 
 
 def is_taken(script, count):
@@ -71,10 +72,20 @@ def is_answered(words, status):
         expect_end(words, FOLDER, int(status), USAGE)
 
 
+def source_of(script):
+    return FOLDER if script == "(a folder)" else bytes_of(script)
+
+
 def ends_with(call, end):
     words, script = call.split(" < ")
     status, said = end.split(" ", 1)
-    expect_end(words, FOLDER if script == "(a folder)" else bytes_of(script), int(status), said.encode() + b"\n")
+    expect_end(words, source_of(script), int(status), said.encode() + b"\n")
+
+
+def is_explained(call, why):
+    words, script = call.split(" < ")
+    status, text, said = run(words, source_of(script))
+    expect("the last line on standard error", why, said.decode().splitlines()[-1])
 
 
 def has_totals(words, totals):
@@ -92,7 +103,7 @@ def has_reports(words, count):
 
 def is_divided(source, answer):
     if answer.startswith("script record "):
-        expect_end("audit", bytes_of(source), 3, answer.encode() + b"\n")
+        expect_refused("audit", bytes_of(source), answer.encode())
     else:
         expect("the verdict", answer, text_of("audit", bytes_of(source)).decode().removesuffix("\n"))
 
@@ -160,6 +171,7 @@ LINES = {
     "seeds.txt": has_totals,
     "rounds.txt": has_reports,
     "sources.txt": is_divided,
+    "explained.txt": is_explained,
 }
 CASES = {
     "replayed.txt": is_printed,
@@ -189,3 +201,4 @@ def rows():
             for row, i in zip(block[3:], places[3:]):
                 yield f"tests/{name}:{i}", is_judged, (script, text, *row.rsplit(" = ", 1))
     yield "tests/values.txt", values, ()
+    yield "tests/help.py", help_is_one_text, ()
