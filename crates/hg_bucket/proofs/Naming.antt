@@ -51,7 +51,7 @@ pub record Comes (es fs : List (Rid × ℕ)) (cs ds : Places) (places seats : Li
   pub here : place_of fs r ≡ Some p
   pub others : (q : Rid) → IsFalse (same_rid r q) → place_of fs q ≡ place_of es q
   pub given : IsGiven places seats p
-  pub fits : p < 2 ^ 40
+  pub fits : p < 2 ^ 32
   pub chain : list_at ds p ≡ w ∷ []
   pub lists : ListsStay p cs ds
 
@@ -95,7 +95,7 @@ come_whole es fs cs ds places seats r p w h =
           (λ apart. held_again cs ds places seats p h.lists h.given.others n apart (old.held n tt (before n apart t)));
       falls = λ n t. each_place (λ m. Falls (list_at ds m) (image_at seats m)) p n falls_here
           (λ apart. falls_again cs ds places seats p h.lists h.given.others n apart (old.falls n (before n apart t)));
-      fits = λ n t. each_place (λ m. m < 2 ^ 40) p n h.fits (λ apart. old.fits n (before n apart t));
+      fits = λ n t. each_place (λ m. m < 2 ^ 32) p n h.fits (λ apart. old.fits n (before n apart t));
     }
   where
     old : AreWhole es cs places

@@ -73,7 +73,7 @@ pub record AreWholeWhere (MustHave : ℕ → Type 0) (index : List (Rid × ℕ))
   pub chained : (p : ℕ) → 0 < length (list_at chains p) → IsTaken places p
   pub held : (p : ℕ) → MustHave p → IsTaken places p → 0 < length (versions_at chains places p)
   pub falls : (p : ℕ) → IsTaken places p → Falls (list_at chains p) (image_at places p)
-  pub fits : (p : ℕ) → IsTaken places p → p < 2 ^ 40
+  pub fits : (p : ℕ) → IsTaken places p → p < 2 ^ 32
 
 -- there is a version at each place that is taken
 abbrev pub AreWhole : List (Rid × ℕ) → Places → List Seat → Type 0

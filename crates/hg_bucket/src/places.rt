@@ -103,7 +103,7 @@ pub(crate) fn add(
     image: Image,
     by: Writer,
 ) -> Result<bool, NoMemory>
-    requires place { placed.place < 2 ^ 40 }
+    requires place { placed.place < 2 ^ 32 }
     requires own { NoOther by (list_at chains.old placed.place) }
     requires not_listed { OnTrue (length (list_at chains.old placed.place) == 0)
         (StandsNowhere longs.old placed.place) }
@@ -150,14 +150,13 @@ pub(crate) fn leave_bare(longs: &mut Roster, chains: &Chains, placed: Placed)
 /// Takes a place for a record.
 pub(crate) fn take(space: &mut TableSpace) -> Result<u64, NoMemory>
     ensures given { IfOk result (λ place. IsGiven space.old.places space.new.places place) }
-    ensures fits { IfOk result (λ place. place < 2 ^ 40) }
+    ensures fits { IfOk result (λ place. place < 2 ^ 32) }
     ensures refused { OnErr result (AreAlike space.old.places space.new.places) }
 {
     space.reserve()?;
     let place = space.take_place();
 
-    // A chain's place is under this. No memory holds so many places.
-    if place >= 1 << 40 {
+    if RidIndex::is_past(place) {
         space.give_place(place);
         return Err(NoMemory);
     }

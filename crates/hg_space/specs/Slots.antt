@@ -1,5 +1,5 @@
 -- The table from records to places: bins of slots, each record in one bin only. It may leave records out.
-use Rattle.std.specs.Prelude.{◌≡◌, ℕ, ◌*◌, ◌/◌, ◌%◌, ◌^◌, List, [], ◌∷◌, map, length, Bool, true, false, ◌&&◌, ◌||◌, Option, Some, None, IsFalse, slice_index_or, bit_xor, if◌then◌else◌}
+use Rattle.std.specs.Prelude.{◌≡◌, ℕ, ◌*◌, ◌≤◌, ◌/◌, ◌%◌, ◌^◌, List, [], ◌∷◌, map, length, Bool, true, false, ◌&&◌, ◌||◌, Option, Some, None, IsFalse, slice_index_or, bit_xor, if◌then◌else◌}
 use Rattle.std.specs.List.{list_any}
 use Rattle.hg_base.specs.declared.rid.Rid.{Rid}
 use Rattle.hg_base.specs.History.{same_rid}
@@ -83,6 +83,10 @@ Fits Unknown place = Unit
 -- all that the table says of records is so
 abbrev pub AreFaithful : List (List Slot) → List (Rid × ℕ) → Type 0
 AreFaithful bins index = (r : Rid) → Fits (look_at bins r) (place_of index r)
+
+-- the bins have room for so many records: at seven in each, of the eight that it may have
+abbrev pub HaveRoom : List (List Slot) → ℕ → Type 0
+HaveRoom bins many = many ≤ 7 * length bins
 
 -- what was so of the other records is so still
 abbrev pub StayFit : Rid → List (List Slot) → List (List Slot) → Type 0

@@ -1,6 +1,6 @@
 //! Which place a record has.
 
-ghost use Rattle.std.specs.Prelude.{◌≡◌, ℕ, [], Some, None, IsFalse, OnOk, OnErr};
+ghost use Rattle.std.specs.Prelude.{◌≡◌, ◌↔◌, ℕ, ◌<◌, ◌≤◌, ◌^◌, [], Some, None, IsTrue, IsFalse, OnOk, OnErr};
 ghost use Rattle.std.specs.BTreeMap.{insert_entry};
 ghost use Rattle.std.specs.Map.{remove_entry};
 ghost use Rattle.hg_base.specs.declared.rid.Rid.{Rid};
@@ -23,17 +23,17 @@ pub struct RidIndex {
 }
 
 impl Model for RidIndex {
-    ghost use Rattle.std.specs.Prelude.{List, ℕ};
+    ghost use Rattle.std.specs.Prelude.{List, ℕ, length};
     ghost use Rattle.hg_base.specs.declared.rid.Rid.{Rid};
 
     ghost Value = { List (Rid × ℕ) };
 
     ghost use Rattle.hg_space.specs.Index.{IsIndex};
-    ghost use Rattle.hg_space.specs.Slots.{AreFaithful};
+    ghost use Rattle.hg_space.specs.Slots.{AreFaithful, HaveRoom};
 
     ghost view = { λ a. a.places.entries };
 
-    ghost invariant = { λ a. IsIndex a.places.entries × AreFaithful a.slots a.places.entries };
+    ghost invariant = { λ a. IsIndex a.places.entries × AreFaithful a.slots a.places.entries × HaveRoom a.slots (length a.places.entries) };
 }
 
 impl RidIndex {
@@ -75,19 +75,24 @@ impl RidIndex {
         Some(*place as u64)
     }
 
-    /// Gives a record a place. Over 2^32 places there is no room: that is refused as memory is.
+    /// Whether a place is past those that the index has numbers for.
+    pub fn is_past(place: u64) -> bool
+        ensures { IsTrue result ↔ (2 ^ 32 ≤ place) }
+    {
+        place > u32::MAX as u64
+    }
+
+    /// Gives a record a place.
     pub fn insert(&mut self, rid: Rid, place: u64) -> Result<(), NoMemory>
         requires new_record { place_of self.old rid ≡ None }
         requires new_place { (q : Rid) → HasPlace self.old q place → ⊥ }
+        requires within { place < 2 ^ 32 }
         ensures here { OnOk result (place_of self.new rid ≡ Some place) }
         ensures others { (q : Rid) → IsFalse (same_rid rid q) →
             place_of self.new q ≡ place_of self.old q }
         ensures list { OnOk result (self.new ≡ insert_entry rid_cmp self.old rid place) }
         ensures refused { OnErr result (self.new ≡ self.old) }
     {
-        if place > u32::MAX as u64 {
-            return Err(NoMemory);
-        }
         let place = place as u32;
         self.slots.reserve(&self.places, self.alloc)?;
         self.places.insert(rid, place)?;

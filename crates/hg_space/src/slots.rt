@@ -1,8 +1,8 @@
 //! A table from records to places, which may leave records out: bins of slots, each bin all those in which a record may be.
 
-ghost use Rattle.std.specs.Prelude.{◌≡◌, false, ℕ, IfOk, None, Some, IsFalse, length};
+ghost use Rattle.std.specs.Prelude.{◌≡◌, ◌+◌, ◌/◌, ◌≤◌, [], false, ℕ, IfOk, OnOk, OnErr, None, Some, IsFalse, length};
 ghost use Rattle.std.specs.List.{list_any};
-ghost use Rattle.hg_space.specs.Slots.{look_from, put_in, taken_out, is_empty, bin_of, look_at, Fits, AreFaithful, StayFit};
+ghost use Rattle.hg_space.specs.Slots.{look_from, put_in, taken_out, is_empty, bin_of, look_at, Fits, AreFaithful, HaveRoom, StayFit};
 ghost use Rattle.hg_base.specs.History.{same_rid};
 ghost use Rattle.hg_base.specs.declared.rid.Rid.{Rid};
 ghost use Rattle.hg_space.specs.Index.{place_of};
@@ -89,7 +89,7 @@ impl Model for Slots {
 impl Slots {
     /// No bin. It takes no memory.
     pub(crate) fn new(alloc: Global) -> Slots
-        ensures { (r : Rid) → Fits (look_at result r) None }
+        ensures { result ≡ [] }
     {
         Slots {
             bins: Vec::new(alloc),
@@ -98,7 +98,8 @@ impl Slots {
 
     /// So many bins without a record.
     fn of_bins(many: usize, alloc: Global) -> Result<Slots, NoMemory>
-        ensures { IfOk result (λ s. (r : Rid) → Fits (look_at s r) None) }
+        ensures none { IfOk result (λ s. (r : Rid) → Fits (look_at s r) None) }
+        ensures many { IfOk result (λ s. length s ≡ many) }
     {
         let mut bins = Vec::new(alloc);
         bins.resize(many, [Slot::EMPTY; WAYS])?;
@@ -120,6 +121,7 @@ impl Slots {
         requires { Fits (look_at self.old rid) None }
         ensures here { Fits (look_at self.new rid) (Some place) }
         ensures others { StayFit rid self.old self.new }
+        ensures bins { length self.new ≡ length self.old }
     {
         let at = bin_of(self.bins.len(), rid);
         if at < self.bins.len() {
@@ -131,6 +133,7 @@ impl Slots {
     pub(crate) fn take_out(&mut self, rid: Rid)
         ensures here { Fits (look_at self.new rid) None }
         ensures others { StayFit rid self.old self.new }
+        ensures bins { length self.new ≡ length self.old }
     {
         let at = bin_of(self.bins.len(), rid);
         if at < self.bins.len() {
@@ -144,8 +147,14 @@ impl Slots {
         places: &BTreeMap<Rid, u32>,
         alloc: Global,
     ) -> Result<(), NoMemory>
-        requires { AreFaithful self.old places.now.entries }
-        ensures { AreFaithful self.new places.now.entries }
+        requires faithful { AreFaithful self.old places.now.entries }
+        requires fit { HaveRoom self.old (length places.now.entries) }
+        ensures faithful { AreFaithful self.new places.now.entries }
+        ensures room { OnOk result (HaveRoom self.new (length places.now.entries + 1)) }
+        // a table that has room already does not grow, and one that grows does so by half
+        ensures kept { HaveRoom self.old (length places.now.entries + 1) → self.new ≡ self.old }
+        ensures grown { length self.new ≤ length self.old + length self.old / 2 + 1 }
+        ensures refused { OnErr result (self.new ≡ self.old) }
     {
         let many = self.bins.len();
         if places.len() / FULL < many {
@@ -161,7 +170,8 @@ impl Slots {
         many: usize,
         alloc: Global,
     ) -> Result<Slots, NoMemory>
-        ensures { IfOk result (λ s. AreFaithful s places.now.entries) }
+        ensures faithful { IfOk result (λ s. AreFaithful s places.now.entries) }
+        ensures many { IfOk result (λ s. length s ≡ many) }
     {
         let mut slots = Slots::of_bins(many, alloc)?;
         for (rid, place) in places {

@@ -10,8 +10,8 @@ give_place-requires c =
     let g = given c.reserve.new.self.places seats p c.take_place-place.ensures.free c.take_place-place.ensures.added c.take_place-place.ensures.taken in
     given_taken c.reserve.new.self.places seats p g
 
-pub returns-then-place-clause-refused : goal.returns-then-place-clause-refused
-returns-then-place-clause-refused c =
+pub returns-then-is_past-clause-refused : goal.returns-then-is_past-clause-refused
+returns-then-is_past-clause-refused c =
     let p = c.take_place-place.result in
     let seats = c.take_place-place.new.self.places in
     let g = given c.reserve.new.self.places seats p c.take_place-place.ensures.free c.take_place-place.ensures.added c.take_place-place.ensures.taken in

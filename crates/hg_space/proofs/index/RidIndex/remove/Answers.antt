@@ -1,4 +1,4 @@
-use Rattle.std.proofs.Common.{◌∙◌, ap, None}
+use Rattle.std.proofs.Common.{◌∙◌, ap, None, arith}
 use Rattle.std.specs.Map.{remove_entry}
 use Rattle.hg_base.specs.History.{same_rid}
 use Rattle.hg_space.specs.Index.{place_of}
@@ -15,6 +15,7 @@ invariant_of-self c =
         distinct = removed_distinct es c.remove.new.self.entries c.args.rid gone c.self.invariant.0.distinct;
       },
       faithful_again c.self.inside.slots c.take_out.new.self es c.remove.new.self.entries c.args.rid None gone c.take_out.ensures.here c.take_out.ensures.others c.self.invariant.1,
+      (let room = c.self.invariant.2 in let many = c.remove.ensures.len in let bins = c.take_out.ensures.bins in omega (arith, room, many, bins)),
     )
 
 pub returns-clause-others : goal.returns-clause-others

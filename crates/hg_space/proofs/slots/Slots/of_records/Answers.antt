@@ -1,4 +1,4 @@
-use Rattle.std.proofs.Common.{subst}
+use Rattle.std.proofs.Common.{subst, ◌∙◌}
 use Rattle.std.specs.Map.{keys_of}
 use Rattle.std.specs.List.Sorted.{IsStrictlySortedBy}
 use Rattle.std.proofs.lemmas.Map.Keys.{sorted_tail}
@@ -21,4 +21,5 @@ loop-rid-preserved c =
       ascends = sorted_tail rid_cmp r (keys_of c.next.new.self) up;
       said = filled c.loop-rid.slots c.put.new.self c.args.places.now.entries c.next.new.self r p up c.put.ensures.here c.put.ensures.others
           (λ q. subst (λ es. Says (look_at c.loop-rid.slots q) (place_of es q) (place_of c.args.places.now.entries q)) e (c.loop-rid.invariant.said q));
+      many = c.put.ensures.bins ∙ c.loop-rid.invariant.many;
     }

@@ -1,3 +1,4 @@
+use Rattle.std.proofs.Common.{◌≡◌, length}
 use Rattle.std.specs.Map.{keys_of}
 use Rattle.std.specs.List.Sorted.{IsStrictlySortedBy}
 use Rattle.hg_base.specs.declared.rid.Rid.{Rid}
@@ -11,4 +12,5 @@ abbrev pub invariant-loop-rid : goal.invariant-loop-rid
 invariant-loop-rid l = record {
   ascends : IsStrictlySortedBy rid_cmp (keys_of l.rid-iterator);
   said : (q : Rid) → Says (look_at l.slots q) (place_of l.rid-iterator q) (place_of l.places.entries q);
+  many : length l.slots ≡ l.many;
 }
