@@ -9,7 +9,8 @@ import clients
 from program import NO_TOTALS, PROGRAM, SECONDS, Wrong, audit, expect, expect_end, expect_refused, records_of, replies_of, run_to_full_disk, shown, sound_text
 from program import text_of, totals_of
 from rows import is_put_back, last_dump, quoted, rows_left
-from scripts import Chance, accounts, any_script, head, long_readers, made, own_tables, puts, readers_in_parts, rounds_beside_a_reader
+from scripts import Chance, accounts, any_script, head, long_readers, made, many_keys, many_versions, own_tables, puts, readers_in_parts
+from scripts import rounds_beside_a_reader
 
 MOST_BYTES = 16_777_216
 MOST_RECORDS = 1_048_576
@@ -79,6 +80,20 @@ def a_round_leaves_two_versions_a_key():
     removed = [int(record[6]) for record, _ in replies_of(records) if record[2] == b"swept" and len(record) > 6]
     expect("the versions that the rounds remove", [0] + [100] * 99, removed)
     has(totals_of(records), made=10_100, interval=9_900, table=100, left=100)
+
+
+def a_bucket_takes_70000_keys():
+    """More than a number of 16 bits can count. The last one is read."""
+    records = records_of(sound_text("replay --buckets 1", many_keys(70_000)))
+    expect("the last key", b"row,7", b",".join(records[70_002][-2:]))
+    has(totals_of(records), made=70_000, left=70_000)
+
+
+def a_key_keeps_70000_versions():
+    """The reader sees the first of them at the end. The rest of them go when it has ended."""
+    records = records_of(sound_text("replay", many_versions(70_000)))
+    expect("the row", b"row,0", b",".join(records[70_001][-2:]))
+    has(totals_of(records), made=70_000, table=69_999, left=1)
 
 
 def each_session_declares_its_own_table(words):
@@ -251,6 +266,8 @@ TESTS = (
     (twenty_accounts_are_left,),
     (long_readers_stay, "run --rounds 50", "run --rounds 50 --sweepers 4"),
     (a_round_leaves_two_versions_a_key,),
+    (a_bucket_takes_70000_keys,),
+    (a_key_keeps_70000_versions,),
     (each_session_declares_its_own_table, "replay --long 1", "run --long 1"),
     (eight_workers_commit_beside_the_collectors,),
     (four_sessions_begin_and_end_beside_the_collectors,),

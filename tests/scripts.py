@@ -49,6 +49,16 @@ def own_tables():
     return (script + "1,get,t1,5\n1,get,t64,5\n1,commit\n1,gc,table\n").encode()
 
 
+def many_keys(keys):
+    """Session 1 puts so many keys in one transaction, and then reads the last one."""
+    return ("table,t,1\n1,begin\n" + "".join(f"1,put,t,{key},7\n" for key in range(keys)) + f"1,commit\n1,get,t,{keys - 1}\n").encode()
+
+
+def many_versions(versions):
+    """A reader stays at the first version of a key, which is put so many times, and reads it when all is put."""
+    return ("table,t,1\n1,put,t,5,0\n2,begin\n" + "".join(f"1,put,t,5,{row}\n" for row in range(1, versions)) + "2,get,t,5\n2,commit\n").encode()
+
+
 def puts(times, value):
     """Eight sessions put 50 keys each, all different, so many times."""
     script = "table,t,1\n"
