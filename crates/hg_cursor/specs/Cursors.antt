@@ -4,6 +4,7 @@ use Rattle.hg_base.specs.declared.rid.TableId.{TableId}
 use Rattle.hg_base.specs.declared.fault.NoMemory.{NoMemory}
 use Rattle.hg_base.specs.declared.image.Image.{Image}
 use Rattle.hg_base.specs.History.{History, visible}
+use Rattle.hg_base.specs.Transcript.{passed}
 use Rattle.hg_core.specs.Reading.{looks, Picks}
 use Rattle.hg_bucket.specs.BucketModel.{record_at}
 use Rattle.hg_rule.specs.declared.view.View.{View}
@@ -38,10 +39,12 @@ pub record LooksAt (count : ℕ) (old : View) (table : TableId) (low high : ℕ)
   pub part : ℕ → Rows
   pub adds : Adds old (looks count table low high part number) new
 
--- the first n rows of a range, by looks at it
+-- The first n rows of a range, by looks at it. No bucket was looked at whose first key is over the last one passed: so there are no
+-- more looks than keys passed.
 pub record FetchesRows (count n : ℕ) (old : View) (table : TableId) (low high : ℕ) (rows : Rows) (new : View) : Type 0 where
   pub looked : LooksAt count old table low high new
   pub picks : Picks count n table low high looked.number looked.part rows
+  pub needed : low + looked.number ≤ passed n high rows + 1
 
 -- a fetch returns the first n rows of a range by looks at it; where memory ran out, it only looked
 abbrev pub Fetches : ℕ → ℕ → View → TableId → ℕ → ℕ → Result Rows NoMemory → View → Type 0

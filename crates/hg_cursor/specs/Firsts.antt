@@ -1,5 +1,5 @@
 -- The rows that a fetch has copied, and which of them it returns.
-use Rattle.std.specs.Prelude.{◌≡◌, ℕ, ◌≤◌, List, take, nat_le, if◌then◌else◌}
+use Rattle.std.specs.Prelude.{◌≡◌, ℕ, ◌<◌, List, min, take, nat_le, if◌then◌else◌}
 use Rattle.std.specs.List.{filter, sum_by}
 use Rattle.std.specs.List.Sorted.{IsPermutation, IsNonDecreasingBy}
 use Rattle.hg_base.specs.declared.value.Value.{Value}
@@ -27,9 +27,13 @@ rows_upto limit rows = filter (λ p. nat_le p.0 limit) rows
 abbrev pub keys_upto : ℕ → List ℕ → ℕ
 keys_upto limit keys = sum_by (λ k. if nat_le k limit then 1 else 0) keys
 
--- these are keys of rows: however far one counts, there are no more of them than rows
-abbrev pub AreAmong : List ℕ → Rows → Type 0
-AreAmong keys rows = (limit : ℕ) → keys_upto limit keys ≤ count_upto limit rows
+-- these are the n least keys of rows, or all: however far one counts, there are as many as rows, and n where there are more rows
+abbrev pub AreLeast : ℕ → List ℕ → Rows → Type 0
+AreLeast n keys rows = (limit : ℕ) → keys_upto limit keys ≡ min n (count_upto limit rows)
+
+-- all rows up to this key are needed: up to each lower one there are fewer than are to be returned
+abbrev pub IsNeeded : ℕ → Copied → Type 0
+IsNeeded key copied = (k : ℕ) → k < key → count_upto k copied.rows < copied.most
 
 -- the first n rows of several, by key, and the last key that they pass
 pub record Keeps (n limit : ℕ) (old new : Rows) (upto : ℕ) : Type 0 where

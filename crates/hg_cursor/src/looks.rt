@@ -6,6 +6,7 @@ ghost use Rattle.hg_rule.specs.declared.view.View.{View};
 ghost use Rattle.hg_rule.specs.Holding.{bucket as bucket_in, held as held_in};
 ghost use Rattle.hg_rule.specs.Seats.{board_id, sizes_of, session_view, IsSessionOf};
 ghost use Rattle.hg_store.specs.Stores.{store_board_id, store_buckets, Holds};
+ghost use Rattle.hg_cursor.specs.Firsts.{IsNeeded};
 ghost use Rattle.hg_cursor.specs.Keys.{rows_at, IsOwnKey, HasVersion, IsWithin, LeadsOn};
 ghost use Rattle.hg_cursor.specs.Logs.{IsHeard, ReadsAt};
 ghost use Rattle.hg_cursor.specs.Looks.{WhereOwn, IsFirstKey, AppendsFirst, Sees};
@@ -78,10 +79,12 @@ fn push_row(
     by: Writer,
     firsts: &mut Firsts,
 ) -> Result<bool, NoMemory>
+    requires { IsNeeded rid.key firsts.old }
     ensures added { (v : View) → Holds v held.now →
         OnOk result (firsts.new.rows ≡
         firsts.old.rows ++ rows_at rid.key (read_by by at (held_in v rid)).row) }
     ensures most { firsts.new.most ≡ firsts.old.most }
+    ensures needed { OnOk result (IsNeeded rid.key firsts.new) }
 {
     if let Some(Image { row: Some(row) }) = held.read(rid, at, by) {
         firsts.add(rid.key, row.copy()?)?;
@@ -101,9 +104,12 @@ fn push_rows(
 ) -> Result<u64, NoMemory>
     requires some { 0 < count }
     requires within { look.own ≤ look.limit }
+    requires needed { IsNeeded look.limit firsts.old }
     ensures most { firsts.new.most ≡ firsts.old.most }
     ensures rows { WhereOwn held.now count look.request.table look.own
         (λ v b. IfOk result (AppendsFirst by look (bucket_in v).content firsts.old firsts.new)) }
+    ensures needed { IfOk result (λ limit. IsNeeded limit firsts.new) }
+    ensures reached { IfOk result (λ limit. look.own ≤ limit) }
 {
     let table = look.request.table;
     let mut limit = look.limit;
@@ -136,8 +142,12 @@ pub(crate) fn see_bucket<R: Wait>(
     requires reads { ReadsAt look.request.at look.request.table (session_view pass.old) }
     requires first { IsFirstKey (store_buckets store.now) look.request.low look.own }
     requires within { (look.own ≤ look.limit) × (look.limit ≤ look.request.high) }
+    // no row that is not needed is read
+    requires needed { IsNeeded look.limit firsts.old }
     ensures sees { Sees (store_buckets store.now) look (session_view pass.old) firsts.old
         result (session_view pass.new) firsts.new }
+    ensures needed { IfOk result (λ limit. IsNeeded limit firsts.new) }
+    ensures reached { IfOk result (λ limit. look.own ≤ limit) }
     ensures heard { IsHeard (session_view pass.new) }
     ensures own { IsSessionOf (board_id board.now) (sizes_of board.now) pass.new }
 {

@@ -5,12 +5,12 @@ use Rattle.hg_store.specs.Stores.{store_buckets}
 use Rattle.hg_base.specs.Transcript.{passed}
 use Rattle.hg_core.specs.Reading.{bucket_at}
 use Rattle.hg_cursor.specs.Cursors.{Fetches, FetchesRows}
-use Rattle.hg_cursor.specs.Firsts.{Copied, rows_upto, Keeps}
+use Rattle.hg_cursor.specs.Firsts.{Copied, rows_upto, Keeps, IsNeeded}
 use Rattle.hg_cursor.specs.Looks.{Takes}
 use Rattle.hg_cursor.proofs.Trips.{reads_on}
 use Rattle.hg_cursor.proofs.Gathering.{IsGathered, none_gathered, one_gathered, stops, up_to_limit}
 use Rattle.hg_cursor.proofs.Cutting.{cut}
-use Rattle.hg_cursor.proofs.Picking.{needed, unneeded, fetched}
+use Rattle.hg_cursor.proofs.Picking.{needed, unneeded, passes, fetched}
 use Rattle.hg_cursor.proofs.buckets.first_rows.Goals as goal
 
 pub loop-request-init : goal.loop-request-init
@@ -21,6 +21,8 @@ loop-request-init g c =
       gathered = subst (λ (k : Copied). IsGathered count c.args.request.most v c.args.request.table c.args.request.low c.args.request.high 0 c.args.request.high k.rows v)
           (sym c.new-firsts.ensures) (none_gathered count c.args.request.most v c.args.request.table c.args.request.low c.args.request.high c.requires.range c.requires.reads.only);
       most = ap (λ (k : Copied). k.most) c.new-firsts.ensures;
+      needed = subst (IsNeeded c.args.request.high) (sym c.new-firsts.ensures) (λ k under. c.requires.most);
+      reached = (let some = c.requires.range in omega (arith, some));
       reads = c.requires.reads;
       heard = λ h. h;
       own = c.requires.own;
@@ -68,6 +70,8 @@ loop-request-preserved g c =
     record {
       gathered = subst (λ m. IsGathered count most v table low high m upto new w) next more;
       most = sees.most ∙ h.most;
+      needed = c.in_ok-limit.ensures.needed;
+      reached = (let far = c.in_ok-limit.ensures.reached in omega (arith, far));
       reads = reads_on c.args.request.at table u w table low high (bucket_at count table low ahead) sees.part h.reads sees.adds;
       heard = λ a. c.in_ok-limit.ensures.heard;
       own = c.in_ok-limit.ensures.own;
@@ -91,5 +95,8 @@ returns-clause-gains g c =
     let keeps = subst (λ n. Keeps n limit (rows_upto limit c.loop-request.firsts.rows) rows (passed n limit rows)) c.loop-request.invariant.most c.into_rows.ensures in
     let gathered = up_to_limit count most v w table low high ahead limit c.loop-request.firsts.rows c.loop-request.invariant.gathered in
     let k = cut count most v w table low high ahead limit (passed most limit rows) (rows_upto limit c.loop-request.firsts.rows) rows c.requires.most gathered keeps in
+    let inv = c.loop-request.invariant in
+    let far = passes most limit (passed most limit rows) c.loop-request.firsts rows inv.most inv.needed keeps k.below in
+    let reached = inv.reached in
     subst (λ rs. FetchesRows count most v table low high rs w) (sym c.from.ensures)
-    (fetched count most v w table low high ahead limit (passed most limit rows) rows c.requires.most c.args.store.now.some k keeps.upto_is end)
+    (fetched count most v w table low high ahead limit (passed most limit rows) rows c.requires.most c.args.store.now.some k keeps.upto_is end (omega (arith, far, reached)))

@@ -3,9 +3,15 @@ use Rattle.std.specs.Prelude.{IfSome}
 use Rattle.hg_rule.specs.Holding.{bucket}
 use Rattle.hg_cursor.specs.Firsts.{count_upto}
 use Rattle.hg_cursor.specs.Keys.{rows_at, IsOwnKey, IsWithin, HasVersion, read_of}
+use Rattle.hg_cursor.proofs.Counting.{lower_needed}
 use Rattle.hg_cursor.proofs.Keys.{unread}
 use Rattle.hg_cursor.proofs.Rows.{IsSoFar, one_more, still_enough, still_within, ends}
 use Rattle.hg_cursor.proofs.looks.push_rows.Goals as goal
+
+pub push_row-requires : goal.push_row-requires
+push_row-requires c =
+    let here : IsWithin c.args.look.own c.loop-next.limit (Some c.in-Some.key) = subst (IsWithin c.args.look.own c.loop-next.limit) c.in-Some.is c.loop-next.invariant.within in
+    lower_needed c.loop-next.firsts c.loop-next.limit c.in-Some.key here.1 c.loop-next.invariant.needed
 
 pub loop-next-preserved : goal.loop-next-preserved
 loop-next-preserved c =
@@ -19,6 +25,8 @@ loop-next-preserved c =
       below = let a = within.1 in let b = inv.below in omega (arith, a, b);
       within = still_within l.own key lower c.next_after-next.result (here.0, within.0) c.next_after-next.ensures.within;
       most = c.push_row.ensures.most ∙ inv.most;
+      needed = c.limit_after-limit.ensures.needed;
+      reached = (let own = here.0 in let key = within.0 in omega (arith, own, key));
       own_next = λ v b h are own. c.next_after-next.ensures.own v b h are (subst (λ o. IfSome o (IsOwnKey c.args.count b l.request.table)) c.in-Some.is (inv.own_next v b h are own));
       so_far = λ v b h are own.
           one_more (read_of c.args.by l.request.at l.request.table (bucket v).content)

@@ -3,7 +3,7 @@ use Rattle.std.specs.Prelude.{IfSome}
 use Rattle.hg_rule.specs.declared.view.View.{View}
 use Rattle.hg_rule.specs.Holding.{bucket}
 use Rattle.hg_store.specs.Stores.{Holds}
-use Rattle.hg_cursor.specs.Firsts.{count_upto}
+use Rattle.hg_cursor.specs.Firsts.{count_upto, IsNeeded}
 use Rattle.hg_cursor.specs.Keys.{IsOwnKey, AreOwn, IsWithin, read_of}
 use Rattle.hg_cursor.proofs.Rows.{IsSoFar, room}
 use Rattle.hg_cursor.proofs.looks.push_rows.Given as goal
@@ -13,6 +13,8 @@ invariant-loop-next l = record {
   below : l.limit ≤ l.look.limit;
   within : IsWithin l.look.own l.limit l.next;
   most : l.firsts.most ≡ l.fn.firsts.most;
+  needed : IsNeeded l.limit l.firsts;
+  reached : l.look.own ≤ l.limit;
   own_next : (v : View) (b : ℕ) → Holds v l.fn.held → AreOwn l.count b (bucket v).content → IsOwnKey l.count b l.look.request.table l.look.own →
       IfSome l.next (IsOwnKey l.count b l.look.request.table);
   so_far : (v : View) (b : ℕ) → Holds v l.fn.held → AreOwn l.count b (bucket v).content → IsOwnKey l.count b l.look.request.table l.look.own →
