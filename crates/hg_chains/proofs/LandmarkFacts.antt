@@ -1,12 +1,13 @@
 -- Landmarks: which of them a change of a chain leaves, and where a read starts from one.
-use Rattle.std.proofs.Common.{◌≡◌, ◌≢◌, ℕ, zero, suc, ◌+◌, ◌-◌, ◌<◌, ◌≤◌, List, [], ◌∷◌, ◌++◌, length, take, drop, get_or, Result, Ok, Err, true, false, Some, refl, sym, ap}
+use Rattle.std.proofs.Common.{◌≡◌, ◌≢◌, ℕ, zero, suc, ◌+◌, ◌-◌, ◌%◌, ◌<◌, ◌≤◌, List, [], ◌∷◌, ◌++◌, map, length, take, drop, get_or, Result, Ok, Err, true, false, Some, refl, sym, ap}
 use Rattle.std.proofs.Common.{◌∙◌, subst, arith, inl, inr}
-use Rattle.std.specs.Prelude.{IsTrue, IsSome, OnOk, OnErr, ◌⊎◌, nat_le}
-use Rattle.std.proofs.lemmas.List.{length-drop, get_or-drop}
+use Rattle.std.specs.Prelude.{IsTrue, IsSome, OnOk, OnErr, ◌⊎◌, nat_le, slice_get}
+use Rattle.std.proofs.lemmas.List.{length-drop, length-take, get_or-drop, get_or-take}
+use Rattle.std.proofs.lemmas.Option.{none-some, same_Some}
 use Rattle.std.proofs.lemmas.Bool.{cases_eq}
 use Rattle.std.proofs.lemmas.Bool.Decides.{nat_tests}
 use Rattle.hg_base.specs.declared.writer.Writer.{Writer}
-use Rattle.hg_base.specs.Lists.{Each}
+use Rattle.hg_base.specs.Lists.{Each, Ascends}
 use Rattle.hg_base.proofs.ListFacts.{cases, false_true, each_keeps, each_snoc}
 use Rattle.hg_chains.specs.declared.version.Stamp.{Stamp}
 use Rattle.hg_chains.specs.declared.version.Stamp.TheVariants.{Written, Numbered}
@@ -17,8 +18,8 @@ use Rattle.hg_chains.specs.declared.landmarks.Landmark.{Landmark}
 use Rattle.hg_chains.specs.declared.landmarks.Landmarks.{Landmarks}
 use Rattle.hg_chains.specs.Versions.{IsChain, is_at_most, is_open_by, has_writer, number_in}
 use Rattle.hg_chains.specs.Strands.{blank, node_at, version_in, nodes_along, node_behind}
-use Rattle.hg_chains.specs.Arenas.{IsArena, OthersStayIn, PushesIn, PopsIn, head_in, list_in, nodes_in, tail_in}
-use Rattle.hg_chains.specs.Landmarks.{landmarks_of, movable_by, movable, IsLandmark, IsLandmarkIn, HasLandmarks, AreLandmarks}
+use Rattle.hg_chains.specs.Arenas.{IsArena, OthersStayIn, PushesIn, PopsIn, head_in, list_in, nodes_in, tail_in, chain_in}
+use Rattle.hg_chains.specs.Landmarks.{landmarks_of, movable_by, movable, top_of, IsDue, IsOver, IsLandmark, IsLandmarkIn, HasLandmarks, AreLandmarks}
 use Rattle.hg_chains.proofs.Cuts.{falls_at_most, others_numbered}
 use Rattle.hg_chains.proofs.Strands.{nodes_many}
 use Rattle.hg_chains.proofs.Unlinks.{walk_within}
@@ -72,6 +73,7 @@ moved vs ws ns ms k j m e low high h =
     let b = length-drop j ms in
     record {
       some = some;
+      stride = h.stride;
       behind = omega (arith, some, behind, low, high, l, a, b);
       node = same_node ns ms k j m.height e some (omega (arith, behind, low)) ∙ h.node;
     }
@@ -80,21 +82,36 @@ moved_all : (vs ws : List Version) (ns ms : List ℕ) (k j : ℕ) (ls : List Lan
 moved_all vs ws ns ms k j ls e low high = each_keeps (IsLandmark vs ns) (IsLandmark ws ms) (λ m. moved vs ws ns ms k j m e low high) ls
 
 pub pushed_landmarks : (a b : Arena) (place : ℕ) (ls : List Landmark) → PushesIn place a b → HasLandmarks a place ls → HasLandmarks b place ls
-pushed_landmarks a b place ls e = moved_all (list_in a place) (list_in b place) (nodes_in a place) (nodes_in b place) 0 1 ls e (omega arith) (most (list_in b place))
+pushed_landmarks a b place ls e h = record {
+  each = moved_all (list_in a place) (list_in b place) (nodes_in a place) (nodes_in b place) 0 1 ls e (omega arith) (most (list_in b place)) h.each;
+  rise = h.rise;
+}
 
 -- the open write at the front gets another image, or its number
 pub written_landmarks : (a b : Arena) (place : ℕ) (by : Writer) (ls : List Landmark) → IsTrue (is_open_by by (list_in a place)) → nodes_in b place ≡ nodes_in a place → HasLandmarks a place ls →
     HasLandmarks b place ls
-written_landmarks a b place by ls is_open e = moved_all (list_in a place) (list_in b place) (nodes_in a place) (nodes_in b place) 1 1 ls (ap (drop 1) e)
-    (open_one by (list_in a place) is_open) (most (list_in b place))
+written_landmarks a b place by ls is_open e h = record {
+  each = moved_all (list_in a place) (list_in b place) (nodes_in a place) (nodes_in b place) 1 1 ls (ap (drop 1) e) (open_one by (list_in a place) is_open) (most (list_in b place)) h.each;
+  rise = h.rise;
+}
 
 pub undone_landmarks : (a b : Arena) (place : ℕ) (by : Writer) (ls : List Landmark) → IsTrue (is_open_by by (list_in a place)) → IsChain (list_in a place) →
     list_in b place ≡ drop 1 (list_in a place) → PopsIn place a b → HasLandmarks a place ls → HasLandmarks b place ls
-undone_landmarks a b place by ls is_open chain here e = moved_all (list_in a place) (list_in b place) (nodes_in a place) (nodes_in b place) 1 0 ls e
-    (open_one by (list_in a place) is_open) (subst (λ vs. movable vs ≤ 0) (sym here) (numbered_none (drop 1 (list_in a place)) (others_numbered (list_in a place) chain)))
+undone_landmarks a b place by ls is_open chain here e h = record {
+  each = moved_all (list_in a place) (list_in b place) (nodes_in a place) (nodes_in b place) 1 0 ls e (open_one by (list_in a place) is_open)
+      (subst (λ vs. movable vs ≤ 0) (sym here) (numbered_none (drop 1 (list_in a place)) (others_numbered (list_in a place) chain))) h.each;
+  rise = h.rise;
+}
+
+-- a place whose chain stays, in the same nodes, keeps its landmarks
+pub same_landmarks : (a b : Arena) (place : ℕ) (ls : List Landmark) → chain_in b place ≡ chain_in a place → HasLandmarks a place ls → HasLandmarks b place ls
+same_landmarks a b place ls e h = record {
+  each = subst (λ (c : List Version × List ℕ). Each (IsLandmark c.0 c.1) ls) (sym e) h.each;
+  rise = h.rise;
+}
 
 pub no_landmarks : (a : Arena) (place : ℕ) (ls : List Landmark) → ls ≡ [] → HasLandmarks a place ls
-no_landmarks a place ls e = subst (HasLandmarks a place) (sym e) tt
+no_landmarks a place ls e = subst (HasLandmarks a place) (sym e) (record { each = tt; rise = tt })
 
 -- the landmarks of each place, where those of one change
 pub landmarks_after : (a b : Arena) (old new : Landmarks) (place : ℕ) → AreLandmarks a old → OthersStayIn place a b → ((q : ℕ) → q ≢ place → landmarks_of new q ≡ landmarks_of old q) →
@@ -103,16 +120,38 @@ landmarks_after a b old new place h others same here p = go (cases_eq p place)
   where
     go : (p ≡ place) ⊎ (p ≡ place → ⊥) → HasLandmarks b p (landmarks_of new p)
     go (inl e) = subst (λ q. HasLandmarks b q (landmarks_of new q)) (sym e) here
-    go (inr apart) = subst (HasLandmarks b p) (sym (same p apart)) (subst (λ (c : List Version × List ℕ). Each (IsLandmark c.0 c.1) (landmarks_of old p)) (sym (others p apart)) (h p))
+    go (inr apart) = subst (HasLandmarks b p) (sym (same p apart)) (same_landmarks a b p (landmarks_of old p) (others p apart) (h p))
 
 -- ---- a new landmark
 
+-- a landmark that is higher than all others comes last
+rise_snoc : (ms : List Landmark) (m : Landmark) → Ascends (map (λ n. n.height) ms) → top_of ms < m.height → Ascends (map (λ n. n.height) (ms ++ m ∷ []))
+rise_snoc [] m rise over = tt
+rise_snoc (n ∷ []) m rise over = (over, tt)
+rise_snoc (n ∷ k ∷ ms) m rise over = (rise.0, rise_snoc (k ∷ ms) m rise.1 over)
+
+pub top_snoc : (ms : List Landmark) (m : Landmark) → top_of (ms ++ m ∷ []) ≡ m.height
+top_snoc [] m = refl
+top_snoc (n ∷ []) m = refl
+top_snoc (n ∷ k ∷ ms) m = top_snoc (k ∷ ms) m
+
+pub top_last : (ms : List Landmark) (i : ℕ) (m : Landmark) → i ≡ length ms - 1 → Some m ≡ slice_get ms i → top_of ms ≡ m.height
+top_last [] i m at e = absurd (none-some m (sym e))
+top_last (n ∷ []) zero m at e = ap (λ (k : Landmark). k.height) (sym (same_Some m n e))
+top_last (n ∷ []) (suc i) m at e = absurd (omega (arith, at))
+top_last (n ∷ k ∷ ms) zero m at e = absurd (omega (arith, at))
+top_last (n ∷ k ∷ ms) (suc i) m at e = top_last (k ∷ ms) i m (omega (arith, at)) e
+
 -- one more landmark, or memory has run out
 pub added : {T E : Type 0} (a : Arena) (place : ℕ) (old new : Landmarks) (m : Landmark) (r : Result T E) → OnOk r (landmarks_of new place ≡ landmarks_of old place ++ m ∷ []) →
-    ((q : ℕ) → q ≢ place → landmarks_of new q ≡ landmarks_of old q) → OnErr r ((q : ℕ) → landmarks_of new q ≡ landmarks_of old q) → IsLandmarkIn a place m → AreLandmarks a old → AreLandmarks a new
-added a place old new m (Ok x) last others refused is h = landmarks_after a a old new place h (λ q apart. refl) others
-    (subst (HasLandmarks a place) (sym last) (each_snoc (IsLandmarkIn a place) (landmarks_of old place) m (h place) is))
-added a place old new m (Err x) last others refused is h = λ p. subst (HasLandmarks a p) (sym (refused p)) (h p)
+    ((q : ℕ) → q ≢ place → landmarks_of new q ≡ landmarks_of old q) → OnErr r ((q : ℕ) → landmarks_of new q ≡ landmarks_of old q) → IsLandmarkIn a place m → top_of (landmarks_of old place) < m.height →
+    AreLandmarks a old → AreLandmarks a new
+added a place old new m (Ok x) last others refused is over h = landmarks_after a a old new place h (λ q apart. refl) others
+    (subst (HasLandmarks a place) (sym last) (record {
+      each = each_snoc (IsLandmarkIn a place) (landmarks_of old place) m (h place).each is;
+      rise = rise_snoc (landmarks_of old place) m (h place).rise over;
+    }))
+added a place old new m (Err x) last others refused is over h = λ p. subst (HasLandmarks a p) (sym (refused p)) (h p)
 
 -- ---- a walk from a landmark
 
@@ -122,14 +161,16 @@ node_read nodes (suc n) i zero less = refl
 node_read nodes (suc n) i (suc k) less = node_read nodes n (node_at nodes i).next k (omega (arith, less))
 
 -- the third version, which is the second that has a node
-pub third_landmark : (a : Arena) (place : ℕ) (m : Landmark) → 1 < (head_in a place).strand.count → m.height ≡ (head_in a place).strand.count - 1 →
+pub third_landmark : (a : Arena) (place : ℕ) (m : Landmark) → IsDue (head_in a place).strand.count → m.height ≡ (head_in a place).strand.count - 1 →
     m.node ≡ node_behind a.nodes.items 1 (head_in a place).strand.first → IsLandmarkIn a place m
-third_landmark a place m long h e =
+third_landmark a place m due h e =
+    let long : 1 < (head_in a place).strand.count = let l = due.0 in omega (arith, l) in
     let many = nodes_many a.nodes.items (head_in a place).strand.count (head_in a place).strand.first in
     let l = most (list_in a place) in
     let one : length (nodes_in a place) - m.height ≡ 1 = omega (arith, many, long, h) in
     record {
       some = omega (arith, long, h);
+      stride = ap (λ n. n % 32) h ∙ due.1;
       behind = omega (arith, many, long, h, l);
       node = ap (λ n. get_or (nodes_in a place) n 0) one ∙ node_read a.nodes.items (head_in a place).strand.count (head_in a place).strand.first 1 long ∙ sym e;
     }
@@ -163,7 +204,7 @@ got P (x ∷ xs) zero d h less = h.0
 got P (x ∷ xs) (suc k) d h less = got P xs k d h.1 (omega (arith, less))
 
 pub landmark_read : (a : Arena) (place : ℕ) (ls : List Landmark) (k : ℕ) (m : Landmark) → HasLandmarks a place ls → k < length ls → m ≡ get_or ls k m → IsLandmarkIn a place m
-landmark_read a place ls k m h less e = subst (IsLandmarkIn a place) (sym e) (got (IsLandmarkIn a place) ls k m h less)
+landmark_read a place ls k m h less e = subst (IsLandmarkIn a place) (sym e) (got (IsLandmarkIn a place) ls k m h.each less)
 
 -- where a version is over the bound, all in front of it are
 newer_front : (bound : ℕ) (vs : List Version) (k : ℕ) (d : Version) → IsChain vs → k < length vs → is_at_most bound (get_or vs k d) ≡ false → Each (λ v. is_at_most bound v ≡ false) (take (suc k) vs)
@@ -186,3 +227,66 @@ landmark_newer a place bound kept node chain h later =
     subst (λ k. Each (λ v. is_at_most bound v ≡ false) (take k (tail_in a place))) one (newer_front bound (tail_in a place) kept d chain (omega (arith, less, many))
     (ap (is_at_most bound) (version_read a.nodes.items (head_in a place).strand.count (head_in a place).strand.first kept d less) ∙
     ap (λ i. is_at_most bound (version_in (node_at a.nodes.items i))) h.at ∙ over))
+
+-- ---- the order of landmarks
+
+-- a list's element at an index
+pub read_there : {X : Type 0} (xs : List X) (k : ℕ) (x : X) → k < length xs → x ≡ get_or xs k x → slice_get xs k ≡ Some x
+read_there [] k x less e = absurd (omega (arith, less))
+read_there (y ∷ xs) zero x less e = ap Some (sym e)
+read_there (y ∷ xs) (suc k) x less e = read_there xs k x (omega (arith, less)) e
+
+pub each_there : {X : Type 0} (P : X → Type 0) (xs : List X) (k : ℕ) (x : X) → Each P xs → slice_get xs k ≡ Some x → P x
+each_there P [] k x h e = absurd (none-some x e)
+each_there P (y ∷ xs) zero x h e = subst P (same_Some y x e) h.0
+each_there P (y ∷ xs) (suc k) x h e = each_there P xs k x h.1 e
+
+pub each_of : {X : Type 0} (P : X → Type 0) (xs : List X) → ((k : ℕ) (x : X) → k < length xs → slice_get xs k ≡ Some x → P x) → Each P xs
+each_of P [] f = tt
+each_of P (x ∷ xs) f = (f 0 x (omega arith) refl, each_of P xs (λ k y less e. f (suc k) y (omega (arith, less)) e))
+
+tail_rises : (m : Landmark) (ms : List Landmark) → Ascends (map (λ n. n.height) (m ∷ ms)) → Ascends (map (λ n. n.height) ms)
+tail_rises m [] rise = tt
+tail_rises m (n ∷ ms) rise = rise.1
+
+rise_over : (m : Landmark) (ms : List Landmark) (k : ℕ) (n : Landmark) → Ascends (map (λ n. n.height) (m ∷ ms)) → slice_get ms k ≡ Some n → m.height < n.height
+rise_over m [] k n rise e = absurd (none-some n e)
+rise_over m (x ∷ ms) zero n rise e = subst (λ (k : Landmark). m.height < k.height) (same_Some x n e) rise.0
+rise_over m (x ∷ ms) (suc k) n rise e = let over = rise_over x ms k n rise.1 e in let here = rise.0 in omega (arith, over, here)
+
+-- a later landmark is no lower
+pub later_higher : (ms : List Landmark) (i j : ℕ) (m n : Landmark) → Ascends (map (λ n. n.height) ms) → i ≤ j → slice_get ms i ≡ Some m → slice_get ms j ≡ Some n → m.height ≤ n.height
+later_higher [] i j m n rise up e f = absurd (none-some m e)
+later_higher (x ∷ ms) zero zero m n rise up e f = let same = ap (λ (k : Landmark). k.height) (sym (same_Some x m e) ∙ same_Some x n f) in omega (arith, same)
+later_higher (x ∷ ms) zero (suc j) m n rise up e f =
+    let over = rise_over x ms j n rise f in
+    let same = ap (λ (k : Landmark). k.height) (same_Some x m e) in
+    omega (arith, over, same)
+later_higher (x ∷ ms) (suc i) zero m n rise up e f = absurd (omega (arith, up))
+later_higher (x ∷ ms) (suc i) (suc j) m n rise up e f = later_higher ms i j m n (tail_rises x ms rise) (omega (arith, up)) e f
+
+-- where a landmark is over the bound, so is each version before it
+pub over_before : (a : Arena) (place bound : ℕ) (m : Landmark) (k : ℕ) → IsChain (tail_in a place) → IsLandmarkIn a place m → k ≤ (head_in a place).strand.count - m.height → IsOver a bound m →
+    is_at_most bound (version_in (node_at a.nodes.items (node_behind a.nodes.items k (head_in a place).strand.first))) ≡ false
+over_before a place bound m k chain is before over =
+    let strand = (head_in a place).strand in
+    let d = version_in blank in
+    let at = landmark_stands a place m is in
+    let inside = at.less in
+    let kept = strand.count - m.height in
+    let many = tail_many a place in
+    let less : k < strand.count = omega (arith, before, inside) in
+    let passed : k < kept + 1 = omega (arith, before) in
+    let newer = landmark_newer a place bound kept m.node chain at over in
+    let within : k < length (take (kept + 1) (tail_in a place)) = (let l = length-take (kept + 1) (tail_in a place) in omega (arith, l, before, many, inside)) in
+    let same : get_or (take (kept + 1) (tail_in a place)) k d ≡ version_in (node_at a.nodes.items (node_behind a.nodes.items k strand.first)) =
+    get_or-take (kept + 1) (tail_in a place) k d passed ∙ version_read a.nodes.items strand.count strand.first k d less in
+    sym (ap (is_at_most bound) same) ∙ got (λ v. is_at_most bound v ≡ false) (take (kept + 1) (tail_in a place)) k d newer within
+
+-- and each landmark that is no lower
+pub higher_over : (a : Arena) (place bound : ℕ) (m n : Landmark) → IsChain (tail_in a place) → IsLandmarkIn a place m → IsLandmarkIn a place n → m.height ≤ n.height → IsOver a bound m → IsOver a bound n
+higher_over a place bound m n chain is_m is_n low over =
+    let at = landmark_stands a place n is_n in
+    let before = over_before a place bound m ((head_in a place).strand.count - n.height) chain is_m (omega (arith, low)) over in
+    let test : nat_le (node_at a.nodes.items n.node).number bound ≡ false = sym (ap (λ i. is_at_most bound (version_in (node_at a.nodes.items i))) at.at) ∙ before in
+    grind (arith, nat_tests, test)

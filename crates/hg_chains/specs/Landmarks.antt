@@ -1,7 +1,7 @@
 -- Landmarks of chains, and what the chains of all places are, with their landmarks.
-use Rattle.std.specs.Prelude.{◌≡◌, ℕ, ◌+◌, ◌-◌, ◌<◌, ◌≤◌, ◌^◌, vec_capacity, List, [], length, map, slice_index_or, Option, Some, None, Vec}
+use Rattle.std.specs.Prelude.{◌≡◌, ℕ, ◌+◌, ◌-◌, ◌%◌, ◌<◌, ◌≤◌, ◌^◌, vec_capacity, List, [], ◌∷◌, length, map, slice_index_or, Option, Some, None, Vec}
 use Rattle.std.specs.declared.alloc.Global.{Global}
-use Rattle.hg_base.specs.Lists.{Each}
+use Rattle.hg_base.specs.Lists.{Each, Ascends}
 use Rattle.hg_chains.specs.declared.version.Stamp.{Stamp}
 use Rattle.hg_chains.specs.declared.version.Stamp.TheVariants.{Written, Numbered}
 use Rattle.hg_chains.specs.declared.version.Version.{Version}
@@ -10,7 +10,7 @@ use Rattle.hg_chains.specs.declared.landmarks.Landmarks.{Landmarks}
 use Rattle.hg_chains.specs.declared.arena.Arena.{Arena}
 use Rattle.hg_chains.specs.Versions.{IsChain, newest}
 use Rattle.hg_chains.specs.Places.{Places, nodes_of}
-use Rattle.hg_chains.specs.Strands.{lists_in}
+use Rattle.hg_chains.specs.Strands.{lists_in, node_at}
 use Rattle.hg_chains.specs.Arenas.{IsArena, list_in, nodes_in}
 
 -- the landmarks of a place: none past the end
@@ -31,9 +31,10 @@ movable_by (Some (Numbered number by)) = 0
 abbrev pub movable : List Version → ℕ
 movable vs = movable_by (newest vs)
 
--- a landmark names the node that is so many versions before the end of the chain
+-- a landmark names the node that is so many versions before the end of the chain: a multiple of 32
 pub record IsLandmark (vs : List Version) (nodes : List ℕ) (m : Landmark) : Type 0 where
   pub some : 0 < m.height
+  pub stride : m.height % 32 ≡ 0
   pub behind : m.height + movable vs ≤ length nodes
   pub node : slice_index_or nodes (length nodes - m.height) 0 ≡ m.node
 
@@ -41,13 +42,28 @@ pub record IsLandmark (vs : List Version) (nodes : List ℕ) (m : Landmark) : Ty
 abbrev pub IsLandmarkIn : Arena → ℕ → Landmark → Type 0
 IsLandmarkIn a p m = IsLandmark (list_in a p) (nodes_in a p) m
 
--- each of the list is a landmark of that place's chain
-abbrev pub HasLandmarks : Arena → ℕ → List Landmark → Type 0
-HasLandmarks a p ms = Each (IsLandmarkIn a p) ms
+-- each of the list is a landmark of that place's chain, and their heights rise along the list
+pub record HasLandmarks (a : Arena) (p : ℕ) (ms : List Landmark) : Type 0 where
+  pub each : Each (IsLandmarkIn a p) ms
+  pub rise : Ascends (map (λ m. m.height) ms)
 
 -- for each place, all of its landmarks are landmarks of its chain
 abbrev pub AreLandmarks : Arena → Landmarks → Type 0
 AreLandmarks a ms = (p : ℕ) → HasLandmarks a p (landmarks_of ms p)
+
+-- the height of the last landmark, which is the highest: 0 where there is none
+abbrev pub top_of : List Landmark → ℕ
+top_of [] = 0
+top_of (m ∷ []) = m.height
+top_of (m ∷ n ∷ ms) = top_of (n ∷ ms)
+
+-- behind the newest version there are so many that the second of them is to have a landmark
+abbrev pub IsDue : ℕ → Type 0
+IsDue count = (32 < count) × ((count - 1) % 32 ≡ 0)
+
+-- a landmark's version is newer than the bound
+abbrev pub IsOver : Arena → ℕ → Landmark → Type 0
+IsOver a bound m = bound < (node_at a.nodes.items m.node).number
 
 -- what callers see of an arena, with so many free nodes
 abbrev pub places_in : Arena → ℕ → Places

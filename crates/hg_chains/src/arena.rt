@@ -11,8 +11,9 @@ use crate::cursor::Cursor;
 use crate::head::{Head, State};
 use crate::node::{Node, Strand};
 use crate::version::Stamp;
-use hg_base::{Image, Writer};
+use hg_base::{Image, Steps, Writer};
 use std::alloc::Global;
+use std::sync::ledger::Ledger;
 
 /// A head for each place up to some number, and the free nodes as one more strand.
 #[derive(Drop)]
@@ -193,7 +194,13 @@ impl Arena {
     }
 
     /// Passes the versions that aren't at the bound: since numbers fall, they stand in front of the others. The walk has passed some.
-    pub fn passed(&self, place: u64, bound: u64, start: Cursor) -> Cursor
+    pub fn passed<L: Ledger>(
+        &self,
+        place: u64,
+        bound: u64,
+        start: Cursor,
+        steps: &mut Steps<L>,
+    ) -> Cursor
         requires arena { IsArena self.now }
         requires chain { IsChain (tail_in self.now place) }
         requires at { IsAt self.now place start }
@@ -202,10 +209,12 @@ impl Arena {
             (take start.kept (tail_in self.now place)) }
         ensures at { IsAt self.now place result }
         ensures kept { result.kept ≡ length (left_by bound (tail_in self.now place)) }
+        ensures cost { steps.new + start.kept ≡ steps.old + result.kept }
     {
         let strand = self.strand(place);
         let mut cursor = start;
         while self.is_newer(strand, cursor, bound) {
+            steps.tick();
             cursor = self.pass(cursor);
         }
         cursor

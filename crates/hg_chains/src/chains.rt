@@ -152,7 +152,8 @@ impl Chains {
         match self.arena.make_room(place, self.all, self.free) {
             Ok(()) => {
                 self.arena.write(place, by, image);
-                self.landmarks.note(&self.arena, place);
+                // if there is no memory for a landmark, reads walk farther
+                let _ = self.landmarks.note(&self.arena, place);
                 self.all += u64::from(self.free == 0);
                 self.free = self.free.saturating_sub(1);
                 Ok(true)

@@ -1,20 +1,28 @@
 //! Landmarks: nodes along a long chain, at which a read of an old version starts.
 
-ghost use Rattle.std.specs.Prelude.{◌≡◌, ◌≢◌, ℕ, ◌+◌, ◌<◌, ◌≤◌, ◌∷◌, ◌++◌, [], false, length, take, IfSome, OnOk, OnErr, vec_len};
+ghost use Rattle.std.specs.Prelude.{◌≡◌, ◌≢◌, ◌↔◌, ℕ, ◌+◌, ◌<◌, ◌≤◌, ◌∷◌, ◌++◌, [], false, length, take, IsTrue, IfSome, IsSomeAnd, OnOk, OnErr, vec_len};
 ghost use Rattle.hg_base.specs.Lists.{Each};
 ghost use Rattle.hg_chains.specs.Versions.{IsChain, is_at_most, left_by};
-ghost use Rattle.hg_chains.specs.Strands.{node_at};
 ghost use Rattle.hg_chains.specs.Arenas.{IsArena, IsAt, head_in, tail_in};
-ghost use Rattle.hg_chains.specs.Landmarks.{AreLandmarks, HasLandmarks, IsLandmarkIn, landmarks_of};
+ghost use Rattle.hg_chains.specs.Landmarks.{AreLandmarks, HasLandmarks, IsDue, IsLandmarkIn, IsOver, landmarks_of, top_of};
 
 use crate::arena::Arena;
 use crate::cursor::Cursor;
 use crate::node::Strand;
-use hg_base::NoMemory;
+use hg_base::{NoMemory, Steps};
 use std::alloc::Global;
+use std::marker::Brand;
+use std::sync::ledger::{Blank, Ledger};
 
 /// A landmark's version is a multiple of this from the end of its chain.
 const STRIDE: u32 = 32;
+
+// Whether the second of so many versions behind the newest is to have a landmark.
+fn is_due(count: u32) -> bool
+    ensures { IsTrue result ↔ IsDue count }
+{
+    count > STRIDE && (count - 1) % STRIDE == 0
+}
 
 /// A node of a chain, and how many versions there are from it to the end of the chain, its own included.
 #[derive(Clone, Copy)]
@@ -65,33 +73,37 @@ impl Landmarks {
         Ok(())
     }
 
-    // The height of a place's last landmark, or 0.
-    fn height(&self, place: u64) -> u32 {
+    // How high the landmarks of a place reach.
+    fn top(&self, place: u64) -> u32
+        ensures { result ≡ top_of (landmarks_of self.now place) }
+    {
         match self.lists.get(place as usize) {
-            Some(list) => list.last().map_or(0, |landmark| landmark.height),
+            Some(list) => match list.last() {
+                Some(landmark) => landmark.height,
+                None => 0,
+            },
             None => 0,
         }
     }
 
     /// Puts a landmark at the third version of a place, which stands in the second node of its strand, if it is as far from the end of its
-    /// chain as landmarks are, and has none. If memory has run out there is no landmark, and reads walk farther.
-    pub fn note(&mut self, arena: &Arena, place: u64)
+    /// chain as landmarks are, and has none.
+    pub fn note(&mut self, arena: &Arena, place: u64) -> Result<(), NoMemory>
         requires arena { IsArena arena.now }
         requires landmarks { AreLandmarks arena.now self.old }
         ensures landmarks { AreLandmarks arena.now self.new }
+        ensures laid { OnOk result (IsDue (head_in arena.now place).strand.count →
+            (head_in arena.now place).strand.count ≤ top_of (landmarks_of self.new place) + 1) }
     {
         let Strand { first, count } = arena.strand(place);
-        if count <= STRIDE || (count - 1) % STRIDE != 0 || self.height(place) >= count - 1 {
-            return;
+        if !is_due(count) || self.top(place) >= count - 1 {
+            return Ok(());
         }
-        let node = arena.next(first);
-        let _ = self.add(
-            place,
-            Landmark {
-                node,
-                height: count - 1,
-            },
-        );
+        let landmark = Landmark {
+            node: arena.next(first),
+            height: count - 1,
+        };
+        self.add(place, landmark)
     }
 
     /// Removes the landmarks of a place. Their memory stays.
@@ -115,13 +127,15 @@ impl Landmarks {
         }
     }
 
-    // A landmark whose version is over the bound. Landmarks are in order, so it is the nearest to the end of the chain.
+    // The lowest landmark whose version is over the bound.
     fn nearest(&self, arena: &Arena, place: u64, bound: u64) -> Option<Landmark>
         requires arena { IsArena arena.now }
+        requires chain { IsChain (tail_in arena.now place) }
         requires landmarks { HasLandmarks arena.now place (landmarks_of self.now place) }
         ensures landmark { IfSome result (IsLandmarkIn arena.now place) }
-        ensures over { IfSome result
-            (λ landmark. bound < (node_at arena.now.nodes.items landmark.node).number) }
+        ensures over { IfSome result (IsOver arena.now bound) }
+        ensures lowest { Each (λ m. IsOver arena.now bound m →
+            IsSomeAnd result (λ lowest. lowest.height ≤ m.height)) (landmarks_of self.now place) }
     {
         let list = self.lists.get(place as usize)?;
         let mut nearest = None;
@@ -149,6 +163,10 @@ impl Landmarks {
         ensures within { result.kept ≤ (head_in arena.now place).strand.count }
         ensures newer { Each (λ v. is_at_most bound v ≡ false)
             (take result.kept (tail_in arena.now place)) }
+        // it starts before none of the landmarks that are over the bound
+        ensures near { Each (λ m. IsOver arena.now bound m →
+            (head_in arena.now place).strand.count ≤ result.kept + m.height)
+            (landmarks_of self.now place) }
     {
         let count = arena.strand(place).count;
         let start = arena.start(place);
@@ -165,8 +183,48 @@ impl Landmarks {
         }
     }
 
-    /// Passes the versions behind the newest that aren't at the bound. Most readers want the first of them, so it is tested before any
-    /// landmark is looked for.
+    // Passes the versions behind the newest that aren't at the bound, and takes no more steps than from any landmark before them. Most
+    // readers want the first version, so it is tested before any landmark is looked for.
+    fn passed_in<L: Ledger>(
+        &self,
+        arena: &Arena,
+        place: u64,
+        bound: u64,
+        steps: &mut Steps<L>,
+    ) -> Cursor
+        requires arena { IsArena arena.now }
+        requires chain { IsChain (tail_in arena.now place) }
+        requires landmarks { HasLandmarks arena.now place (landmarks_of self.now place) }
+        ensures at { IsAt arena.now place result }
+        ensures kept { result.kept ≡ length (left_by bound (tail_in arena.now place)) }
+        ensures cost { steps.new ≤ steps.old + result.kept }
+        ensures near { Each (λ m. IsOver arena.now bound m →
+            steps.new + (head_in arena.now place).strand.count ≤
+            steps.old + result.kept + m.height) (landmarks_of self.now place) }
+    {
+        let first = arena.start(place);
+        if !arena.is_newer(arena.strand(place), first, bound) {
+            return first;
+        }
+        let start = self.start(arena, place, bound);
+        arena.passed(place, bound, start, steps)
+    }
+
+    fn passed_by<L: Ledger>(&self, blank: Blank, arena: &Arena, place: u64, bound: u64) -> Cursor
+        requires name { blank.name ≡ L.name }
+        requires parts { blank.parts ≡ L.parts }
+        requires some { 0 < blank.parts }
+        requires arena { IsArena arena.now }
+        requires chain { IsChain (tail_in arena.now place) }
+        requires landmarks { HasLandmarks arena.now place (landmarks_of self.now place) }
+        ensures at { IsAt arena.now place result }
+        ensures kept { result.kept ≡ length (left_by bound (tail_in arena.now place)) }
+    {
+        let mut steps: Steps<L> = Steps::new(blank);
+        self.passed_in(arena, place, bound, &mut steps)
+    }
+
+    /// Passes the versions behind the newest that aren't at the bound. Nobody reads the count of steps.
     pub fn passed(&self, arena: &Arena, place: u64, bound: u64) -> Cursor
         requires arena { IsArena arena.now }
         requires chain { IsChain (tail_in arena.now place) }
@@ -174,10 +232,6 @@ impl Landmarks {
         ensures at { IsAt arena.now place result }
         ensures kept { result.kept ≡ length (left_by bound (tail_in arena.now place)) }
     {
-        let first = arena.start(place);
-        if !arena.is_newer(arena.strand(place), first, bound) {
-            return first;
-        }
-        arena.passed(place, bound, self.start(arena, place, bound))
+        self.passed_by::<Brand>(Blank::new(1), arena, place, bound)
     }
 }

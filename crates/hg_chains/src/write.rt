@@ -1,6 +1,6 @@
 //! Writes of versions: the room for one, an open write in front of a chain, its image and its number.
 
-ghost use Rattle.std.specs.Prelude.{◌≡◌, ◌≢◌, ℕ, ◌+◌, ◌-◌, ◌<◌, ◌≤◌, ◌^◌, ◌∷◌, false, length, slice_set, IsTrue, OnOk, OnErr, IsOk, vec_len, vec_capacity};
+ghost use Rattle.std.specs.Prelude.{◌≡◌, ◌≢◌, ◌↔◌, ℕ, ◌+◌, ◌-◌, ◌<◌, ◌≤◌, ◌^◌, ◌∷◌, false, length, slice_set, IsTrue, OnOk, OnErr, IsOk, vec_len, vec_capacity};
 ghost use Rattle.hg_base.specs.declared.writer.Writer.{Writer};
 ghost use Rattle.hg_chains.specs.declared.head.State.TheVariants.{Empty};
 ghost use Rattle.hg_chains.specs.Versions.{NoOther, installed, is_open_by, open_write, stamped};
@@ -50,6 +50,13 @@ impl Arena {
         Ok(())
     }
 
+    // Whether there are as many nodes as a `u32` counts.
+    fn is_full(all: u64) -> bool
+        ensures { IsTrue result ↔ (2 ^ 32 ≤ all + 1) }
+    {
+        all >= u64::from(u32::MAX)
+    }
+
     /// Makes sure that a version can be added at a place, where there is room for so many versions, and for so many more than there are.
     pub fn make_room(&mut self, place: u64, all: u64, free: u64) -> Result<(), NoMemory>
         requires arena { IsArena self.old }
@@ -67,7 +74,7 @@ impl Arena {
         ensures enough { 0 < free → place < length self.old.heads.items → IsOk result }
     {
         if free == 0 {
-            if all >= u64::from(u32::MAX) {
+            if Arena::is_full(all) {
                 return Err(NoMemory);
             }
             self.reserve_nodes(all + 1)?;

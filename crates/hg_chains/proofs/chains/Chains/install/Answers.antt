@@ -2,14 +2,13 @@ use Rattle.std.proofs.Common.{◌≡◌, ℕ, ◌+◌, ◌-◌, ◌<◌, ◌≤�
 use Rattle.std.specs.Prelude.{◌==◌, if◌then◌else◌, vec_capacity}
 use mir.Val.{bool_byte}
 use Rattle.std.proofs.lemmas.Bool.Decides.{Decides-eqb}
-use Rattle.hg_base.specs.Lists.{Each}
 use Rattle.hg_base.proofs.ListFacts.{cases, false_true}
 use Rattle.hg_chains.specs.declared.arena.Arena.{Arena}
 use Rattle.hg_chains.specs.Versions.{IsChain, NoOther, is_open_by, installed, open_write}
 use Rattle.hg_chains.specs.Places.{Places, nodes_of}
 use Rattle.hg_chains.specs.Arenas.{list_in, chain_in, OthersStayIn}
-use Rattle.hg_chains.specs.Landmarks.{IsLandmark, landmarks_of}
-use Rattle.hg_chains.proofs.LandmarkFacts.{landmarks_after, pushed_landmarks, written_landmarks}
+use Rattle.hg_chains.specs.Landmarks.{landmarks_of}
+use Rattle.hg_chains.proofs.LandmarkFacts.{landmarks_after, pushed_landmarks, same_landmarks, written_landmarks}
 use Rattle.hg_chains.proofs.Held.{list_seen, list_was, others_seen, holds_after, chain_installed, installed_many, has_room, recounted}
 use Rattle.hg_chains.proofs.Newest.{open_first, open_there}
 use Rattle.hg_chains.proofs.chains.Chains.install.Goals as goal
@@ -181,5 +180,5 @@ invariant_of-self-in-Err c =
     let l = ap (λ x. length x.0) (e.lists c.args.place) in
     holds_after a m ms ms c.args.place c.self.inside.all c.self.inside.free c.self.inside.all c.self.inside.free c.self.invariant e.arena
     (subst IsChain (sym (ap (λ x. x.0) (e.lists c.args.place))) (c.self.invariant.chains c.args.place)) (λ q apart. e.lists q) (λ q apart. refl)
-    (subst (λ x. Each (IsLandmark x.0 x.1) (landmarks_of ms c.args.place)) (sym (e.lists c.args.place)) (c.self.invariant.landmarks c.args.place))
+    (same_landmarks a m c.args.place (landmarks_of ms c.args.place) (e.lists c.args.place) (c.self.invariant.landmarks c.args.place))
     (omega (arith, l)) e.room c.self.invariant.few
