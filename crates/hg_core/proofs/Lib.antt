@@ -45,6 +45,7 @@ pub mod Bounded
 pub mod Exact
 pub mod Settling
 pub mod Remaining
+pub mod Few
 pub mod Alone
 pub mod Words
 -- What logs and replies say of each other.

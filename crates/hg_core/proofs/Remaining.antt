@@ -22,7 +22,7 @@ use Rattle.hg_core.proofs.Settling.{live_left, one_if}
 
 -- ---- sums over records
 
-sum_over : (Rid → ℕ) → List Rid → ℕ
+unfoldable pub sum_over : (Rid → ℕ) → List Rid → ℕ
 sum_over f [] = 0
 sum_over f (r ∷ rs) = f r + sum_over f rs
 
@@ -87,7 +87,7 @@ look_none r (e ∷ es) h = ap (λ b. if b then e.1 else look r es) (left_false (
     look_none r es (right_false (same_rid r e.0) (is_among r (map (λ (e : Rid × List Version). e.0) es)) h)
 
 -- a content's versions, record by record
-content_total : (rs : List Rid) (es : Content) → NoneTwice rs → NoneTwice (map (λ (e : Rid × List Version). e.0) es) → ((r : Rid) → is_among r rs ≡ false → look r es ≡ []) →
+pub content_total : (rs : List Rid) (es : Content) → NoneTwice rs → NoneTwice (map (λ (e : Rid × List Version). e.0) es) → ((r : Rid) → is_among r rs ≡ false → look r es ≡ []) →
     total es ≡ sum_over (λ r. length (look r es)) rs
 unfolding sum_over
 content_total rs [] once p out = sym (over_none (λ r. 0) rs (λ r. refl))
@@ -114,7 +114,7 @@ content_total rs (e ∷ es) once p out =
     counted true q = refl
     counted false q = sym (ap length (ap (λ b. if b then e.1 else look e.0 es) (sym (same_rid_itself e.0)) ∙ out (e.0) q))
 
-placed_other : (m b : ℕ) (r : Rid) (es : Content) → Each (λ e. bucket_of m e.0 ≡ b) es → (bucket_of m r ≡ b → ⊥) → look r es ≡ []
+pub placed_other : (m b : ℕ) (r : Rid) (es : Content) → Each (λ e. bucket_of m e.0 ≡ b) es → (bucket_of m r ≡ b → ⊥) → look r es ≡ []
 placed_other m b r [] p ne = refl
 placed_other m b r (e ∷ es) p ne = go (same_rid r e.0) refl (placed_other m b r es p.1 ne)
   where
@@ -214,7 +214,7 @@ unseen h r n e = ap (λ ws. last_image (filter (λ (w : ℕ × Image). nat_le w.
 
 -- ---- a bucket
 
-length_none : (vs : List Version) → length vs ≡ 0 → vs ≡ []
+pub length_none : (vs : List Version) → length vs ≡ 0 → vs ≡ []
 length_none [] e = refl
 length_none (v ∷ vs) e = absurd (omega (arith, e))
 

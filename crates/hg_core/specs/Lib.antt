@@ -32,5 +32,6 @@ pub mod Shown
 pub mod Commits
 pub mod Missed
 pub mod Held
+pub mod Few
 pub mod Worked
 pub mod Wrong

@@ -1,11 +1,11 @@
 //! What follows of the laws, in the words of the subject.
 
-ghost use Rattle.std.specs.Prelude.{◌≡◌, ℕ, List, [], ◌∷◌, None, Some, length, filter, map, is_some, if◌then◌else◌, ◌<◌, ◌≤◌, ◌*◌, ◌^◌, ◌++◌, IsSome, IsTrue};
+ghost use Rattle.std.specs.Prelude.{◌≡◌, ℕ, List, [], ◌∷◌, None, Some, length, filter, map, suc, ◌+◌, is_some, if◌then◌else◌, ◌<◌, ◌≤◌, ◌*◌, ◌^◌, ◌++◌, IsSome, IsTrue};
 ghost use Rattle.hg_base.specs.declared.rid.Rid.{Rid};
 ghost use Rattle.hg_base.specs.declared.rid.TableId.{TableId};
 ghost use Rattle.hg_base.specs.declared.scope.Scope.{Scope};
 ghost use Rattle.hg_base.specs.declared.image.Image.{Image};
-ghost use Rattle.hg_base.specs.History.{writes, visible, IsHistory, NoLostUpdate};
+ghost use Rattle.hg_base.specs.History.{writes, visible, IsHistory, NoLostUpdate, NoneTwice};
 ghost use Rattle.hg_base.specs.Transcript.{has, Said};
 ghost use Rattle.hg_core.specs.declared.log.LogEntry.{LogEntry};
 ghost use Rattle.hg_core.specs.Reading.{Unprinted, log_after, Fits};
@@ -28,6 +28,7 @@ ghost use Rattle.hg_core.specs.Placed.{IsPlaced};
 ghost use Rattle.hg_core.specs.Counters.{total, is_of, CountersBalance};
 ghost use Rattle.hg_core.specs.Visits.{VisitsStay};
 ghost use Rattle.hg_core.specs.Events.{MayReclaim};
+ghost use Rattle.hg_core.specs.Few.{has_open, AreAllHeld, IsCleanFor};
 ghost use Rattle.hg_core.specs.Replies.{AreReplied};
 ghost use Rattle.hg_core.specs.Steps.{Always, Run, run};
 ghost use Rattle.hg_core.specs.Invariant.{IsSteady};
@@ -113,6 +114,18 @@ pub fn removal_is_exact()
         left_by s p Kind.Interval r ≡
         not_gone (horizon (s.pass p)) (recorded r.table (s.pass p))
         (versions s.buckets s.bucket r)) }
+{}
+
+/// What is clean is few. Of the published versions of a record that is clean at the mark, each but the newest needs a snapshot of its
+/// own, after every list of steps.
+pub fn what_is_clean_is_few()
+    ensures record { Always (λ s.
+        (n : ℕ) (r : Rid) → IsCleanFor s n r →
+        length (versions s.buckets s.bucket r) ≤ suc n + (if has_open s r then 1 else 0)) }
+    ensures all { Always (λ s.
+        (n : ℕ) (records : List Rid) → NoneTwice records → AreAllHeld s records →
+        ((r : Rid) → IsCleanFor s n r) → sum_below s.buckets (λ b. total (s.bucket b)) ≤
+        length records * suc n + length (filter (has_open s) records)) }
 {}
 
 /// What a visit left stays. After every list of steps, each record of a bucket that was given back clean, or cut at a bound at
