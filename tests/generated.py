@@ -48,13 +48,6 @@ def memory_runs_out():
     expect("standard output", b"", done.stdout)
 
 
-def lists_go_past_sixteen_bits():
-    """One bucket has more records than sixteen bits count, its table's list too, and an audit judges more lines: none of them refuses
-    memory."""
-    script = b"table,t,1\n" + b"".join(b"1,put,t,%d,7\n" % key for key in range(70_000))
-    has(totals_of(records_of(sound_text("replay --buckets 1", script))), made=70_000, left=70_000)
-
-
 def a_text_cannot_be_written(words):
     """Standard output takes no byte."""
     status, said = run_to_full_disk(words, b"")
@@ -83,7 +76,7 @@ def a_round_leaves_two_versions_a_key():
 
 
 def a_bucket_takes_70000_keys():
-    """More than a number of 16 bits can count. The last one is read."""
+    """More than a number of 16 bits can count, in the bucket, in its table's list and as lines that an audit judges. The last is read."""
     records = records_of(sound_text("replay --buckets 1", many_keys(70_000)))
     expect("the last key", b"row,7", b",".join(records[70_002][-2:]))
     has(totals_of(records), made=70_000, left=70_000)
@@ -260,7 +253,6 @@ def scripts_by_chance():
 TESTS = (
     (length_is_limited,),
     (records_are_limited,),
-    (lists_go_past_sixteen_bits,),
     (memory_runs_out,),
     (a_text_cannot_be_written, "replay", "live"),
     (twenty_accounts_are_left,),
