@@ -11,7 +11,7 @@ use std::sync::Wait;
 use std::thread::Threads;
 
 // The number by which a gate knows the reader of a dump.
-const READER: u32 = 104;
+pub(crate) const READER: u32 = 104;
 
 // Words, as they are between spaces.
 fn split(alloc: Global, words: &str) -> Result<Vec<String>, AllocError> {
@@ -89,31 +89,87 @@ fn two_workers_are_held(rt: HostRuntime) {
     assert!(rt; is_meeting(sink.bytes()));
 }
 
-const TWO_PUTS: &str = "table,t,1\n1,put,t,5,7\n1,put,t,6,8\n";
+// The reader waits until session 1 comes to its second put, which waits until the reader has read once. After both puts the group
+// collector makes its first round, which finds no snapshot in use, and then all other rounds are made, with nothing to take.
+const TWO_PUTS: &str = "table,t,1\n1,put,t,5,7\n1,put,t,5,8\n1,gc,group\n";
 
-// The reader waits until session 1 comes to its second put, which waits until the reader has read once.
-const BETWEEN: [(Step, Step); 2] = [((READER, 1), (1, 2)), ((1, 2), (READER, 2))];
+const BETWEEN: [(Step, Step); 5] = [
+    ((READER, 1), (1, 2)),
+    ((1, 2), (READER, 2)),
+    ((101, 1), (1, 3)),
+    ((102, 1), (101, 2)),
+    ((103, 1), (101, 2)),
+];
 
 const TWO_PUTS_DUMPED: &[u8] = b"1,2,at,0,stored,committed,1
 1,3,at,1,stored,committed,2
+1,4,beside
+0,1,swept,group,2,2,1
+0,2,swept,group,2,2,0
+0,1,swept,table,2,2,0
+0,2,swept,table,2,2,0
+0,1,swept,interval,2,2,0
+0,2,swept,interval,2,2,0
 total,made,2
 total,undone,0
-total,group,0
+total,group,1
 total,table,0
 total,interval,0
-total,left,2
+total,left,1
 snapshot,1
 table,t,1
 1,put,t,5,7
 snapshot,2
 table,t,1
-1,put,t,5,7
-1,put,t,6,8
+1,put,t,5,8
 ";
 
 #[test]
 fn a_dump_between_two_puts(rt: HostRuntime) {
-    let words = "dump --rounds 0";
+    let words = "dump --rounds 2";
     let sink = written_in_order(&rt, rt.alloc(), words, TWO_PUTS, &BETWEEN);
     assert_eq!(rt; sink.bytes(), TWO_PUTS_DUMPED);
+}
+
+// Session 2 begins after the first commit of session 1. Its first put of key 5 comes while the second transaction of session 1 has written
+// that key, and its second one after session 1 has committed twice more, and before it does so again. Its put of key 6 is stored, since
+// session 1 puts that key only after the rollback.
+const CONFLICTS: &str =
+    "table,t,1\n1,put,t,5,10\n1,begin\n1,put,t,5,11\n1,commit\n1,put,t,5,12\n2,begin\n2,put,t,6,20\n2,put,t,5,21\n2,put,t,5,22\n2,rollback\n2,gc,group\n1,put,t,5,13\n1,put,t,6,14\n";
+
+const CONFLICTS_HOLDS: [(Step, Step); 6] = [
+    ((2, 1), (1, 2)),
+    ((2, 3), (1, 4)),
+    ((1, 4), (2, 4)),
+    ((2, 4), (1, 6)),
+    ((1, 6), (2, 5)),
+    ((1, 7), (2, 6)),
+];
+
+const CONFLICTS_TEXT: &[u8] = b"1,2,at,0,stored,committed,1
+1,3,begun,1
+1,4,stored
+1,5,committed,2
+1,6,at,2,stored,committed,3
+1,13,at,3,stored,committed,4
+1,14,at,4,stored,committed,5
+2,7,begun,1
+2,8,stored
+2,9,refused,open,1,2
+2,10,refused,newer,3
+2,11,undone
+2,12,beside
+total,made,6
+total,undone,1
+total,group,0
+total,table,3
+total,interval,0
+total,left,2
+";
+
+#[test]
+fn each_refusal_names_what_is_there(rt: HostRuntime) {
+    let words = "run --rounds 0";
+    let sink = written_in_order(&rt, rt.alloc(), words, CONFLICTS, &CONFLICTS_HOLDS);
+    assert_eq!(rt; sink.bytes(), CONFLICTS_TEXT);
 }

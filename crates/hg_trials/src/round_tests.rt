@@ -1,7 +1,7 @@
 //! Texts of rounds that a gate has made while a session stays, or a helper.
 
 use crate::order::Step;
-use crate::order_tests::written_in_order;
+use crate::order_tests::{READER, written_in_order};
 use hg_audit::{Verdict, audit};
 use hg_script::read_script;
 use std::alloc::Global;
@@ -70,20 +70,32 @@ fn a_round_beside_a_reader(rt: HostRuntime) {
     assert_eq!(rt; sink.bytes(), BESIDE_TEXT);
 }
 
-// Session 1 declares the second table at the first snapshot, and stays while session 2 commits three times to the first table and the
-// table collector makes its first round. Three commits are long where the words say that one is, so the round moves session 1 to its
-// own table, and takes what it need not see. Session 1 goes on once the table collector's worker, whose number is 102, comes to its
-// second round. All other rounds are made when session 1 has ended.
-const MOVED: &str =
-    "table,t,1\ntable,u,1\n1,begin,u\n1,get,u,1\n1,commit\n1,gc,table\n2,put,t,1,10\n2,put,t,1,20\n2,put,t,1,30\n2,gc,table\n";
+// Session 1 declares the second table at the first snapshot, and stays while session 2 commits six times to the first table and the
+// table collector makes its first round. Six commits are long where the words say that six are, and not where they say seven. A round
+// moves a long snapshot to its own table, and takes what it need not see. Session 1 goes on once the table collector comes to its second
+// round, which is made after session 1 has ended, and before those of the other collectors.
+const LONG: &str =
+    "table,t,1\ntable,u,1\n1,begin,u\n1,get,u,1\n1,commit\n1,gc,table\n2,put,t,1,10\n2,put,t,1,20\n2,put,t,1,30\n2,put,t,1,40\n2,put,t,1,50\n2,put,t,1,60\n2,gc,table\n";
 
-const MOVED_HOLDS: [(Step, Step); 6] = [
+const LONG_HOLDS: [(Step, Step); 6] = [
     ((2, 1), (1, 2)),
-    ((TABLE, 1), (2, 4)),
+    ((TABLE, 1), (2, 7)),
     ((1, 2), (TABLE, 2)),
     ((TABLE, 2), (1, 4)),
-    ((GROUP, 1), (1, 4)),
-    ((INTERVAL, 1), (1, 4)),
+    ((GROUP, 1), (TABLE, 3)),
+    ((INTERVAL, 1), (TABLE, 3)),
+];
+
+// The same with a reader, which reads between the first two rounds of the table collector.
+const LONG_DUMP_HOLDS: [(Step, Step); 8] = [
+    ((2, 1), (1, 2)),
+    ((TABLE, 1), (2, 7)),
+    ((1, 2), (TABLE, 2)),
+    ((READER, 1), (TABLE, 2)),
+    ((TABLE, 2), (1, 4)),
+    ((TABLE, 2), (READER, 2)),
+    ((GROUP, 1), (TABLE, 3)),
+    ((INTERVAL, 1), (TABLE, 3)),
 ];
 
 const MOVED_TEXT: &[u8] = b"1,3,begun,0
@@ -93,27 +105,83 @@ const MOVED_TEXT: &[u8] = b"1,3,begun,0
 2,7,at,0,stored,committed,1
 2,8,at,1,stored,committed,2
 2,9,at,2,stored,committed,3
-2,10,beside
-0,1,swept,group,3,3,0
-0,2,swept,group,3,3,0
-0,1,swept,table,3,3,2
+2,10,at,3,stored,committed,4
+2,11,at,4,stored,committed,5
+2,12,at,5,stored,committed,6
+2,13,beside
+0,1,swept,group,6,6,0
+0,2,swept,group,6,6,0
+0,3,swept,group,6,6,0
+0,1,swept,table,6,6,5
 0,1,held,1,0,moved
-0,2,swept,table,3,3,0
-0,1,swept,interval,3,3,0
-0,2,swept,interval,3,3,0
-total,made,3
+0,2,swept,table,6,6,0
+0,3,swept,table,6,6,0
+0,1,swept,interval,6,6,0
+0,2,swept,interval,6,6,0
+0,3,swept,interval,6,6,0
+total,made,6
 total,undone,0
 total,group,0
-total,table,2
+total,table,5
 total,interval,0
 total,left,1
 ";
 
+const UNMOVED_TEXT: &[u8] = b"1,3,begun,0
+1,4,none
+1,5,ended
+1,6,beside
+2,7,at,0,stored,committed,1
+2,8,at,1,stored,committed,2
+2,9,at,2,stored,committed,3
+2,10,at,3,stored,committed,4
+2,11,at,4,stored,committed,5
+2,12,at,5,stored,committed,6
+2,13,beside
+0,1,swept,group,6,6,0
+0,2,swept,group,6,6,0
+0,3,swept,group,6,6,0
+0,1,swept,table,6,6,0
+0,1,held,1,0,unmoved
+0,2,swept,table,6,6,5
+0,3,swept,table,6,6,0
+0,1,swept,interval,6,6,0
+0,2,swept,interval,6,6,0
+0,3,swept,interval,6,6,0
+total,made,6
+total,undone,0
+total,group,0
+total,table,5
+total,interval,0
+total,left,1
+";
+
+const LONG_DUMPS: &[u8] = b"snapshot,6
+table,t,1
+table,u,1
+1,put,t,1,60
+snapshot,6
+table,t,1
+table,u,1
+1,put,t,1,60
+";
+
 #[test]
-fn a_held_round_moves_a_long_snapshot(rt: HostRuntime) {
-    let words = "run --long 1 --rounds 2";
-    let sink = written_in_order(&rt, rt.alloc(), words, MOVED, &MOVED_HOLDS);
-    assert_eq!(rt; sink.bytes(), MOVED_TEXT);
+fn six_commits_are_long_where_six_are(rt: HostRuntime) {
+    let run = written_in_order(&rt, rt.alloc(), "run --long 6 --rounds 3", LONG, &LONG_HOLDS);
+    assert_eq!(rt; run.bytes(), MOVED_TEXT);
+    let words = "dump --long 6 --rounds 3";
+    let dump = written_in_order(&rt, rt.alloc(), words, LONG, &LONG_DUMP_HOLDS);
+    assert_eq!(rt; dump.bytes().strip_prefix(MOVED_TEXT), Some(LONG_DUMPS));
+}
+
+#[test]
+fn six_commits_are_not_long_where_seven_are(rt: HostRuntime) {
+    let run = written_in_order(&rt, rt.alloc(), "run --long 7 --rounds 3", LONG, &LONG_HOLDS);
+    assert_eq!(rt; run.bytes(), UNMOVED_TEXT);
+    let words = "dump --long 7 --rounds 3";
+    let dump = written_in_order(&rt, rt.alloc(), words, LONG, &LONG_DUMP_HOLDS);
+    assert_eq!(rt; dump.bytes().strip_prefix(UNMOVED_TEXT), Some(LONG_DUMPS));
 }
 
 // Session 1 fetches once at snapshot 2. It is held before its second fetch until session 2 has committed twice more and each collector
