@@ -1,8 +1,9 @@
 -- Where a source tells its bytes and does not fail, they decide the answer.
 use Rattle.std.proofs.Common.{◌≡◌, ◌∙◌, ◌≤◌, ◌<◌, ℕ, List, ◌++◌, length, Option, Some, None, sym, subst, ap, refl, inl, inr, arith, length-append}
 use Rattle.std.proofs.lemmas.List.{append-nil}
-use Rattle.std.specs.Io.KnownBytes.{Appends, Consumes, IsAtEnd}
+use Rattle.std.specs.Io.KnownBytes.{Consumes, IsAtEnd}
 use Rattle.hg_base.specs.declared.limits.TheConstants.{MOST_SCRIPT_BYTES}
+use Rattle.hg_base.specs.Flows.{Inflow, Outflow}
 use Rattle.hg_base.specs.Sound.{IsSound}
 use Rattle.hg_script.specs.declared.code.Code.{Code}
 use Rattle.hg_words.specs.declared.options.Options.{Options}
@@ -12,7 +13,7 @@ use Rattle.hg_script.specs.Meaning.{refusal_of, script_of}
 use Rattle.hg_streams.specs.declared.status.Status.{Status}
 use Rattle.hg_streams.specs.declared.status.Status.TheVariants.{Done, Usage, BadScript, ReadFault, WriteFault, TooLong, NoMemory, Spent}
 use Rattle.hg_run.specs.Words.{AsksFor, IsMaking, IsReading, Task, audits, dumps, makes, reads, task_of}
-use Rattle.hg_streams.specs.Streams.{Change, FailsToRead, Gives, HasFailed, IsTooLong, ReadsAll}
+use Rattle.hg_streams.specs.Streams.{Change, FailsToRead, Gives, IsTooLong, ReadsAll, Took, WriteFailed}
 use Rattle.hg_run.specs.Serving.{Answers, IsScriptIn, Refuses, WritesAll, WritesExactly, WritesPart, Comes, IsUnlessNoMemory}
 use Rattle.hg_run.specs.Printing.{AreExact}
 use Rattle.hg_streams.specs.Parting.{AreParts}
@@ -29,8 +30,8 @@ no_more before None all bytes told read = absurd (rw told at read)
 no_more before (Some rest) all bytes told read = let e = rw told at read in omega (arith, ap length e, length-append bytes rest)
 
 -- the same of a source that tells its bytes
-reads_all : (source : Change) (all bytes : List ℕ) → Gives source all → ReadsAll source bytes → all ≡ bytes
-reads_all source all bytes gives whole_of = whole source.before source.after all bytes gives.told whole_of.read whole_of.end
+reads_all : (source : Change Inflow) (all bytes : List ℕ) → Gives source all → ReadsAll source bytes → all ≡ bytes
+reads_all source all bytes gives whole_of = whole source.old.left source.new.left all bytes gives.told whole_of.gave.next whole_of.end.none
 
 -- nothing is no value
 none_some : {A : Type 0} (o : Option A) (x : A) → o ≡ None → o ≡ Some x → ⊥
@@ -47,11 +48,11 @@ unfolding status_of
 same_refusal l line c code e = ap status_of e
 
 -- the headline, out of the cases
-pub sound : (words : List (List ℕ)) (source sink : Change) (status : Status) → Comes words source sink status → status ≡ Done → AsksFor words (λ task. WritesAll task source sink)
+pub sound : (words : List (List ℕ)) (source : Change Inflow) (sink : Change Outflow) (status : Status) → Comes words source sink status → status ≡ Done → AsksFor words (λ task. WritesAll task source sink)
 sound words source sink status comes done = subst (Comes words source sink) done comes
 
 -- and of a replay, that it prints one text
-pub exact : (words : List (List ℕ)) (source sink : Change) (status : Status) → Comes words source sink status → status ≡ Done → AsksFor words (λ task. WritesExactly task source sink)
+pub exact : (words : List (List ℕ)) (source : Change Inflow) (sink : Change Outflow) (status : Status) → Comes words source sink status → status ≡ Done → AsksFor words (λ task. WritesExactly task source sink)
 exact words source sink status comes done = let all = sound words source sink status comes done in record { options = all.options; asked = all.asked; holds = go (task_of all.options) all.holds }
   where
     go : (task : Task) → WritesAll task source sink → WritesExactly task source sink
@@ -59,11 +60,11 @@ exact words source sink status comes done = let all = sound words source sink st
         let p = w.answers.text_for.printed in
         record {
           script = script_of (rows_of w.answers.bytes);
-          is = record { bytes = w.answers.bytes; all = w.answers.all; same = refl };
+          is = record { bytes = w.answers.bytes; all = w.answers.all; valid = w.answers.text_for.valid; same = refl };
           printed = p.printed;
           sound = subst (λ m. IsSound m (script_of (rows_of w.answers.bytes)) p.printed) is p.sound;
           exact = subst (λ m. AreExact m (script_of (rows_of w.answers.bytes)) p.printed.lines) is p.exact;
-          taken = subst (Appends sink.before sink.after) p.same w.taken;
+          taken = subst (Took sink) p.same w.taken;
         }
     go (makes seed) w = record {
       script = w.answers.script;
@@ -71,13 +72,13 @@ exact words source sink status comes done = let all = sound words source sink st
       printed = w.answers.printed;
       sound = w.answers.sound;
       exact = w.answers.exact;
-      taken = subst (Appends sink.before sink.after) w.answers.same w.taken;
+      taken = subst (Took sink) w.answers.same w.taken;
     }
     go audits w = tt
     go (dumps mode) w = tt
 
 -- words that are refused ask for nothing
-pub usage : (words : List (List ℕ)) (source sink : Change) (status : Status) → Comes words source sink status → status ≡ Usage → options_of words ≡ None
+pub usage : (words : List (List ℕ)) (source : Change Inflow) (sink : Change Outflow) (status : Status) → Comes words source sink status → status ≡ Usage → options_of words ≡ None
 usage words source sink status comes done = subst (Comes words source sink) done comes
 
 -- ---- what is asked is one thing
@@ -107,14 +108,14 @@ same_asked : (words : List (List ℕ)) (P Q : Task → Type 0) (a : AsksFor word
 same_asked words P Q a b = subst P (same_task words P Q a b) a.holds
 
 -- a script that is made is not in the source
-refuses_read : (task : Task) (source : Change) (line : ℕ) (code : Code) → Refuses task source line code → IsReading task
+refuses_read : (task : Task) (source : Change Inflow) (line : ℕ) (code : Code) → Refuses task source line code → IsReading task
 refuses_read (reads mode) source line code r = tt
 refuses_read (makes seed) source line code r = r.refused.within
 refuses_read audits source line code r = tt
 refuses_read (dumps mode) source line code r = tt
 
 -- a script that is made wants no source
-pub loaded : (words : List (List ℕ)) (source sink : Change) (status : Status) → Comes words source sink status → AsksFor words IsMaking → (HasFailed sink → ⊥) → IsUnlessNoMemory status Done
+pub loaded : (words : List (List ℕ)) (source : Change Inflow) (sink : Change Outflow) (status : Status) → Comes words source sink status → AsksFor words IsMaking → (WriteFailed sink → ⊥) → IsUnlessNoMemory status Done
 loaded words source sink status comes making steady = go status comes
   where
     no : (P : Type 0) → AsksFor words (λ task. IsReading task × P) → ⊥
@@ -139,7 +140,7 @@ one_within audits bytes s t a b = one_script bytes s a.0 t b.0 a.1 b.1
 one_within (dumps mode) bytes s t a b = a ∙ sym b
 
 -- what is answered of the source is answered of its bytes
-module _ (source : Change) (bytes : List ℕ) (gives : Gives source bytes) where
+module _ (source : Change Inflow) (bytes : List ℕ) (gives : Gives source bytes) where
   -- the script that breaks a rule is the one that is asked of
   refused_in : (task : Task) (script : List ℕ) (line : ℕ) (code : Code) → IsScriptIn task bytes script → Refuses task source line code → refusal_of (rows_of script) ≡ Some (line, code)
   refused_in task script line code within r =
@@ -153,7 +154,7 @@ module _ (source : Change) (bytes : List ℕ) (gives : Gives source bytes) where
   valid_in (dumps mode) script text within answers = ap (λ (s : List ℕ). refusal_of (rows_of s)) (within ∙ reads_all source bytes answers.bytes gives answers.all) ∙ answers.text_for.valid
   valid_in (makes seed) script text within answers = absurd within
   valid_in audits script text within answers =
-      let judged = answers.text_for in
+      let judged = answers.text_for.on in
       let parts = subst (λ (b : List ℕ). AreParts b judged.script judged.text) (sym (reads_all source bytes answers.bytes gives answers.all)) judged.parts in
       ap (λ (s : List ℕ). refusal_of (rows_of s)) (one_script bytes script within.0 judged.script judged.text within.1 parts) ∙ judged.valid
 
@@ -164,14 +165,14 @@ module _ (source : Change) (bytes : List ℕ) (gives : Gives source bytes) where
   short_in audits text reading answers = rw (reads_all source bytes answers.bytes gives answers.all) answers.all.short
   short_in (dumps mode) text reading answers = rw (reads_all source bytes answers.bytes gives answers.all) answers.all.short
 
-module _ (words : List (List ℕ)) (source sink : Change) (bytes : List ℕ) where
+module _ (words : List (List ℕ)) (source : Change Inflow) (sink : Change Outflow) (bytes : List ℕ) where
   -- a source with too many bytes is read no further
   not_long : (P : Task → Type 0) → Gives source bytes → length bytes ≤ MOST_SCRIPT_BYTES → AsksFor words (λ task. P task × IsTooLong source) → ⊥
-  not_long P gives short a = omega (arith, no_more source.before source.after bytes a.holds.1.bytes gives.told a.holds.1.read, a.holds.1.long, short)
+  not_long P gives short a = omega (arith, no_more source.old.left source.new.left bytes a.holds.1.bytes gives.told a.holds.1.gave.next, a.holds.1.long, short)
 
   -- a valid script and no fault: all is done, or memory is wanting
   pub complete : (script : List ℕ) (status : Status) → Comes words source sink status → AsksFor words (λ task. IsScriptIn task bytes script) → Gives source bytes → length bytes ≤ MOST_SCRIPT_BYTES
-      → refusal_of (rows_of script) ≡ None → (HasFailed sink → ⊥) → IsUnlessNoMemory status Done
+      → refusal_of (rows_of script) ≡ None → (WriteFailed sink → ⊥) → IsUnlessNoMemory status Done
   complete script Done comes within gives short valid steady = inl refl
   complete script Usage comes within gives short valid steady = absurd (not_usage words (λ task. IsScriptIn task bytes script) within comes)
   complete script (BadScript line code) comes within gives short valid steady =

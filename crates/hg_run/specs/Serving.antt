@@ -1,10 +1,10 @@
 -- When each status comes.
 use Rattle.std.specs.Prelude.{◌≡◌, ℕ, ◌<◌, ◌≤◌, ◌⊎◌, List, length, map, take, Bool, true, false, Some, None, ⊤}
 use Rattle.std.specs.List.{flat_map}
-use Rattle.std.specs.Io.KnownBytes.{Appends}
 use Rattle.hg_base.specs.declared.limits.TheConstants.{MOST_SCRIPT_BYTES}
 use Rattle.hg_base.specs.declared.line.Printed.{Printed}
 use Rattle.hg_base.specs.Script.{Mode, Script, replay}
+use Rattle.hg_base.specs.Flows.{Inflow, Outflow}
 use Rattle.hg_base.specs.Sound.{IsSound}
 use Rattle.hg_base.specs.Text.{text_of, totals_records}
 use Rattle.hg_records.specs.Bytes.{record_bytes}
@@ -16,7 +16,7 @@ use Rattle.hg_streams.specs.declared.status.Status.{Status}
 use Rattle.hg_streams.specs.declared.status.Status.TheVariants.{Done, Usage, BadScript, ReadFault, WriteFault, TooLong, NoMemory, Spent}
 use Rattle.hg_seed.specs.Generator.{IsMade}
 use Rattle.hg_streams.specs.Parting.{AreParts}
-use Rattle.hg_streams.specs.Streams.{Change, FailsToRead, Gives, HasFailed, IsTooLong, ReadsAll}
+use Rattle.hg_streams.specs.Streams.{Change, FailsToRead, Gives, IsTooLong, ReadsAll, Took, WriteFailed}
 use Rattle.hg_words.specs.Options.{options_of}
 use Rattle.hg_run.specs.Words.{AsksFor, IsMaking, IsReading, Task, audits, dumps, makes, reads}
 use Rattle.hg_run.specs.Dumping.{IsDumpedFor}
@@ -36,13 +36,13 @@ pub record IsDumpFor (mode : Mode) (bytes text : List ℕ) : Type 0 where
   pub dumped : IsDumpedFor mode (script_of (rows_of bytes)) text
 
 -- a text of which P holds with all the bytes of the source
-pub record AnswersSource (P : List ℕ → List ℕ → Type 0) (source : Change) (text : List ℕ) : Type 0 where
+pub record AnswersSource (P : List ℕ → List ℕ → Type 0) (source : Change Inflow) (text : List ℕ) : Type 0 where
   pub bytes : List ℕ
   pub all : ReadsAll source bytes
   pub text_for : P bytes text
 
 -- a text that does what is asked
-abbrev pub Answers : Task → Change → List ℕ → Type 0
+abbrev pub Answers : Task → Change Inflow → List ℕ → Type 0
 Answers (reads mode) source text = AnswersSource (IsTextFor mode) source text
 Answers (makes seed) source text = AreTotalsOf seed text
 Answers audits source text = AnswersSource IsJudgedBy source text
@@ -64,51 +64,52 @@ pub record RefusesScript (task : Task) (bytes : List ℕ) (line : ℕ) (code : C
   pub first : refusal_of (rows_of script) ≡ Some (line, code)
 
 -- the same of the script in the source
-pub record Refuses (task : Task) (source : Change) (line : ℕ) (code : Code) : Type 0 where
+pub record Refuses (task : Task) (source : Change Inflow) (line : ℕ) (code : Code) : Type 0 where
   pub bytes : List ℕ
   pub all : ReadsAll source bytes
   pub refused : RefusesScript task bytes line code
 
 -- the sink took the whole text
-pub record WritesAll (task : Task) (source sink : Change) : Type 0 where
+pub record WritesAll (task : Task) (source : Change Inflow) (sink : Change Outflow) : Type 0 where
   pub text : List ℕ
   pub answers : Answers task source text
-  pub taken : Appends sink.before sink.after text
+  pub taken : Took sink text
 
--- what the bytes of the source mean
-pub record IsReadFrom (source : Change) (script : Script) : Type 0 where
+-- what the bytes of the source mean, which break no rule
+pub record IsReadFrom (source : Change Inflow) (script : Script) : Type 0 where
   pub bytes : List ℕ
   pub all : ReadsAll source bytes
+  pub valid : refusal_of (rows_of bytes) ≡ None
   pub same : script ≡ script_of (rows_of bytes)
 
 -- The sink took a text of a printed value that is sound for a script, and whose lines are those that are replayed, but for what their
 -- reports say was removed and moved.
-pub record TakesExactly (P : Script → Type 0) (text : Script → Printed → List ℕ) (sink : Change) : Type 0 where
+pub record TakesExactly (P : Script → Type 0) (text : Script → Printed → List ℕ) (sink : Change Outflow) : Type 0 where
   pub script : Script
   pub is : P script
   pub printed : Printed
   pub sound : IsSound replay script printed
   pub exact : map plain printed.lines ≡ replayed script
-  pub taken : Appends sink.before sink.after (text script printed)
+  pub taken : Took sink (text script printed)
 
 -- the same of a replay: that of the script in the source, or that of a seed's script, of which the totals are written
-abbrev pub WritesExactly : Task → Change → Change → Type 0
+abbrev pub WritesExactly : Task → Change Inflow → Change Outflow → Type 0
 WritesExactly (reads mode) source sink = mode ≡ replay → TakesExactly (IsReadFrom source) (text_of record_bytes) sink
 WritesExactly (makes seed) source sink = TakesExactly (IsMade seed) (λ script printed. flat_map record_bytes (totals_records printed.totals)) sink
 WritesExactly audits source sink = ⊤
 WritesExactly (dumps mode) source sink = ⊤
 
 -- the sink failed, and took no more than a prefix of the text
-pub record WritesPart (task : Task) (source sink : Change) : Type 0 where
-  pub failed : HasFailed sink
+pub record WritesPart (task : Task) (source : Change Inflow) (sink : Change Outflow) : Type 0 where
+  pub failed : WriteFailed sink
   pub text : List ℕ
   pub answers : Answers task source text
   pub count : ℕ
   pub less : count < length text
-  pub taken : Appends sink.before sink.after (take count text)
+  pub taken : Took sink (take count text)
 
 -- when each status comes; running out of memory says nothing, and `Spent` is of conversations alone
-abbrev pub Comes : List (List ℕ) → Change → Change → Status → Type 0
+abbrev pub Comes : List (List ℕ) → Change Inflow → Change Outflow → Status → Type 0
 Comes words source sink Done = AsksFor words (λ task. WritesAll task source sink)
 Comes words source sink Usage = options_of words ≡ None
 Comes words source sink (BadScript line code) = AsksFor words (λ task. Refuses task source line code)
@@ -131,13 +132,13 @@ IsUnlessNoMemory status wanted = (status ≡ wanted) ⊎ (status ≡ NoMemory)
 -- What a source holds that shows its bytes and does not fail decides the answer, where memory is found. Whether there is one hangs on
 -- the script's bytes alone, which are all of them, or those before the line that parts them. A script that is made is replayed whatever
 -- the source holds.
-pub record IsDecided (words : List (List ℕ)) (source sink : Change) (status : Status) : Type 0 where
+pub record IsDecided (words : List (List ℕ)) (source : Change Inflow) (sink : Change Outflow) (status : Status) : Type 0 where
   pub complete : (bytes script : List ℕ) → AsksFor words (λ task. IsScriptIn task bytes script) → Gives source bytes → length bytes ≤ MOST_SCRIPT_BYTES →
-      refusal_of (rows_of script) ≡ None → (HasFailed sink → ⊥) → IsUnlessNoMemory status Done
+      refusal_of (rows_of script) ≡ None → (WriteFailed sink → ⊥) → IsUnlessNoMemory status Done
   pub bad_script : (bytes script : List ℕ) (line : ℕ) (code : Code) → AsksFor words (λ task. IsScriptIn task bytes script) → Gives source bytes → length bytes ≤ MOST_SCRIPT_BYTES →
       refusal_of (rows_of script) ≡ Some (line, code) → IsUnlessNoMemory status (BadScript line code)
   pub too_long : (bytes : List ℕ) → AsksFor words IsReading → Gives source bytes → MOST_SCRIPT_BYTES < length bytes → IsUnlessNoMemory status TooLong
-  pub loaded : AsksFor words IsMaking → (HasFailed sink → ⊥) → IsUnlessNoMemory status Done
+  pub loaded : AsksFor words IsMaking → (WriteFailed sink → ⊥) → IsUnlessNoMemory status Done
 
 -- ---- what the steps refuse
 
@@ -148,7 +149,7 @@ RefusesBytes task bytes NoMemory = ⊤
 RefusesBytes task bytes _ = ⊥
 
 -- why a source has no text
-abbrev pub RefusesSource : Task → Change → Status → Type 0
+abbrev pub RefusesSource : Task → Change Inflow → Status → Type 0
 RefusesSource task source (BadScript line code) = Refuses task source line code
 RefusesSource task source ReadFault = FailsToRead source
 RefusesSource task source TooLong = IsTooLong source
@@ -156,6 +157,6 @@ RefusesSource task source NoMemory = ⊤
 RefusesSource task source _ = ⊥
 
 -- why what is asked has no text: a script that is made wants memory alone
-abbrev pub RefusesTask : Task → Change → Status → Type 0
+abbrev pub RefusesTask : Task → Change Inflow → Status → Type 0
 RefusesTask (makes seed) source status = status ≡ NoMemory
 RefusesTask task source status = RefusesSource task source status

@@ -23,7 +23,8 @@
 //! value is sound next to a reader of all tables at a snapshot, and two dumps of the history that it prints follow: at that snapshot, and
 //! at the end. That reports are those of rounds made with the buckets and the `--long` of the words, the drivers say, and `serve` does not.
 //!
-//! Reading the source, writing to the sink and the statuses are in `hg_streams`.
+//! Reading the source, writing to the sink and the statuses are in `hg_streams`. Bytes that are refused go back to the source
+//! (`give_back`).
 //!
 //! The drivers take the sessions and the collectors of an engine through a script:
 //!
@@ -75,7 +76,7 @@ pub use end::{close, close_read};
 pub use engine::{open_beside, open_for};
 pub use hg_collectors::{Collectors, IntervalWorker, NoGate, Plan};
 pub use hg_exact::{rows_have_their_columns, what_is_sound_fits};
-pub use hg_streams::{Status, StdinSource, StdoutSink};
+pub use hg_streams::{ReaderSource, Status, StdinSource, StdoutSink};
 pub use laws::{
     replays_print_the_same, text_determines_what_was_printed, what_is_sound_with_a_reader_fits,
 };

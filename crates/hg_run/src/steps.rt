@@ -2,20 +2,19 @@
 
 ghost use Rattle.std.specs.Prelude.{◌≡◌, ◌+◌, map, None, IfOk, IfErr, IsFalse, OnOk, string_bytes};
 ghost use Rattle.hg_base.specs.Script.{Mode, run};
-ghost use Rattle.hg_script.specs.Fields.{rows_of};
 ghost use Rattle.hg_script.specs.Lawful.{IsLawful};
-ghost use Rattle.hg_script.specs.Meaning.{refusal_of, script_of};
 ghost use Rattle.hg_words.specs.Options.{AreWithin, options_of};
 ghost use Rattle.hg_run.specs.Printing.{IsPrintedFor};
 ghost use Rattle.hg_run.specs.Words.{AsksFor, IsMaking, audits, dumps, mode_of, reads, task_of};
-ghost use Rattle.hg_run.specs.Serving.{Answers, Comes, IsDecided, IsDumpFor, IsTextFor, IsUnlessNoMemory, RefusesBytes, RefusesTask, WritesAll, WritesExactly, may_write};
+ghost use Rattle.hg_run.specs.Serving.{Answers, Comes, IsDecided, IsReadFrom, IsUnlessNoMemory, RefusesTask, WritesAll, WritesExactly, may_write};
 ghost use Rattle.hg_streams.specs.Streams.{HasGiven, change_of};
 
-use crate::audit::audit_bytes;
+use crate::audit::{bytes_of, verdict_on};
 use crate::dump_text::dump_all;
 use crate::load::load;
 use crate::replay_text::replay;
 use crate::run_text::run_all;
+use hg_audit::Verdict;
 use hg_base::{Failed, Gate, MOST_SCRIPT_BYTES, NoMemory, Sink, Source};
 use hg_script::{Script, read_script};
 use hg_streams::{Status, read_all, write_all};
@@ -24,20 +23,31 @@ use std::alloc::Global;
 use std::sync::Wait;
 use std::thread::Threads;
 
-// The script of these bytes, which are freed once it is read.
-fn script_of_bytes(alloc: Global, bytes: Vec<u8>) -> Result<Script, Status>
-    ensures valid { OnOk result (refusal_of (rows_of bytes.items) ≡ None) }
-    ensures script { IfOk result (λ script. script ≡ script_of (rows_of bytes.items)) }
+// The script in a source. Its bytes are freed once it is read, and given back where it is refused.
+fn script_of_source<S: Source>(alloc: Global, source: &mut S) -> Result<Script, Status>
+    ensures read { IfOk result (IsReadFrom (change_of S.flow source.old source.new)) }
     ensures lawful { IfOk result IsLawful }
-    ensures refused { (mode : Mode) → IfErr result (RefusesBytes (reads mode) bytes.items) }
-    ensures refused_dump { (mode : Mode) → IfErr result (RefusesBytes (dumps mode) bytes.items) }
+    ensures refused { (mode : Mode) → IfErr result
+        (RefusesTask (reads mode) (change_of S.flow source.old source.new)) }
+    ensures refused_dump { (mode : Mode) → IfErr result
+        (RefusesTask (dumps mode) (change_of S.flow source.old source.new)) }
+    ensures no_more { HasGiven (MOST_SCRIPT_BYTES + 1)
+        (change_of S.flow source.old source.new) }
 {
-    let script = read_script(alloc, &bytes).map_err(Status::from);
-    free(bytes);
-    script
+    let bytes = read_all(alloc, source)?;
+    match read_script(alloc, &bytes) {
+        Ok(script) => {
+            free(bytes);
+            Ok(script)
+        }
+        Err(refusal) => {
+            source.give_back(bytes);
+            Err(Status::from(refusal))
+        }
+    }
 }
 
-// Frees the bytes, after all but one of them were given back. glibc maps a large block on its own, and such a block grows without a
+// Frees the bytes, and all but one of them first. glibc maps a large block on its own, and such a block grows without a
 // copy. But once a mapped block is freed, it takes blocks of up to that size from its heap, where a list that grows is copied, and
 // leaves a hole.
 fn free(bytes: Vec<u8>) {
@@ -65,23 +75,6 @@ fn text_of_script<R: Threads + Wait + Sync, G: Gate + Sync>(
     }
 }
 
-// The text that the script of these bytes prints. The bytes are freed before it runs.
-fn text_of_bytes<R: Threads + Wait + Sync, G: Gate + Sync>(
-    rt: &R,
-    alloc: Global,
-    options: &Options,
-    bytes: Vec<u8>,
-    gate: &G,
-) -> Result<Vec<u8>, Status>
-    requires { AreWithin options.now }
-    ensures text { IfOk result
-        (λ text. IsTextFor (mode_of options.now) bytes.items text.items) }
-    ensures refused { IfErr result (RefusesBytes (reads (mode_of options.now)) bytes.items) }
-{
-    let script = script_of_bytes(alloc, bytes)?;
-    text_of_script(rt, alloc, options, &script, gate).map_err(Status::from)
-}
-
 // The text that the script in a source prints.
 fn text_of_source<R: Threads + Wait + Sync, S: Source, G: Gate + Sync>(
     rt: &R,
@@ -93,32 +86,14 @@ fn text_of_source<R: Threads + Wait + Sync, S: Source, G: Gate + Sync>(
     requires { AreWithin options.now }
     ensures text { IfOk result (λ text.
         Answers (reads (mode_of options.now))
-        (change_of S.left S.faults source.old source.new) text.items) }
+        (change_of S.flow source.old source.new) text.items) }
     ensures refused { IfErr result (RefusesTask (reads (mode_of options.now))
-        (change_of S.left S.faults source.old source.new)) }
+        (change_of S.flow source.old source.new)) }
     ensures no_more { HasGiven (MOST_SCRIPT_BYTES + 1)
-        (change_of S.left S.faults source.old source.new) }
+        (change_of S.flow source.old source.new) }
 {
-    let bytes = read_all(alloc, source)?;
-    text_of_bytes(rt, alloc, options, bytes, gate)
-}
-
-// The text that the script of these bytes prints, with dumps of its tables.
-fn dump_of_bytes<R: Threads + Wait + Sync, G: Gate + Sync>(
-    rt: &R,
-    alloc: Global,
-    options: &Options,
-    bytes: Vec<u8>,
-    gate: &G,
-) -> Result<Vec<u8>, Status>
-    requires { AreWithin options.now }
-    ensures text { IfOk result (λ text.
-        IsDumpFor (run options.now.rounds) bytes.items text.items) }
-    ensures refused { IfErr result
-        (RefusesBytes (dumps (run options.now.rounds)) bytes.items) }
-{
-    let script = script_of_bytes(alloc, bytes)?;
-    dump_all(rt, alloc, &script, options, gate).map_err(Status::from)
+    let script = script_of_source(alloc, source)?;
+    text_of_script(rt, alloc, options, &script, gate).map_err(Status::from)
 }
 
 // The text that the script in a source prints, with dumps of its tables.
@@ -132,28 +107,39 @@ fn dump_of_source<R: Threads + Wait + Sync, S: Source, G: Gate + Sync>(
     requires { AreWithin options.now }
     ensures text { IfOk result (λ text.
         Answers (dumps (run options.now.rounds))
-        (change_of S.left S.faults source.old source.new) text.items) }
+        (change_of S.flow source.old source.new) text.items) }
     ensures refused { IfErr result
         (RefusesTask (dumps (run options.now.rounds))
-        (change_of S.left S.faults source.old source.new)) }
+        (change_of S.flow source.old source.new)) }
     ensures no_more { HasGiven (MOST_SCRIPT_BYTES + 1)
-        (change_of S.left S.faults source.old source.new) }
+        (change_of S.flow source.old source.new) }
 {
-    let bytes = read_all(alloc, source)?;
-    dump_of_bytes(rt, alloc, options, bytes, gate)
+    let script = script_of_source(alloc, source)?;
+    dump_all(rt, alloc, &script, options, gate).map_err(Status::from)
 }
 
-// The verdict on the text that follows the script in a source.
+// Gives a source its bytes back if they were refused.
+fn give_back_if<S: Source>(is_refused: bool, source: &mut S, bytes: Vec<u8>)
+    ensures { S.flow source.new ≡ S.flow source.old }
+{
+    if is_refused {
+        source.give_back(bytes);
+    }
+}
+
+// The line of the verdict on the text that follows the script in a source, which gets its bytes back unless the text is sound.
 fn audit_source<S: Source>(alloc: Global, source: &mut S) -> Result<Vec<u8>, Status>
     ensures text { IfOk result
-        (λ text. Answers audits (change_of S.left S.faults source.old source.new) text.items) }
+        (λ text. Answers audits (change_of S.flow source.old source.new) text.items) }
     ensures refused { IfErr result
-        (RefusesTask audits (change_of S.left S.faults source.old source.new)) }
+        (RefusesTask audits (change_of S.flow source.old source.new)) }
     ensures no_more { HasGiven (MOST_SCRIPT_BYTES + 1)
-        (change_of S.left S.faults source.old source.new) }
+        (change_of S.flow source.old source.new) }
 {
     let bytes = read_all(alloc, source)?;
-    audit_bytes(alloc, &bytes)
+    let verdict = verdict_on(alloc, &bytes);
+    give_back_if(verdict != Ok(Verdict::Sound), source, bytes);
+    Ok(bytes_of(alloc, verdict?)?)
 }
 
 // The text that does what the words ask for.
@@ -166,13 +152,13 @@ fn text_for<R: Threads + Wait + Sync, S: Source, G: Gate + Sync>(
 ) -> Result<Vec<u8>, Status>
     requires { AreWithin options.now }
     ensures text { IfOk result (λ text.
-        Answers (task_of options.now) (change_of S.left S.faults source.old source.new)
+        Answers (task_of options.now) (change_of S.flow source.old source.new)
         text.items) }
     ensures refused { IfErr result
-        (RefusesTask (task_of options.now) (change_of S.left S.faults source.old source.new)) }
+        (RefusesTask (task_of options.now) (change_of S.flow source.old source.new)) }
     ensures unread { IsMaking (task_of options.now) → source.new ≡ source.old }
     ensures no_more { HasGiven (MOST_SCRIPT_BYTES + 1)
-        (change_of S.left S.faults source.old source.new) }
+        (change_of S.flow source.old source.new) }
 {
     match options.command {
         Command::Load(seed) => Ok(load(rt, alloc, seed, options)?),
@@ -192,14 +178,14 @@ fn outcome<R: Threads + Wait + Sync, So: Source, Si: Sink, G: Gate + Sync>(
     gate: &G,
 ) -> Status
     ensures comes { Comes (map string_bytes words.now)
-        (change_of So.left So.faults source.old source.new)
-        (change_of Si.taken Si.faults sink.old sink.new) result }
+        (change_of So.flow source.old source.new)
+        (change_of Si.flow sink.old sink.new) result }
     ensures refused { options_of (map string_bytes words.now) ≡ None →
         IsUnlessNoMemory result Status.Usage }
     ensures unread { result ≡ Status.Usage → source.new ≡ source.old }
     ensures made { AsksFor (map string_bytes words.now) IsMaking → source.new ≡ source.old }
     ensures no_more { HasGiven (MOST_SCRIPT_BYTES + 1)
-        (change_of So.left So.faults source.old source.new) }
+        (change_of So.flow source.old source.new) }
     ensures untouched { IsFalse (may_write result) → sink.new ≡ sink.old }
 {
     let options = match read_words(alloc, words) {
@@ -230,18 +216,18 @@ pub fn serve<R: Threads + Wait + Sync, So: Source, Si: Sink, G: Gate + Sync>(
     // The sink took the whole text of a printed value that is sound for the script in the source, in the mode that the words ask for; or
     // the text of the totals of one that is sound for the script of the seed; or the verdict on the text that follows the script.
     ensures sound { result ≡ Status.Done → AsksFor (map string_bytes words.now) (λ task.
-        WritesAll task (change_of So.left So.faults source.old source.new)
-        (change_of Si.taken Si.faults sink.old sink.new)) }
+        WritesAll task (change_of So.flow source.old source.new)
+        (change_of Si.flow sink.old sink.new)) }
 
     // A replay prints one text: its lines are a function of the script, but for what its reports say was removed and moved.
     ensures exact { result ≡ Status.Done → AsksFor (map string_bytes words.now) (λ task.
-        WritesExactly task (change_of So.left So.faults source.old source.new)
-        (change_of Si.taken Si.faults sink.old sink.new)) }
+        WritesExactly task (change_of So.flow source.old source.new)
+        (change_of Si.flow sink.old sink.new)) }
 
     // Each status has its cause.
     ensures comes { Comes (map string_bytes words.now)
-        (change_of So.left So.faults source.old source.new)
-        (change_of Si.taken Si.faults sink.old sink.new) result }
+        (change_of So.flow source.old source.new)
+        (change_of Si.flow sink.old sink.new) result }
 
     // Words that ask for nothing are refused before anything is read, a script that is made needs no source, and a script is refused
     // before anything is written.
@@ -254,12 +240,12 @@ pub fn serve<R: Threads + Wait + Sync, So: Source, Si: Sink, G: Gate + Sync>(
 
     // However the call ends, at most one byte more than a script may have was read.
     ensures no_more { HasGiven (MOST_SCRIPT_BYTES + 1)
-        (change_of So.left So.faults source.old source.new) }
+        (change_of So.flow source.old source.new) }
 
     // What the source holds decides the answer, where memory is found.
     ensures decided { IsDecided (map string_bytes words.now)
-        (change_of So.left So.faults source.old source.new)
-        (change_of Si.taken Si.faults sink.old sink.new) result }
+        (change_of So.flow source.old source.new)
+        (change_of Si.flow sink.old sink.new) result }
 {
     outcome(rt, alloc, words, source, sink, gate)
 }

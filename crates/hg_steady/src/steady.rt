@@ -1,13 +1,13 @@
 //! `serve` over streams that never fail.
 
-ghost use Rattle.std.specs.Prelude.{◌≡◌, ◌+◌, ◌≤◌, ◌<◌, ℕ, List, length, map, Some, None, string_bytes};
+ghost use Rattle.std.specs.Prelude.{◌≡◌, ◌+◌, ◌≤◌, ◌<◌, ℕ, List, length, map, Some, None, IsFalse, string_bytes};
+ghost use Rattle.hg_memory.specs.Memory.{steady_inflow, steady_outflow};
 ghost use Rattle.hg_script.specs.declared.code.Code.{Code};
 ghost use Rattle.hg_script.specs.Fields.{rows_of};
 ghost use Rattle.hg_script.specs.Meaning.{refusal_of};
 ghost use Rattle.hg_run.specs.Words.{AsksFor, IsMaking, IsReading};
-ghost use Rattle.hg_run.specs.Serving.{Comes, IsScriptIn, IsUnlessNoMemory};
-ghost use Rattle.hg_steady.specs.Steady.{steady_sink, steady_source};
-ghost use Rattle.hg_streams.specs.Streams.{HasGiven};
+ghost use Rattle.hg_run.specs.Serving.{Comes, IsScriptIn, IsUnlessNoMemory, WritesAll, WritesExactly, may_write};
+ghost use Rattle.hg_streams.specs.Streams.{HasGiven, change_of};
 
 use hg_base::{Gate, MOST_SCRIPT_BYTES};
 use hg_memory::{SteadySink, SteadySource};
@@ -18,7 +18,7 @@ use std::sync::Wait;
 use std::thread::Threads;
 
 /// Does what the words ask for, from a source to a sink in memory that never fail. So no status reports a fault, and where memory is
-/// found, the bytes of the source decide which other status is returned. `SteadySink::bytes` has what was written.
+/// found, the bytes of the source decide which other status is returned. `SteadySink::bytes` lends what was written, if there was room for it.
 pub fn serve_steadily<R: Threads + Wait + Sync, G: Gate + Sync>(
     rt: &R,
     alloc: Global,
@@ -30,10 +30,19 @@ pub fn serve_steadily<R: Threads + Wait + Sync, G: Gate + Sync>(
     ensures reads { ¬ (result ≡ Status.ReadFault) }
     ensures writes { ¬ (result ≡ Status.WriteFault) }
 
-    // What `serve` says of each status, and of what was read.
-    ensures comes { Comes (map string_bytes words.now) (steady_source source.old source.new)
-        steady_sink result }
-    ensures no_more { HasGiven (MOST_SCRIPT_BYTES + 1) (steady_source source.old source.new) }
+    // What `serve` says of what was written, of each status, and of what was read.
+    ensures sound { result ≡ Status.Done → AsksFor (map string_bytes words.now) (λ task.
+        WritesAll task (change_of steady_inflow source.old source.new)
+        (change_of steady_outflow sink.old sink.new)) }
+    ensures exact { result ≡ Status.Done → AsksFor (map string_bytes words.now) (λ task.
+        WritesExactly task (change_of steady_inflow source.old source.new)
+        (change_of steady_outflow sink.old sink.new)) }
+    ensures comes { Comes (map string_bytes words.now)
+        (change_of steady_inflow source.old source.new)
+        (change_of steady_outflow sink.old sink.new) result }
+    ensures untouched { IsFalse (may_write result) → sink.new ≡ sink.old }
+    ensures no_more { HasGiven (MOST_SCRIPT_BYTES + 1)
+        (change_of steady_inflow source.old source.new) }
 
     // The bytes of the source decide.
     ensures complete { (script : List ℕ) →

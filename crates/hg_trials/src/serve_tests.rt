@@ -8,7 +8,7 @@ use hg_base::{
 };
 use hg_memory::{MemorySink, MemorySource, SteadySink, SteadySource};
 use hg_report::text_of;
-use hg_run::{NoGate, Status, StdinSource, StdoutSink, serve};
+use hg_run::{NoGate, ReaderSource, Status, StdinSource, StdoutSink, serve};
 use hg_script::{Code, read_script};
 use hg_steady::serve_steadily;
 use std::alloc::{AllocError, Global};
@@ -162,6 +162,28 @@ fn standard_streams_are_read_and_written(rt: HostRuntime) -> Result<(), Fail> {
     let mut sink = StdoutSink::new(rt.stdout());
     assert_eq!(rt; sink.write(b"\n")?, 1);
     Ok(())
+}
+
+// Whether a source gets its bytes back from a call.
+fn are_given_back<R: Threads + Wait + Sync + Abort>(
+    rt: &R,
+    alloc: Global,
+    word: &str,
+    bytes: &[u8],
+) -> bool {
+    let words = one_word(alloc, word).expect(rt, "words");
+    let mut source = ReaderSource::new(bytes);
+    let mut sink = sink_of(alloc, &[]).expect(rt, "a sink");
+    serve(rt, alloc, &words, &mut source, &mut sink, &NoGate);
+    source.kept() == Some(bytes)
+}
+
+// A script that breaks a rule and a text that is not sound are given back, and a script that is run is not.
+#[test]
+fn refused_bytes_are_given_back(rt: HostRuntime) {
+    assert!(rt; are_given_back(&rt, rt.alloc(), "replay", b"1,get,t,5\n"));
+    assert!(rt; are_given_back(&rt, rt.alloc(), "audit", b"table,t,1\n====\n"));
+    assert!(rt; !are_given_back(&rt, rt.alloc(), "replay", OWN_WRITE));
 }
 
 fn add(

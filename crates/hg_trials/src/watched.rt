@@ -1,11 +1,8 @@
 //! A source and a sink that watch how they are called.
 
 ghost use Rattle.std.specs.Prelude.{None};
-ghost use Rattle.std.specs.Io.{ReadsAtMost};
-ghost use Rattle.std.specs.Io.KnownBytes.{ReadConsumes, WriteAppends};
-ghost use Rattle.hg_base.specs.Faults.{HasCause, TakesSome};
 
-use hg_base::{Failed, Sink, Source};
+use hg_base::{Failed, Piece, Sink, Source, ToldBytes};
 
 // One byte more than a script may have.
 const MOST: usize = 16_777_217;
@@ -18,7 +15,8 @@ const LEAST: usize = 4_096;
 #[derive(Drop)]
 pub(crate) struct WatchedSource {
     left: usize,
-    given: usize,
+    count: usize,
+    given: ToldBytes,
     is_over: bool,
     pub(crate) is_well_asked: bool,
 }
@@ -27,7 +25,8 @@ impl WatchedSource {
     pub(crate) fn new(count: usize) -> WatchedSource {
         WatchedSource {
             left: count,
-            given: 0,
+            count: 0,
+            given: ToldBytes::new(),
             is_over: false,
             is_well_asked: true,
         }
@@ -35,16 +34,10 @@ impl WatchedSource {
 }
 
 impl Source for WatchedSource {
-    ghost left = { λ s. None };
+    ghost flow = { λ s. record { given = s.given.bytes; is_over = s.is_over; left = None; faults = 0 } };
 
-    ghost faults = { λ s. 0 };
-
-    fn read(&mut self, into: &mut [u8]) -> Result<usize, Failed>
-        ensures bound { ReadsAtMost result into.new }
-        ensures bytes { ReadConsumes None None result into.new }
-        ensures cause { HasCause 0 0 result }
-    {
-        let missing = MOST.saturating_sub(self.given);
+    fn read(&mut self, into: &mut [u8]) -> Result<usize, Failed> {
+        let missing = MOST.saturating_sub(self.count);
         let is_long = into.len() >= LEAST || into.len() == missing;
         if self.is_over || into.len() > missing || !is_long {
             self.is_well_asked = false;
@@ -52,8 +45,11 @@ impl Source for WatchedSource {
         let count = self.left.min(into.len());
         into[..count].fill(b'1');
         self.left -= count;
-        self.given = self.given.saturating_add(count);
-        self.is_over = count == 0;
+        self.count = self.count.saturating_add(count);
+        self.given = self.given.then(&Piece {
+            bytes: &into[..count],
+        });
+        self.is_over = count == 0 && !into.is_empty();
         Ok(count)
     }
 }
@@ -62,6 +58,7 @@ impl Source for WatchedSource {
 #[derive(Drop)]
 pub(crate) struct WatchedSink {
     rest: Option<usize>,
+    taken: ToldBytes,
     pub(crate) is_well_given: bool,
 }
 
@@ -69,6 +66,7 @@ impl WatchedSink {
     pub(crate) fn new() -> WatchedSink {
         WatchedSink {
             rest: None,
+            taken: ToldBytes::new(),
             is_well_given: true,
         }
     }
@@ -80,20 +78,17 @@ impl WatchedSink {
 }
 
 impl Sink for WatchedSink {
-    ghost taken = { λ s. None };
+    ghost flow = { λ s. record { taken = s.taken.bytes; faults = 0 } };
 
-    ghost faults = { λ s. 0 };
-
-    fn write(&mut self, piece: &[u8]) -> Result<usize, Failed>
-        ensures bound { TakesSome result piece.now }
-        ensures bytes { WriteAppends None None result piece.now }
-        ensures cause { HasCause 0 0 result }
-    {
+    fn write(&mut self, piece: &[u8]) -> Result<usize, Failed> {
         if self.rest.unwrap_or(piece.len()) != piece.len() {
             self.is_well_given = false;
         }
         let count = piece.len().min(3);
         self.rest = Some(piece.len() - count);
+        self.taken = self.taken.then(&Piece {
+            bytes: &piece[..count],
+        });
         Ok(count)
     }
 }

@@ -1,9 +1,8 @@
 use Rattle.std.proofs.Common.{refl, subst, arith}
 use Rattle.hg_base.specs.Faults.{Rose}
-use Rattle.hg_memory.specs.Memory.{SteadyFeed}
+use Rattle.hg_memory.specs.Memory.{SteadyFeed, steady_inflow}
 use Rattle.hg_run.specs.Serving.{Comes}
-use Rattle.hg_streams.specs.Streams.{Gives}
-use Rattle.hg_steady.specs.Steady.{steady_source}
+use Rattle.hg_streams.specs.Streams.{Gives, change_of}
 use Rattle.hg_steady.proofs.steady.serve_steadily.Goals as goal
 
 -- a count that is always 0 never rose
@@ -11,7 +10,7 @@ never : ¬ (Rose 0 0)
 never h = omega (arith, h)
 
 -- the source tells its bytes
-gives : (old new : SteadyFeed) → Gives (steady_source old new) old.left
+gives : (old new : SteadyFeed) → Gives (change_of steady_inflow old new) old.left
 gives old new = record { told = refl; steady = never }
 
 pub returns-clause-reads : goal.returns-clause-reads
