@@ -2,6 +2,7 @@
 use Rattle.std.proofs.Common.{◌≡◌, ℕ, suc, ◌+◌, List, [], ◌∷◌, ◌++◌, length, refl, sym, ap, ◌∙◌, subst, arith, append_assoc}
 use Rattle.std.specs.Prelude.{is_some, Result, Ok, Err, IfOk}
 use Rattle.std.specs.declared.alloc.Global.{Global}
+use Rattle.hg_dump.proofs.Backup.{backup}
 use Rattle.hg_dump.proofs.Exported.{logged_goes, reads_more}
 use Rattle.hg_dump.proofs.Newest.{newest}
 use Rattle.hg_dump.specs.Reader.{HasReadAll, without_looks}
@@ -17,11 +18,13 @@ use Rattle.hg_core.specs.declared.log.LogEntry.TheVariants.{Began, Over}
 use Rattle.hg_core.specs.Logs.{begans, current, open_in, UpTo}
 use Rattle.hg_cursor.specs.Logs.{GoesOn}
 use Rattle.hg_dump.specs.Exports.{HasReadAt, MayExport}
+use Rattle.hg_exact.proofs.PutRows.{shown_was_put}
 use Rattle.hg_rule.specs.declared.passes.SessionPass.{SessionPass}
 use Rattle.hg_rule.specs.declared.view.View.{View}
 use Rattle.hg_rule.specs.Facts.{EndsWith}
 use Rattle.hg_rule.specs.Seats.{session_view, IsSessionOf}
 use Rattle.hg_rule.specs.Views.{session}
+use Rattle.hg_script.specs.Lawful.{IsLawful}
 use Rattle.hg_session.specs.declared.engine.Engine.{Engine}
 use Rattle.hg_session.specs.declared.session.Session.{Session}
 use Rattle.hg_session.specs.Engines.{engine_board_id, engine_sizes}
@@ -29,12 +32,13 @@ use Rattle.hg_session.specs.Finished.{logs_of, IsClosed}
 use Rattle.hg_session.specs.Opened.{seated, IsNewOf}
 use Rattle.hg_session.specs.Sessions.{pass_of}
 use Rattle.hg_session.specs.Ties.{phase_at}
+use Rattle.hg_dump.specs.Backup.{IsBackup}
 use Rattle.hg_dump.specs.Records.{dump_text}
 use Rattle.hg_dump.specs.Rows.{rows_at}
 use Rattle.hg_store.proofs.Filling.{each_from_at}
 use Rattle.hg_collectors.specs.declared.collectors.Collectors.{Collectors}
 use Rattle.hg_run.specs.declared.dump_text.Dumps.{Dumps}
-use Rattle.hg_run.specs.Dumping.{HasReadBoth, IsDumpedFor, part_text, printed_history}
+use Rattle.hg_run.specs.Dumping.{HasReadBoth, IsDumpedFor, dump_at, part_text, printed_history}
 use Rattle.hg_run.specs.Reader.{HasDumped, IsOpenedBeside, IsReadAndClosed, list_with}
 use Rattle.hg_run.proofs.Readers.{began_within, log_in, looks_begans}
 use Rattle.hg_run.proofs.Opened.{log_last}
@@ -129,13 +133,18 @@ module _ (alloc : Global) (e : Engine) (script : Script) (list : List Session) (
 
 -- ---- the text
 
-pub on_text : (mode : Mode) (script : Script) (lines : List Line) (totals : Totals) (dumps : Dumps) {T : Type 0} (r : Result T NoMemory) (items : T → List ℕ) →
+-- each row of the printed history was put, so its dump at any snapshot is a backup
+backed_up : (mode : Mode) (script : Script) (lines : List Line) → IsLawful script → (at : ℕ) →
+    IsBackup script (printed_history mode script lines) at (dump_at script (printed_history mode script lines) at)
+backed_up mode script lines lawful at = backup script (printed_history mode script lines) at lawful (λ r row shown. shown_was_put mode script lines r at row shown)
+
+pub on_text : (mode : Mode) (script : Script) (lines : List Line) (totals : Totals) (dumps : Dumps) {T : Type 0} (r : Result T NoMemory) (items : T → List ℕ) → IsLawful script →
     HasReadBoth mode script lines totals dumps
     → IsFit script (record { lines = lines; totals = totals })
     → IfOk r (λ text. items text ≡ text_of record_bytes script (record { lines = lines; totals = totals }) ++ (part_text dumps.at dumps.first.items ++ part_text dumps.end dumps.last.items))
     → IfOk r (λ text. IsDumpedFor mode script (items text))
-on_text mode script lines totals dumps (Err x) items read fit told = tt
-on_text mode script lines totals dumps (Ok text) items read fit told = record {
+on_text mode script lines totals dumps (Err x) items lawful read fit told = tt
+on_text mode script lines totals dumps (Ok text) items lawful read fit told = record {
   printed = record { lines = lines; totals = totals };
   at = dumps.at;
   sound = read.sound;
@@ -144,4 +153,6 @@ on_text mode script lines totals dumps (Ok text) items read fit told = record {
   same = told ∙ (λ i. text_of record_bytes script (record { lines = lines; totals = totals })
       ++ (part_text dumps.at (read.first i) ++ (ap (part_text dumps.end) read.last ∙
       ap (λ n. part_text n (dump_text script (rows_at script.tables (printed_history mode script lines) n))) read.end_is) i));
+  first = backed_up mode script lines lawful dumps.at;
+  last = backed_up mode script lines lawful (length (printed_history mode script lines));
 }

@@ -1,6 +1,7 @@
 -- What a dump prints.
 use Rattle.std.specs.Prelude.{◌≡◌, ℕ, ◌≤◌, List, [], ◌∷◌, ◌++◌, length, codes, decimal}
 use Rattle.std.specs.declared.alloc.Global.{Global}
+use Rattle.hg_dump.specs.Backup.{IsBackup}
 use Rattle.hg_dump.specs.Reader.{IsSoundWith}
 use Rattle.hg_base.specs.declared.line.Line.{Line}
 use Rattle.hg_base.specs.declared.line.Printed.{Printed}
@@ -32,12 +33,17 @@ printed_history mode script lines = history_of (all_said mode script lines)
 abbrev pub part_text : ℕ → List ℕ → List ℕ
 part_text at dump = codes "snapshot," ++ decimal at ++ codes "\n" ++ dump
 
--- that of a history at a snapshot
+-- the dump of a history at a snapshot
+abbrev pub dump_at : Script → History → ℕ → List ℕ
+dump_at script h at = dump_text script (rows_at script.tables h at)
+
+-- the same under the number of the snapshot
 abbrev pub dump_part : Script → History → ℕ → List ℕ
-dump_part script h at = part_text at (dump_text script (rows_at script.tables h at))
+dump_part script h at = part_text at (dump_at script h at)
 
 -- A text that a dump may print in this mode: that of a printed value which is sound for the script concurrently with a reader of all tables
--- at a snapshot, and fits it. Then the dump of its history at that snapshot follows, and the dump of its history at its end.
+-- at a snapshot, and fits it. Then the dump of its history at that snapshot follows, and the dump of its history at its end. Both are
+-- backups.
 pub record IsDumpedFor (mode : Mode) (script : Script) (text : List ℕ) : Type 0 where
   pub printed : Printed
   pub at : ℕ
@@ -47,6 +53,9 @@ pub record IsDumpedFor (mode : Mode) (script : Script) (text : List ℕ) : Type 
   pub same : text ≡ text_of record_bytes script printed
       ++ (dump_part script (printed_history mode script printed.lines) at
       ++ dump_part script (printed_history mode script printed.lines) (length (printed_history mode script printed.lines)))
+  pub first : IsBackup script (printed_history mode script printed.lines) at (dump_at script (printed_history mode script printed.lines) at)
+  pub last : IsBackup script (printed_history mode script printed.lines) (length (printed_history mode script printed.lines))
+      (dump_at script (printed_history mode script printed.lines) (length (printed_history mode script printed.lines)))
 
 -- A run next to a reader printed these lines of the sessions and the collectors that an engine had before. The reader appended a dump while
 -- they ran, and one more after they had ended, and the totals are those of what they and the reader left.

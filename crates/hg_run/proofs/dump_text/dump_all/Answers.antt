@@ -12,6 +12,6 @@ returns g c =
     let dumps = c.run_and_read.new.dumps in
     let read = c.in_ok-ended.ensures.read in
     let most = c.requires.within.most_rounds in
-    on_text (run c.args.options.now.rounds) script lines totals dumps c.text_with.result (λ text. text.items) read
+    on_text (run c.args.options.now.rounds) script lines totals dumps c.text_with.result (λ text. text.items) c.requires.lawful read
     (fits_with_reader c.args.options.now.rounds script (dumps.at ∷ []) (record { lines = lines; totals = totals }) (omega (arith, most)) c.requires.lawful read.sound)
     (c.text_with.ensures script (sym c.in_ok-ended.ensures.tables))
