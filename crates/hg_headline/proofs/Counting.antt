@@ -91,7 +91,7 @@ publishes_is x (Undid r ∷ l) = publishes_is x l
 publishes_is x (Over ∷ l) = publishes_is x l
 
 -- a line's transaction has a number just where its session's log has one for it
-committed_is : (logs : ℕ → List LogEntry) (all : List Said) → ((j : ℕ) → Ties j (onto all []) (logs j)) → (now : Said) → is_committed all now ≡ publishes now.transaction (logs now.session)
+pub committed_is : (logs : ℕ → List LogEntry) (all : List Said) → ((j : ℕ) → Ties j (onto all []) (logs j)) → (now : Said) → is_committed all now ≡ publishes now.transaction (logs now.session)
 committed_is logs all ties now =
     any_committed (filter (is_of now.session now.transaction) all)
     ∙ any_back (printed_numbers now.session now.transaction all)
@@ -112,12 +112,38 @@ closed_publishes : (x : ℕ) (l m : List LogEntry) → Closes l m → publishes 
 closed_publishes x l m (inl k) = ap (publishes x) k.1
 closed_publishes x l m (inr k) = ap (publishes x) k.1.2 ∙ publishes_undone x k.1.0 l
 
-all_pass : {X : Type 0} (xs : List X) → filter (λ x. true) xs ≡ xs
+pub all_pass : {X : Type 0} (xs : List X) → filter (λ x. true) xs ≡ xs
 all_pass [] = refl
 all_pass (x ∷ xs) = ap (λ ys. x ∷ ys) (all_pass xs)
 
 add_nothing : (m n z : ℕ) → z ≡ 0 → m + z ≡ n → m ≡ n
 add_nothing m n z e f = omega (arith, e, f)
+
+-- ---- what lines say of their sessions' logs
+
+-- the first writes that a test of session and transaction passes are as many as in the logs
+pub record CountFirsts (sessions : ℕ) (logs : ℕ → List LogEntry) (all : List Said) : Type 0 where
+  pub counted : (test : ℕ → ℕ → Bool) → length (filter (passes test) (printed_firsts all)) ≡ sum_to sessions (λ j. first_by (test j) (logs j))
+  pub tidy : (j : ℕ) → IsTidyBetween (logs j)
+  pub ties : (j : ℕ) → Ties j (onto all []) (logs j)
+
+pub firsts_counted : (mode : Mode) (buckets sessions : ℕ) (h : History) (logs : ℕ → List LogEntry) (P : (ℕ → List LogEntry) → Record → Line → Type 0) (records : List Record)
+    (lines : List Line) → ((ls : ℕ → List LogEntry) (r : Record) (line : Line) → P ls r line → AsCollected mode r.session r.statement line.reply.answer) →
+    Each (CountsFor sessions) records →
+    Logged buckets h logs → Follows buckets P (λ j. []) (λ j. None) records lines logs → CountFirsts sessions logs (said_from [] records lines)
+firsts_counted mode buckets sessions h logs P records lines gc within logged follows =
+    let all : List Said = said_from [] records lines in
+    let k : History = history_of all in
+    let places = places_of buckets logged.some in
+    record {
+      counted = λ test. add_nothing (length (filter (passes test) (printed_firsts all))) (sum_to sessions (λ j. first_by (test j) (logs j)))
+          (sum_to sessions (λ j. 0)) (sum_none sessions)
+          (lines_counted mode buckets sessions h k logs all test P places gc records lines (λ j. []) logs [] (λ j. ties_nothing j) (λ j. None)
+          (λ j. left_nothing j) within follows logged.judged logged.replied);
+      tidy = follows_tidy buckets h logs P records lines (λ j. []) logs (λ j. None) follows logged.judged logged.replied (λ j. (tt, refl));
+      ties = (lines_told mode buckets h k logs all P (λ j l. ⊤) (λ j e l q. tt) places gc records lines (λ j. []) logs [] (λ j. ties_nothing j) (λ j. None)
+          (λ j. left_nothing j) follows logged.judged logged.replied (λ j. tt)).1;
+    }
 
 -- ---- the totals
 
@@ -128,34 +154,26 @@ pub counts_are : (mode : Mode) (buckets sessions : ℕ) (h : History) (logs clos
     IsCounted sessions h closed (said_from [] records lines) totals → AreTotals (said_from [] records lines) (history_of (said_from [] records lines)) totals
 counts_are mode buckets sessions h logs closed P records lines totals gc within logged follows c t =
     let all : List Said = said_from [] records lines in
-    let k : History = history_of all in
-    let places = places_of buckets logged.some in
-    let told = lines_told mode buckets h k logs all P (λ j l. ⊤) (λ j e l q. tt) places gc records lines (λ j. []) logs [] (λ j. ties_nothing j) (λ j. None)
-    (λ j. left_nothing j) follows logged.judged logged.replied (λ j. tt) in
-    let m : Matches h (commits all) = matches_all buckets h logs all logged told.1 in
-    let tidy : (j : ℕ) → IsTidyBetween (logs j) = follows_tidy buckets h logs P records lines (λ j. []) logs (λ j. None) follows logged.judged logged.replied (λ j. (tt, refl)) in
-    let counted = λ (test : ℕ → ℕ → Bool). add_nothing (length (filter (passes test) (printed_firsts all))) (sum_to sessions (λ j. first_by (test j) (logs j)))
-    (sum_to sessions (λ j. 0)) (sum_none sessions)
-    (lines_counted mode buckets sessions h k logs all test P places gc records lines (λ j. []) logs [] (λ j. ties_nothing j) (λ j. None)
-    (λ j. left_nothing j) within follows logged.judged logged.replied) in
+    let f = firsts_counted mode buckets sessions h logs P records lines gc within logged follows in
+    let m : Matches h (commits all) = matches_all buckets h logs all logged f.ties in
     record {
       made =
           t.made
           ∙ sum_same sessions (λ j. first_by (λ x. true) (logs j)) (λ j. first_writes every (closed j)) (λ j le. first_writes_is (closed j) ∙ closed_firsts (λ x. true) (logs j) (closed j) (c j))
-          ∙ sym (counted (λ j x. true)) ∙ ap length (all_pass (printed_firsts all));
+          ∙ sym (f.counted (λ j x. true)) ∙ ap length (all_pass (printed_firsts all));
       undone =
           t.undone
           ∙ sum_same sessions (λ j. first_by (λ x. not (publishes x (logs j))) (logs j)) (λ j. undos every (closed j)) (λ j le.
-          let end = closed_tidy (logs j) (closed j) (c j) (tidy j) in
+          let end = closed_tidy (logs j) (closed j) (c j) (f.tidy j) in
           undone_in_log (closed j) end.0 end.1
           ∙ ap (λ (q : ℕ → Bool). first_by (λ x. not (q x)) (closed j)) (λ i x. closed_publishes x (logs j) (closed j) (c j) i)
           ∙ closed_firsts (λ x. not (publishes x (logs j))) (logs j) (closed j) (c j))
-          ∙ sym (counted (λ j x. not (publishes x (logs j))))
-          ∙ ap (λ (p : Said → Bool). length (filter (λ said. not (p said)) (printed_firsts all))) (λ i said. sym (committed_is logs all told.1 said) i);
+          ∙ sym (f.counted (λ j x. not (publishes x (logs j))))
+          ∙ ap (λ (p : Said → Bool). length (filter (λ said. not (p said)) (printed_firsts all))) (λ i said. sym (committed_is logs all f.ties said) i);
       group = t.group;
       table = t.table;
       interval = t.interval;
-      left = t.left ∙ lives_same h k (same_printed h all logged.history m) logged.history;
+      left = t.left ∙ lives_same h (history_of all) (same_printed h all logged.history m) logged.history;
       balance = t.balance;
     }
 

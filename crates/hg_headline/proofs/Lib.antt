@@ -43,6 +43,9 @@ pub mod Tallying
 pub mod OverBuckets
 pub mod Totalling
 pub mod Removed
+pub mod Among
+pub mod Wrote
+pub mod Few
 -- A replay whose history is known at its end alone.
 pub mod Prints
 pub mod Following

@@ -51,7 +51,7 @@ opens (Wrote q image ∷ l) = add_open (is_some (open_in q l)) q (opens l)
 opens (Undid q ∷ l) = take_out q (opens l)
 opens (_ ∷ l) = opens l
 
-take_out_has : (r q : Rid) (os : List Rid) → is_among r (take_out q os) ≡ (if same_rid r q then false else is_among r os)
+pub take_out_has : (r q : Rid) (os : List Rid) → is_among r (take_out q os) ≡ (if same_rid r q then false else is_among r os)
 take_out_has r q [] = go (same_rid r q)
   where
     go : (b : Bool) → false ≡ (if b then false else false)
@@ -95,7 +95,7 @@ take_out_one q (o ∷ os) h e = go (same_rid q o) refl e (take_out_one q os h.1)
     go true t e ih = let same : length (take_out q os) ≡ length os = take_out_none q os (ap (λ x. is_among x os) (same_rid_equal q o t) ∙ h.0) in omega (arith, same)
     go false t e ih = let one = ih e in omega (arith, one)
 
-opens_has : (r : Rid) (l : List LogEntry) → is_among r (opens l) ≡ is_some (open_in r l)
+pub opens_has : (r : Rid) (l : List LogEntry) → is_among r (opens l) ≡ is_some (open_in r l)
 opens_has r [] = refl
 opens_has r (Began at scope ∷ l) = refl
 opens_has r (Over ∷ l) = refl
@@ -117,7 +117,7 @@ opens_has r (Saw t low high b rows ∷ l) = opens_has r l
 opens_has r (Refused q a ∷ l) = opens_has r l
 opens_has r (Outside t ∷ l) = opens_has r l
 
-opens_once : (l : List LogEntry) → NoneTwice (opens l)
+pub opens_once : (l : List LogEntry) → NoneTwice (opens l)
 opens_once [] = tt
 opens_once (Began at scope ∷ l) = tt
 opens_once (Over ∷ l) = tt
@@ -272,9 +272,12 @@ lost_by q flag (Saw t low high b rows ∷ l) k c old now = lost_by q flag l k.1 
 lost_by q flag (Refused r a ∷ l) k c old now = lost_by q flag l k.1 c old now
 lost_by q flag (Outside t ∷ l) k c old now = lost_by q flag l k.1 c old now
 
+-- the first writes of transactions that are not published are undone, or open
+pub unpublished_firsts : (l : List LogEntry) → IsTidy l → first_by (λ x. not (publishes x l)) l ≡ undos every l + length (opens l)
+unpublished_firsts l k = lost_by (λ x. not (publishes x l)) false l k (λ e. absurd (true_false (sym e))) (λ x lt. refl) (ap not (last_published l)) ∙ (lost_undone l k).0
+
 pub undone_in_log : (l : List LogEntry) → IsTidy l → current l ≡ None → undos every l ≡ first_by (λ x. not (publishes x l)) l
 undone_in_log l k e =
-    let a = (lost_undone l k).0 in
+    let a = unpublished_firsts l k in
     let none : length (opens l) ≡ 0 = ap length (idle_opens l k e) in
-    let b = lost_by (λ x. not (publishes x l)) false l k (λ e. absurd (true_false (sym e))) (λ x lt. refl) (ap not (last_published l)) in
-    omega (arith, a, none, b)
+    omega (arith, a, none)

@@ -11,6 +11,8 @@ pub mod Ran
 -- The totals of both.
 pub mod Counted
 pub mod Boards
+-- What an interval round leaves of a replay.
+pub mod Few
 -- A replay whose history is known at its end alone.
 pub mod Following
 pub mod Totalled

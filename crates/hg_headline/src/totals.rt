@@ -1,6 +1,6 @@
 //! Laws of what the counters of the buckets show, each the contract of a function with no body.
 
-ghost use Rattle.std.specs.Prelude.{◌≡◌, ℕ, suc, ◌<◌, List, length, None};
+ghost use Rattle.std.specs.Prelude.{◌≡◌, ℕ, suc, ◌<◌, ◌≤◌, List, [], length, None};
 ghost use Rattle.hg_base.specs.declared.line.Totals.{Totals};
 ghost use Rattle.hg_base.specs.Lists.{Each};
 ghost use Rattle.hg_base.specs.History.{History};
@@ -8,6 +8,19 @@ ghost use Rattle.hg_core.specs.declared.log.LogEntry.{LogEntry};
 ghost use Rattle.hg_core.specs.declared.visit.Visit.{Visit};
 ghost use Rattle.hg_core.specs.Logs.{current, newest_of};
 ghost use Rattle.hg_core.specs.Steps.{Always};
+ghost use Rattle.hg_base.specs.declared.line.Line.{Line};
+ghost use Rattle.hg_base.specs.declared.report.Kind.{Kind};
+ghost use Rattle.hg_base.specs.declared.rid.Rid.{Rid};
+ghost use Rattle.hg_base.specs.declared.statement.Record.{Record};
+ghost use Rattle.hg_base.specs.Shape.{HasShape};
+ghost use Rattle.hg_base.specs.Transcript.{said_from};
+ghost use Rattle.hg_core.specs.Counters.{removed_all};
+ghost use Rattle.hg_core.specs.Few.{IsCleanFor};
+ghost use Rattle.hg_core.specs.Reading.{Follows};
+ghost use Rattle.hg_core.specs.Sums.{sum_below};
+ghost use Rattle.hg_headline.specs.Few.{HoldsFew};
+ghost use Rattle.hg_headline.specs.Following.{told_removed};
+ghost use Rattle.hg_headline.specs.Met.{IsMet};
 ghost use Rattle.hg_headline.specs.Totalled.{AreCounts, BucketTells, SumTells, TotalsTell, plus};
 
 /// Where no transaction is open, the counters of one bucket tell of logs, visits and history alone. So do the sums of those of
@@ -28,4 +41,18 @@ pub fn buckets_tell()
         SumTells sessions buckets passes logs visits h buckets sums →
         TotalsTell sessions buckets passes logs visits h sums }
     ensures mark { Always (λ s. length s.history ≡ newest_of s.sessions s.log) }
+{}
+
+/// An interval round leaves few versions. Where the lines follow the logs of a state in which each record is clean at the mark, for at
+/// most n snapshots, and their reports tell all that the collectors removed, then of the versions that these lines committed, and that
+/// were not removed, there are at most n + 1 for each record that they wrote.
+pub fn few_are_held()
+    ensures { Always (λ s.
+        (n : ℕ) (records : List Record) (lines : List Line) → 0 < s.buckets →
+        ((r : Rid) → IsCleanFor s n r) →
+        Each (λ r. (1 ≤ r.session) × (r.session ≤ s.sessions)) records → HasShape records lines →
+        Follows s.buckets (IsMet s.sessions) (λ j. []) (λ j. None) records lines s.log →
+        ((kind : Kind) →
+        sum_below s.passes (λ p. removed_all kind (s.visits p)) ≡ told_removed kind lines) →
+        HoldsFew n (said_from [] records lines)) }
 {}
