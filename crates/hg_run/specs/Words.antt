@@ -9,6 +9,10 @@ use Rattle.hg_words.specs.Options.{options_of}
 abbrev pub mode_of : Options → Mode
 mode_of options = elim options.command [ Run ↦ run options.rounds | Dump ↦ run options.rounds | _ ↦ replay ]
 
+-- how many share an interval round: only a `run` has more than one
+abbrev pub sweepers_in : Options → ℕ
+sweepers_in options = elim options.command [ Run ↦ options.sweepers | _ ↦ 1 ]
+
 -- The text of the script in the source; the totals alone of the script that is made from a seed; the verdict on the text that
 -- follows the script in the source; or the text of the script in the source with dumps of its tables.
 pub data Task : Type 0 where

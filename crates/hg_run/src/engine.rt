@@ -4,9 +4,11 @@ ghost use Rattle.std.specs.Prelude.{◌≡◌, ◌+◌, ◌*◌, ◌^◌, ◌<�
 ghost use Rattle.hg_script.specs.Lawful.{IsLawful};
 ghost use Rattle.hg_session.specs.Engines.{engine_sizes};
 ghost use Rattle.hg_words.specs.Options.{AreWithin};
+ghost use Rattle.hg_collectors.specs.Workers.{HasHelpers};
 ghost use Rattle.hg_run.specs.ForAll.{IsOpenedForAll, IsOpenedOf};
 ghost use Rattle.hg_run.specs.Driven.{IsOpenedFor, IsOpenedWith, sessions_in};
 ghost use Rattle.hg_run.specs.Reader.{IsOpenedBeside};
+ghost use Rattle.hg_run.specs.Words.{sweepers_in};
 
 use crate::crew::Crew;
 use hg_base::{MOST_SESSIONS, MOST_TABLES, NoMemory};
@@ -35,10 +37,11 @@ fn declared(alloc: Global, script: &Script) -> Result<Vec<TableDecl>, NoMemory>
     Ok(tables)
 }
 
-// How many threads share an interval round: only a `run` has more than one.
+// How many threads share an interval round.
 fn sweepers_of(options: &Options) -> u32
     requires within { AreWithin options.now }
-    ensures { result ≤ 16 }
+    ensures asked { result ≡ sweepers_in options.now }
+    ensures few { result ≤ 16 }
 {
     match options.command {
         Command::Run => options.sweepers,
@@ -58,11 +61,12 @@ fn open(
     requires buckets { 0 < buckets }
     requires room { room.sessions * quota ≤ 2 ^ 40 }
     requires sweepers { room.sweepers ≤ 16 }
-    ensures { IfOk result (λ o.
+    ensures opened { IfOk result (λ o.
         IsOpenedOf
         (record
         { sessions = room.sessions; tables = room.tables; buckets = buckets; quota = quota }) o.0
         o.1.sessions.items o.1.collectors) }
+    ensures helpers { IfOk result (λ o. HasHelpers room.sweepers o.1.collectors.interval) }
 {
     let (engine, list, passes) = Engine::open(alloc, room.sessions, tables, buckets, quota)?;
     let Passes {
@@ -95,6 +99,8 @@ fn open_with(
     ensures opened { IfOk result (λ o.
         IsOpenedWith (more + sessions_in script.now) script.now options.now.buckets o.0
         o.1.sessions.items o.1.collectors) }
+    ensures helpers { IfOk result (λ o.
+        HasHelpers (sweepers_in options.now) o.1.collectors.interval) }
     ensures reads { IfOk result (λ o. 2 * more ≤ (engine_sizes o.0).quota) }
 {
     let tables = declared(alloc, script)?;
@@ -132,8 +138,10 @@ pub fn open_for(
 ) -> Result<(Engine, Crew), NoMemory>
     requires lawful { IsLawful script.now }
     requires within { AreWithin options.now }
-    ensures { IfOk result (λ o.
+    ensures opened { IfOk result (λ o.
         IsOpenedFor script.now options.now.buckets o.0 o.1.sessions.items o.1.collectors) }
+    ensures helpers { IfOk result (λ o.
+        HasHelpers (sweepers_in options.now) o.1.collectors.interval) }
 {
     open_with(alloc, script, options, 0)
 }
@@ -146,9 +154,11 @@ pub fn open_beside(
 ) -> Result<(Engine, Crew, SessionPass), NoMemory>
     requires lawful { IsLawful script.now }
     requires within { AreWithin options.now }
-    ensures { IfOk result (λ o.
+    ensures opened { IfOk result (λ o.
         IsOpenedBeside script.now options.now.buckets o.0 o.1.sessions.items o.1.collectors
         o.2) }
+    ensures helpers { IfOk result (λ o.
+        HasHelpers (sweepers_in options.now) o.1.collectors.interval) }
 {
     let (engine, crew) = open_with(alloc, script, options, 1)?;
     let mut crew = crew;

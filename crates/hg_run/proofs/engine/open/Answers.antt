@@ -9,8 +9,8 @@ use Rattle.hg_run.proofs.Alone.{lone}
 use Rattle.hg_run.proofs.Closes.{new_removed}
 use Rattle.hg_run.proofs.engine.open.Goals as goal
 
-pub returns : goal.returns
-returns c =
+pub returns-clause-opened : goal.returns-clause-opened
+returns-clause-opened c =
     let e = c.in_ok-engine.engine in
     let sizes = c.in_ok-engine.ensures.sizes in
     let size : (engine_sizes e).sessions ≡ c.args.room.sessions = ap (λ (z : Sizes). z.sessions) sizes in

@@ -17,8 +17,8 @@ into_pass-requires c =
     each_from_at (IsNewOf e (engine_sizes e).quota) 1 c.pop.new.self.items [] c.in-Some.last (subst (EachFrom (IsNewOf e (engine_sizes e).quota) 1) last c.in_ok-engine.ensures.opened.new) in
     record { closed = ap current new.log }
 
-pub returns : goal.returns
-returns c =
+pub returns-clause-opened : goal.returns-clause-opened
+returns-clause-opened c =
     let e = c.in_ok-engine.engine in
     let last : c.in_ok-engine.crew.sessions.items ≡ c.pop.new.self.items ++ c.in-Some.last ∷ [] = search rules in
     let new : IsNewOf e (engine_sizes e).quota (1 + length c.pop.new.self.items) c.in-Some.last =

@@ -22,4 +22,4 @@ returns c =
         some = omega (arith, some, buckets);
       };
       opened = subst (λ z. IsOpenedOf z o.0 o.1.sessions.items o.1.collectors) (sym is.sizes) is;
-    }) c.open.ensures
+    }) c.open.ensures.opened

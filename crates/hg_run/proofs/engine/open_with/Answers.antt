@@ -1,9 +1,10 @@
-use Rattle.std.proofs.Common.{◌≡◌, ◌+◌, ◌*◌, ◌≤◌, List, length, sym, ap, ◌∙◌, arith, rules}
-use Rattle.std.specs.Prelude.{◌==◌}
+use Rattle.std.proofs.Common.{◌≡◌, ◌+◌, ◌*◌, ◌≤◌, List, length, sym, ap, ◌∙◌, subst, arith, rules}
+use Rattle.std.specs.Prelude.{◌==◌, IfOk}
 use Rattle.std.proofs.lemmas.Nat.{mul-le}
 use Rattle.hg_base.specs.declared.statement.Record.{Record}
 use Rattle.hg_rule.specs.declared.view.Sizes.{Sizes}
 use Rattle.hg_session.specs.Engines.{engine_sizes}
+use Rattle.hg_collectors.specs.Workers.{HasHelpers}
 use Rattle.hg_collectors.proofs.Among.{if_ok}
 use Rattle.hg_exact.proofs.Sessions.{sessions_within}
 use Rattle.hg_run.specs.Driven.{sessions_in}
@@ -43,10 +44,13 @@ returns-clause-opened c =
       new = is.new;
       collectors_are = is.collectors_are;
       none = is.none;
-    }) c.open.ensures
+    }) c.open.ensures.opened
+
+pub returns-clause-helpers : goal.returns-clause-helpers
+returns-clause-helpers c = subst (λ n. IfOk c.open.result (λ o. HasHelpers n o.1.collectors.interval)) c.sweepers_of.ensures.asked c.open.ensures.helpers
 
 pub returns-clause-reads : goal.returns-clause-reads
 returns-clause-reads c =
     let most : 2 * c.args.more ≤ c.max-quota.result = omega (arith, c.max-quota.ensures, c.record_count.ensures.same) in
     if_ok (λ o. IsOpenedOf (record { sessions = c.sessions.result + c.args.more; tables = c.len.result; buckets = c.args.options.now.buckets; quota = c.max-quota.result }) o.0 o.1.sessions.items o.1.collectors)
-    _ c.open.result (λ o is. let quota : (engine_sizes o.0).quota ≡ c.max-quota.result = ap (λ (z : Sizes). z.quota) is.sizes in omega (arith, quota, most)) c.open.ensures
+    _ c.open.result (λ o is. let quota : (engine_sizes o.0).quota ≡ c.max-quota.result = ap (λ (z : Sizes). z.quota) is.sizes in omega (arith, quota, most)) c.open.ensures.opened

@@ -9,13 +9,13 @@ pub returns-clause-sound : goal.returns-clause-sound
 returns-clause-sound g c =
     let o = c.args.options.now in
     IfOk-weaker c.replay_crew-ended.result _ _ (λ e h. replay_sound o.buckets o.long c.args.script.now c.requires.lawful c.in_ok-engine.engine c.in_ok-engine.crew.sessions.items
-    c.in_ok-engine.crew.collectors c.in_ok-engine.ensures e.transcript.lines e.totals h) c.replay_crew-ended.ensures.ended
+    c.in_ok-engine.crew.collectors c.in_ok-engine.ensures.opened e.transcript.lines e.totals h) c.replay_crew-ended.ensures.ended
 
 pub returns-clause-exact : goal.returns-clause-exact
 returns-clause-exact g c =
     let o = c.args.options.now in
     IfOk-weaker c.replay_crew-ended.result _ _ (λ e h. replay_exact o.buckets o.long c.args.script.now c.requires.lawful c.in_ok-engine.engine c.in_ok-engine.crew.sessions.items
-    c.in_ok-engine.crew.collectors c.in_ok-engine.ensures e.transcript.lines e.totals h) c.replay_crew-ended.ensures.ended
+    c.in_ok-engine.crew.collectors c.in_ok-engine.ensures.opened e.transcript.lines e.totals h) c.replay_crew-ended.ensures.ended
 
 pub returns-clause-fit : goal.returns-clause-fit
 returns-clause-fit g c =

@@ -9,7 +9,7 @@ pub returns-clause-sound : goal.returns-clause-sound
 returns-clause-sound g c =
     let o = c.args.options.now in
     IfOk-weaker c.run_crew-ended.result _ _ (λ e h. run_sound o.buckets o.long o.rounds c.args.script.now c.requires.lawful c.in_ok-engine.engine c.in_ok-engine.crew.sessions.items
-    c.in_ok-engine.crew.collectors c.in_ok-engine.ensures e.transcript.lines e.totals h) c.run_crew-ended.ensures.ended
+    c.in_ok-engine.crew.collectors c.in_ok-engine.ensures.opened e.transcript.lines e.totals h) c.run_crew-ended.ensures.ended
 
 pub returns-clause-fit : goal.returns-clause-fit
 returns-clause-fit g c =
