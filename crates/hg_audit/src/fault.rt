@@ -1,6 +1,6 @@
 //! What fails first of lines and totals, and the order in which that is asked.
 
-ghost use Rattle.std.specs.Prelude.{◌≡◌, ◌||◌, List, [], Some, is_some, if◌then◌else◌, IsTrue, IfOk};
+ghost use Rattle.std.specs.Prelude.{◌≡◌, ◌≤◌, ◌^◌, ◌↔◌, ◌||◌, length, List, [], Some, is_some, if◌then◌else◌, IsTrue, IfOk};
 ghost use Rattle.std.specs.Bool.{MatchBool};
 ghost use Rattle.hg_base.specs.declared.line.Line.{Line};
 ghost use Rattle.hg_base.specs.declared.line.Printed.{Printed};
@@ -183,6 +183,13 @@ fn judge(alloc: Global, facts: &Facts, all: &Lines<'_>, totals: Totals) -> Resul
     Ok(Found::Right)
 }
 
+// Whether there are more lines than memory holds, at eight bytes or more for each: then a sum over them may be too great.
+fn is_too_long(lines: &[Line]) -> bool
+    ensures { IsTrue result ↔ (2 ^ 61 ≤ length lines.now) }
+{
+    lines.len() >= 1 << 61
+}
+
 /// What fails first of the lines of these records, and of totals.
 pub(crate) fn find_fault(
     alloc: Global,
@@ -195,7 +202,7 @@ pub(crate) fn find_fault(
     ensures { IfOk result (λ found.
         (mode : Mode) → IsOf command mode → IsFound mode records.now lines.now totals found) }
 {
-    if lines.len() >= 1 << 61 {
+    if is_too_long(lines) {
         return Err(NoMemory);
     }
     if let Some(k) = first_out_of_shape(records, lines)? {

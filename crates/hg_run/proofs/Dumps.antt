@@ -14,7 +14,7 @@ use Rattle.hg_session.specs.Engines.{engine_sizes}
 use Rattle.hg_dump.specs.Records.{dump_text}
 use Rattle.hg_dump.specs.Rows.{rows_at}
 use Rattle.hg_tracker.specs.Begun.{AtMost}
-use Rattle.hg_run.specs.Reader.{HasDumped}
+use Rattle.hg_run.specs.Reader.{HasDumped, IsOver}
 
 pub dumped_of : (e : Engine) (buckets : ℕ) (script : Script) (r : Result ℕ NoMemory) (old new : View) (before after : List ℕ) → buckets ≡ (engine_sizes e).buckets
     → IfOk r (λ s. (h : History) (logs : ℕ → List LogEntry) → GoesOn buckets new h logs → after ≡ before ++ dump_text script (rows_at script.tables h s)) →
@@ -26,3 +26,7 @@ dumped_of e buckets script (Ok s) old new before after is text fresh read = reco
   read = read;
 }
 dumped_of e buckets script (Err x) old new before after is text fresh read = tt
+
+pub over_of : (old new : View) (r : Result ℕ NoMemory) → HasRead old r new → IsOver old new
+over_of old new (Ok s) read = (s, read)
+over_of old new (Err x) read = read

@@ -52,11 +52,16 @@ pub record HasDumped (e : Engine) (script : Script) (at : ℕ) (old new : View) 
   pub fresh : Each (AtMost at) old.sights
   pub read : HasReadAt at old new
 
+-- the session read at some snapshot, which it holds no more
+abbrev pub IsOver : View → View → Type 0
+IsOver old new = (s : ℕ) × HasReadAt s old new
+
 -- It was tried: it was appended, or nothing was.
 pub record HasTried (e : Engine) (script : Script) (result : Result ℕ NoMemory) (old new : SessionPass) (before after : List ℕ) : Type 0 where
   pub dumped : IfOk result (λ at. HasDumped e script at (session_view old) (session_view new) before after)
   pub starts : StartsWith after before
   pub refused : OnErr result (after ≡ before)
+  pub over : IsOver (session_view old) (session_view new)
   pub own : IsSessionOf (engine_board_id e) (engine_sizes e) new
 
 -- An engine for a script was opened with one session more than the script has. This is the pass of that session, the last one, and

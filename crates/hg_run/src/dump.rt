@@ -9,7 +9,7 @@ ghost use Rattle.hg_rule.specs.Seats.{session_view, IsSessionOf};
 ghost use Rattle.hg_session.specs.Engines.{engine_board_id, engine_sizes};
 ghost use Rattle.hg_run.specs.Collecting.{AreCollectors};
 ghost use Rattle.hg_run.specs.Driven.{AreBack, HasDrivenAll, HasDriven, MayDrive};
-ghost use Rattle.hg_run.specs.Reader.{HasDumped, HasTried, engine_in, script_in};
+ghost use Rattle.hg_run.specs.Reader.{HasDumped, HasTried, IsOver, engine_in, script_in};
 
 use crate::crew::Crew;
 use crate::reader::Reader;
@@ -88,6 +88,7 @@ pub fn dump_on<'e, 'a, R: Threads + Wait + Sync, G: Gate + Sync>(
         HasDumped (engine_in reader.now) (script_in reader.now) r.1 (session_view extra.old)
         (session_view extra.new) into.old.items into.new.items) }
     ensures refused { OnErr result (into.new.items ≡ into.old.items) }
+    ensures over { IsOver (session_view extra.old) (session_view extra.new) }
     ensures extra { IsSessionOf (engine_board_id (engine_in reader.now))
         (engine_sizes (engine_in reader.now)) extra.new }
 {

@@ -1,6 +1,6 @@
 //! An engine for a script.
 
-ghost use Rattle.std.specs.Prelude.{◌≡◌, ◌+◌, ◌*◌, ◌^◌, ◌<◌, ◌≤◌, length, map, IfOk};
+ghost use Rattle.std.specs.Prelude.{◌≡◌, ◌+◌, ◌*◌, ◌^◌, ◌<◌, ◌≤◌, length, map, max, IfOk};
 ghost use Rattle.hg_script.specs.Lawful.{IsLawful};
 ghost use Rattle.hg_session.specs.Engines.{engine_sizes};
 ghost use Rattle.hg_words.specs.Options.{AreWithin};
@@ -101,7 +101,8 @@ fn open_with(
         o.1.sessions.items o.1.collectors) }
     ensures helpers { IfOk result (λ o.
         HasHelpers (sweepers_in options.now) o.1.collectors.interval) }
-    ensures reads { IfOk result (λ o. 2 * more ≤ (engine_sizes o.0).quota) }
+    ensures quota { IfOk result (λ o.
+        (engine_sizes o.0).quota ≡ max 1 (length script.now.records + 2 * more)) }
 {
     let tables = declared(alloc, script)?;
     let sessions = script.sessions() + more;

@@ -8,7 +8,7 @@ ghost use Rattle.hg_exact.specs.Replayed.{plain};
 ghost use Rattle.hg_script.specs.Lawful.{IsLawful};
 ghost use Rattle.hg_report.specs.Readable.{IsTextOf};
 ghost use Rattle.hg_dump.specs.Reader.{IsSoundWith};
-ghost use Rattle.hg_run.specs.Printing.{IsPrintedFor};
+ghost use Rattle.hg_run.specs.Printing.{AreTotalsOf, IsPrintedFor};
 ghost use Rattle.hg_run.specs.Serving.{IsTextFor};
 
 /// What is sound for a script with a session that reads all tables at some snapshots also fits it (`what_is_sound_fits`).
@@ -37,6 +37,15 @@ pub fn replays_print_the_same()
         map plain p.printed.lines ≡ map plain q.printed.lines }
     ensures totals { (script : Script) (text other : List ℕ) →
         (p : IsPrintedFor replay script text) → (q : IsPrintedFor replay script other) →
+        (p.printed.totals.made ≡ q.printed.totals.made) ×
+        (p.printed.totals.undone ≡ q.printed.totals.undone) ×
+        (p.printed.totals.left ≡ q.printed.totals.left) }
+{}
+
+/// Two loads of one seed print the same `made`, `undone` and `left`, with whatever options.
+pub fn loads_print_the_same()
+    ensures { (seed : ℕ) (text other : List ℕ) →
+        (p : AreTotalsOf seed text) → (q : AreTotalsOf seed other) →
         (p.printed.totals.made ≡ q.printed.totals.made) ×
         (p.printed.totals.undone ≡ q.printed.totals.undone) ×
         (p.printed.totals.left ≡ q.printed.totals.left) }

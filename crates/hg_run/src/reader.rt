@@ -24,7 +24,7 @@ pub struct Reader<'e, 'a> {
 }
 
 impl<'e, 'a> Reader<'e, 'a> {
-    ghost use Rattle.hg_run.specs.Reader.{HasDumped, engine_in, script_in};
+    ghost use Rattle.hg_run.specs.Reader.{HasDumped, IsOver, engine_in, script_in};
 
     /// Appends the dump of the tables at a snapshot, and returns the snapshot. A refusal leaves `into` as it was.
     pub(crate) fn read<R: Wait>(
@@ -39,6 +39,7 @@ impl<'e, 'a> Reader<'e, 'a> {
             (session_view pass.old) (session_view pass.new) into.old.items into.new.items) }
         ensures starts { StartsWith into.new.items into.old.items }
         ensures refused { OnErr result (into.new.items ≡ into.old.items) }
+        ensures over { IsOver (session_view pass.old) (session_view pass.new) }
         ensures own { IsSessionOf (engine_board_id (engine_in self.now))
             (engine_sizes (engine_in self.now)) pass.new }
     {
@@ -64,6 +65,7 @@ impl<'e, 'a> Reader<'e, 'a> {
             (session_view pass.old) (session_view pass.new) into.old.items into.new.items) }
         ensures starts { StartsWith into.new.items into.old.items }
         ensures refused { OnErr result (into.new.items ≡ into.old.items) }
+        ensures over { IsOver (session_view pass.old) (session_view pass.new) }
         ensures own { IsSessionOf (engine_board_id (engine_in self.now))
             (engine_sizes (engine_in self.now)) pass.new }
     {

@@ -67,3 +67,12 @@ returns-in-Err-clause-refused g c =
     let starts = c.drive_and_read-driven.ensures.read.starts in
     let len : c.len-before.result ≡ length text = search rules in
     c.truncate-in-Err.ensures.items ∙ ((λ i. take (len i) (starts.1 i)) ∙ take_whole text starts.0)
+
+pub returns-in_default-clause-over : goal.returns-in_default-clause-over
+returns-in_default-clause-over g c = c.drive_and_read-driven.ensures.read.over
+
+pub returns-in-Ok-driven-clause-over : goal.returns-in-Ok-driven-clause-over
+returns-in-Ok-driven-clause-over g c = c.drive_and_read-driven.ensures.read.over
+
+pub returns-in-Err-clause-over : goal.returns-in-Err-clause-over
+returns-in-Err-clause-over g c = c.drive_and_read-driven.ensures.read.over

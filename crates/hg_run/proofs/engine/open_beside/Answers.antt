@@ -29,7 +29,7 @@ returns-clause-opened c =
     subst (λ list. IsOpenedWith (reader_of c.args.script.now) c.args.script.now c.args.options.now.buckets e list c.in_ok-engine.crew.collectors)
     last
     (subst (λ n. IsOpenedWith n c.args.script.now c.args.options.now.buckets e c.in_ok-engine.crew.sessions.items c.in_ok-engine.crew.collectors) one c.in_ok-engine.ensures.opened) in
-    let reads : 2 ≤ (engine_sizes e).quota = (let two = c.in_ok-engine.ensures.reads in omega (arith, two)) in
+    let reads : 2 ≤ (engine_sizes e).quota = (let quota = c.in_ok-engine.ensures.quota in omega (arith, quota)) in
     record {
       last = c.in-Some.last;
       opened = opened;

@@ -1,5 +1,5 @@
 use Rattle.std.proofs.Common.{◌≡◌, ◌+◌, ◌*◌, ◌≤◌, List, length, sym, ap, ◌∙◌, subst, arith, rules}
-use Rattle.std.specs.Prelude.{◌==◌, IfOk}
+use Rattle.std.specs.Prelude.{◌==◌, max, IfOk}
 use Rattle.std.proofs.lemmas.Nat.{mul-le}
 use Rattle.hg_base.specs.declared.statement.Record.{Record}
 use Rattle.hg_rule.specs.declared.view.Sizes.{Sizes}
@@ -49,8 +49,8 @@ returns-clause-opened c =
 pub returns-clause-helpers : goal.returns-clause-helpers
 returns-clause-helpers c = subst (λ n. IfOk c.open.result (λ o. HasHelpers n o.1.collectors.interval)) c.sweepers_of.ensures.asked c.open.ensures.helpers
 
-pub returns-clause-reads : goal.returns-clause-reads
-returns-clause-reads c =
-    let most : 2 * c.args.more ≤ c.max-quota.result = omega (arith, c.max-quota.ensures, c.record_count.ensures.same) in
+pub returns-clause-quota : goal.returns-clause-quota
+returns-clause-quota c =
+    let same : c.max-quota.result ≡ max 1 (length c.args.script.now.records + 2 * c.args.more) = omega (arith, c.max-quota.ensures, c.record_count.ensures.same) in
     if_ok (λ o. IsOpenedOf (record { sessions = c.sessions.result + c.args.more; tables = c.len.result; buckets = c.args.options.now.buckets; quota = c.max-quota.result }) o.0 o.1.sessions.items o.1.collectors)
-    _ c.open.result (λ o is. let quota : (engine_sizes o.0).quota ≡ c.max-quota.result = ap (λ (z : Sizes). z.quota) is.sizes in omega (arith, quota, most)) c.open.ensures.opened
+    _ c.open.result (λ o is. ap (λ (z : Sizes). z.quota) is.sizes ∙ same) c.open.ensures.opened
