@@ -116,10 +116,20 @@ def expect_refused(words, script, refusal):
     return why
 
 
+def verdict_on(source):
+    """Returns the verdict of an audit. One that is not `sound` has to be explained in a line on standard error."""
+    status, text, said = run("audit", source)
+    verdict = text.decode().removesuffix("\n")
+    expect(f"audit, which prints {verdict}: the exit status", 0, status)
+    if not re.fullmatch(rb"" if verdict == "sound" else rb"output record \d+ \(.*\)(, to .+)?: .+\n", said):
+        raise Wrong(f"audit, which prints {verdict}: the reason\n    wanted: output record N (..): ..\n    found:  {shown(said)}")
+    return verdict
+
+
 def audit(script, text):
     """Returns the verdict on a text."""
     end = b"" if not script or script.endswith(b"\n") else b"\n"
-    return text_of("audit", script + end + b"====\n" + text).decode().removesuffix("\n")
+    return verdict_on(script + end + b"====\n" + text)
 
 
 def sound_text(words, script):

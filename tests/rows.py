@@ -3,7 +3,8 @@
 import os
 
 from help import help_is_one_text
-from program import FOLDER, HERE, NO_TOTALS, USAGE, audit, bytes_of, expect, expect_end, expect_refused, records_of, replies_of, run, shown, sound_text, text_of
+from program import FOLDER, HERE, NO_TOTALS, USAGE, audit, bytes_of, expect, expect_end, expect_refused, records_of, replies_of, run, sound_text
+from program import text_of, verdict_on
 
 
 def lines_of(name):
@@ -105,7 +106,7 @@ def is_divided(source, answer):
     if answer.startswith("script record "):
         expect_refused("audit", bytes_of(source), answer.encode())
     else:
-        expect("the verdict", answer, text_of("audit", bytes_of(source)).decode().removesuffix("\n"))
+        expect("the verdict", answer, verdict_on(bytes_of(source)))
 
 
 def is_printed(words, script, text):

@@ -4,6 +4,7 @@ use crate::help::page_of;
 use crate::outside::{Lack, advise};
 use crate::reason::Reason;
 use crate::script::explain_script;
+use crate::verdict::explain_verdict;
 use crate::words::explain_words;
 use hg_base::NoMemory;
 use hg_streams::{Status, part};
@@ -85,7 +86,10 @@ fn lack_of(words: &[String]) -> Lack {
 // The reason of a status, if there is more to say than the status does.
 fn reason_of(alloc: Global, call: &Call<'_>, status: Status) -> Result<Option<Reason>, NoMemory> {
     match status {
-        Status::Done => Ok(None),
+        Status::Done => match call.given {
+            Some(bytes) => explain_verdict(alloc, bytes),
+            None => Ok(None),
+        },
         Status::Usage => Ok(Some(explain_words(alloc, call.words)?)),
         Status::BadScript { line, code } => match call.given {
             Some(bytes) => explain_script(alloc, script_in(call.words, bytes), line, code),

@@ -12,19 +12,28 @@
 #![tactic(auto)]
 
 mod before;
+mod commits;
 mod end;
 mod finding;
 mod form;
+mod fresh;
 mod help;
+mod history;
+mod judged;
 mod names;
 mod numbers;
 mod order;
+mod output;
 mod outside;
 mod part;
 mod reason;
+mod replies;
+mod rows;
 mod script;
 mod shown;
 mod spot;
+mod verdict;
+mod walk;
 mod words;
 
 pub use end::{Call, Why, explain};
