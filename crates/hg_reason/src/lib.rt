@@ -11,6 +11,7 @@
 //! no clause says it, and rows of text test it.
 #![tactic(auto)]
 
+mod answered;
 mod before;
 mod commits;
 mod end;
