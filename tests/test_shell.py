@@ -551,13 +551,25 @@ class OnATerminal(unittest.TestCase):
                 self.assertRegex(self.text[begun:], wanted)
                 return
 
+    def interrupt(self, wanted: str) -> None:
+        """Types Ctrl-C once the shell waits for a key: readline sees a signal that comes before only at the next key."""
+        end = time.monotonic() + SECONDS
+        while self.is_running():
+            self.assertLess(time.monotonic(), end, "the shell does not wait for a key")
+            time.sleep(0.01)
+        self.keys("\x03", wanted)
+
+    def is_running(self) -> bool:
+        with open(f"/proc/{self.process.pid}/stat") as stat:
+            return stat.read().rsplit(")", 1)[1].split()[0] != "S"
+
     def test_keys_colours_completion_and_history(self) -> None:
         self.begin(NO_COLOR="")
         self.keys("", r"1> ")
         self.keys("tab\tt 1\r", r"declared[\r\n]+(?s:.*)1> ")
         self.keys("beg\t\r", r"begun at snapshot 0(?s:.*)\x1b\[33m1\*> ")
         self.keys("put t 5", r"put t 5")
-        self.keys("\x03", r"\^C(?s:.*)1\*> ")
+        self.interrupt(r"\^C(?s:.*)1\*> ")
         self.keys("2 put t 5\r", r"\x1b\[31mbad record \(Fields\):\x1b\[0m")
         self.keys("rollback\r", "rolled back(?s:.*)1> ")
         self.keys("op\tt 0 9\r", r"cursor opened(?s:.*)\x1b\[36m1~> ")
