@@ -168,7 +168,13 @@ table,u,1
 
 #[test]
 fn six_commits_are_long_where_six_are(rt: HostRuntime) {
-    let run = written_in_order(&rt, rt.alloc(), "run --long 6 --rounds 3", LONG, &LONG_HOLDS);
+    let run = written_in_order(
+        &rt,
+        rt.alloc(),
+        "run --long 6 --rounds 3",
+        LONG,
+        &LONG_HOLDS,
+    );
     assert_eq!(rt; run.bytes(), MOVED_TEXT);
     let words = "dump --long 6 --rounds 3";
     let dump = written_in_order(&rt, rt.alloc(), words, LONG, &LONG_DUMP_HOLDS);
@@ -177,7 +183,13 @@ fn six_commits_are_long_where_six_are(rt: HostRuntime) {
 
 #[test]
 fn six_commits_are_not_long_where_seven_are(rt: HostRuntime) {
-    let run = written_in_order(&rt, rt.alloc(), "run --long 7 --rounds 3", LONG, &LONG_HOLDS);
+    let run = written_in_order(
+        &rt,
+        rt.alloc(),
+        "run --long 7 --rounds 3",
+        LONG,
+        &LONG_HOLDS,
+    );
     assert_eq!(rt; run.bytes(), UNMOVED_TEXT);
     let words = "dump --long 7 --rounds 3";
     let dump = written_in_order(&rt, rt.alloc(), words, LONG, &LONG_DUMP_HOLDS);
