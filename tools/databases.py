@@ -1,6 +1,10 @@
 """The databases that tools/against compares with, each as one class with the methods of `Database`.
 
-To add another: a class with these five methods, and a line in `DATABASES` of tools/against. docs/TOOLS.md says more.
+To add another: a class with the five methods of `Database`, as `Sqlite` in sqlite.py, and a line in `DATABASES` of tools/against.
+`has_one_writer` says whether the difference `one writer` is allowed. `ask` returns the words of our replies: `Said("row", (("7", "x"),))`,
+`Said("rows", (("5", "7", "x"), ..))` with the keys, `Said("refused open")` where another transaction holds the record,
+`Said("refused newer")` where one has committed it since the snapshot. A refusal has to leave the transaction as it was, and the snapshot has
+to be that of `begin`. Then `tools/against --on NAME --random 1000` says whether it agrees.
 """
 
 from __future__ import annotations
