@@ -10,6 +10,7 @@
 //     void scan(unsigned session, unsigned table, std::uint64_t low, std::uint64_t high, Each each)
 //     void commit(unsigned session), void rollback(unsigned session)
 //     std::string held()                                              what the store holds now
+//     static std::string version()
 #pragma once
 
 #include <array>
@@ -145,11 +146,16 @@ inline std::string read_all() {
 
 /// CLIENT FOLDER < SCRIPT > REPLIES. With --held a line on standard error says what the store holds before what is open ends.
 template <class Store> int serve(int count, char** words) {
-    const bool asks = count == 3 && std::string_view(words[2]) == "--held";
-    if (count != 2 && !asks) fail(std::string("usage: ") + words[0] + " FOLDER [--held] < SCRIPT > REPLIES");
+    const std::string_view first = count > 1 ? words[1] : "", second = count > 2 ? words[2] : "";
+    if (count == 2 && first == "--version") {
+        std::puts(Store::version().c_str());
+        return 0;
+    }
+    if (count != 2 && !(count == 3 && second == "--held"))
+        fail(std::string("usage: ") + words[0] + " FOLDER [--held] < SCRIPT > REPLIES, or --version");
     Script script(read_all());
     Store store(script.tables(), words[1]);
     Client<Store>(script, store).run();
-    if (asks) std::fprintf(stderr, "%s\n", store.held().c_str());
+    if (count == 3) std::fprintf(stderr, "%s\n", store.held().c_str());
     return 0;
 }

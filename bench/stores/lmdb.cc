@@ -73,14 +73,12 @@ class Lmdb {
     }
 
     void commit(unsigned session) {
-        if (writing == session)
-            check(mdb_txn_commit(writer));
+        if (writing == session) check(mdb_txn_commit(writer));
         end(session);
     }
 
     void rollback(unsigned session) {
-        if (writing == session)
-            mdb_txn_abort(writer);
+        if (writing == session) mdb_txn_abort(writer);
         end(session);
     }
 
@@ -90,8 +88,14 @@ class Lmdb {
         return std::to_string(info().me_last_pgno + 1) + " pages of " + std::to_string(sizes.ms_psize / 1024) + " KiB";
     }
 
+    static std::string version() {
+        int major, minor, patch;
+        mdb_version(&major, &minor, &patch);
+        return "LMDB " + std::to_string(major) + "." + std::to_string(minor) + "." + std::to_string(patch);
+    }
+
   private:
-    /// What a session reads: its transaction, or one that ends with the view.
+    /// What a session reads: its transaction, or a transaction that ends with the view.
     struct View {
         View(Lmdb& store, unsigned session) : store(store), is_own(!store.is_open[session]) {
             if (is_own) store.start(0);

@@ -6,6 +6,7 @@
 #include <rocksdb/env.h>
 #include <rocksdb/utilities/transaction.h>
 #include <rocksdb/utilities/transaction_db.h>
+#include <rocksdb/version.h>
 
 #include <memory>
 
@@ -119,6 +120,8 @@ class Rocks {
         for (const auto& file : files) entries += file.num_entries;
         return std::to_string(entries) + " versions";
     }
+
+    static std::string version() { return "RocksDB " + rocksdb::GetRocksVersionAsString(); }
 
   private:
     void end(unsigned session) {

@@ -29,8 +29,8 @@ using Tables = std::vector<Table>;
 enum class Word { begin, get, put, del, scan, commit, rollback, gc };
 
 struct Statement {
-    unsigned place;      // its record, counted from 1
-    unsigned session;    // from 1 to 64
+    unsigned place;    // its record, counted from 1
+    unsigned session;  // from 1 to 64
     Word word;
     unsigned table;      // its index among the tables
     std::uint64_t key;   // of a scan the least key
