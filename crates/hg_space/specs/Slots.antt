@@ -84,9 +84,9 @@ Fits Unknown place = Unit
 abbrev pub AreFaithful : List (List Slot) → List (Rid × ℕ) → Type 0
 AreFaithful bins index = (r : Rid) → Fits (look_at bins r) (place_of index r)
 
--- the bins have room for so many records: at seven in each, of the eight that it may have
+-- the bins have room for so many records: at four in each, of the eight that it may have
 abbrev pub HaveRoom : List (List Slot) → ℕ → Type 0
-HaveRoom bins many = many ≤ 7 * length bins
+HaveRoom bins many = many ≤ 4 * length bins
 
 -- what was so of the other records is so still
 abbrev pub StayFit : Rid → List (List Slot) → List (List Slot) → Type 0

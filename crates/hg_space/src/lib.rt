@@ -20,7 +20,7 @@
 //! The index has its records twice. A range goes by their order (`next_key`). A lookup reads one bin of slots, the only one that the
 //! record may be in (`place`): the bin has the record, or it has an empty slot, and then the record has no place. A record that found
 //! its bin full is in the order alone, so if the bin has neither, the order is searched. What the slots say is so, but they may leave
-//! records out. There is a bin for each seven records at least, and the table grows, by half, only where there would be fewer.
+//! records out. There is a bin for each four records at least, and the table doubles only where there would be fewer.
 //!
 //!     lists                                               standings, by place
 //!     table 0   [ key 5, place 0 ] [ key 9, place 2 ]     0  table 0, index 0

@@ -1,6 +1,6 @@
 //! A table from records to places, which may leave records out: bins of slots, each bin all those in which a record may be.
 
-ghost use Rattle.std.specs.Prelude.{◌≡◌, ◌+◌, ◌/◌, ◌≤◌, [], false, ℕ, IfOk, OnOk, OnErr, None, Some, IsFalse, length};
+ghost use Rattle.std.specs.Prelude.{◌≡◌, ◌+◌, ◌*◌, ◌≤◌, [], false, ℕ, IfOk, OnOk, OnErr, None, Some, IsFalse, length};
 ghost use Rattle.std.specs.List.{list_any};
 ghost use Rattle.hg_space.specs.Slots.{look_from, put_in, taken_out, is_empty, bin_of, look_at, Fits, AreFaithful, HaveRoom, StayFit};
 ghost use Rattle.hg_base.specs.History.{same_rid};
@@ -151,16 +151,16 @@ impl Slots {
         requires fit { HaveRoom self.old (length places.now.entries) }
         ensures faithful { AreFaithful self.new places.now.entries }
         ensures room { OnOk result (HaveRoom self.new (length places.now.entries + 1)) }
-        // a table that has room already does not grow, and one that grows does so by half
+        // a table that has room already does not grow, and one that grows doubles
         ensures kept { HaveRoom self.old (length places.now.entries + 1) → self.new ≡ self.old }
-        ensures grown { length self.new ≤ length self.old + length self.old / 2 + 1 }
+        ensures grown { length self.new ≤ 2 * length self.old + 1 }
         ensures refused { OnErr result (self.new ≡ self.old) }
     {
         let many = self.bins.len();
         if places.len() / FULL < many {
             return Ok(());
         }
-        *self = Slots::of_records(places, many.saturating_add(many / 2 + 1), alloc)?;
+        *self = Slots::of_records(places, many.saturating_add(many).saturating_add(1), alloc)?;
         Ok(())
     }
 
@@ -181,8 +181,8 @@ impl Slots {
     }
 }
 
-// A table grows by half once its bins have so many records each, of eight.
-const FULL: usize = 7;
+// A table doubles once its bins have so many records each, of eight. So few bins are full.
+const FULL: usize = 4;
 
 // The bin of a record: the high half of its hash, scaled to the number of bins.
 fn bin_of(many: usize, rid: Rid) -> usize
