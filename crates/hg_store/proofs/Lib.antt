@@ -25,3 +25,5 @@ pub mod Rounding
 pub mod Spending
 -- A new store.
 pub mod Filling
+-- The bucket of a record, by a mask.
+pub mod Masking

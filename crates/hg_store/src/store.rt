@@ -1,6 +1,6 @@
 //! Buckets under locks.
 
-ghost use Rattle.std.specs.Prelude.{◌≡◌, ℕ, ◌<◌, ◌^◌, [], length, IfOk};
+ghost use Rattle.std.specs.Prelude.{◌≡◌, ℕ, ◌<◌, ◌%◌, ◌^◌, [], length, IfOk};
 ghost use Rattle.hg_core.specs.Contents.{bucket_of};
 ghost use Rattle.hg_lock.specs.Locks.{count_of};
 
@@ -28,7 +28,19 @@ impl Fits for Slot {
     ghost fits = { SlotFits };
 }
 
-// The bucket of a record, of so many. Where table and key have a sum that fits, it is divided once.
+// What is left of a number that is divided by another one. By a power of two it is not divided: its last bits are left.
+fn remainder(number: u64, divisor: u64) -> u64
+    requires { 0 < divisor }
+    ensures { result ≡ number % divisor }
+{
+    if divisor.is_power_of_two() {
+        number & (divisor - 1)
+    } else {
+        number % divisor
+    }
+}
+
+// The bucket of a record, of so many. Where table and key have a sum that fits, one remainder is taken.
 fn bucket_among(count: u64, rid: Rid) -> u64
     requires some { 0 < count }
     requires few { count < 2 ^ 32 }
@@ -37,7 +49,7 @@ fn bucket_among(count: u64, rid: Rid) -> u64
 {
     let table = 31 * u64::from(rid.table.0);
     match rid.key.checked_add(table) {
-        Some(sum) => sum % count,
+        Some(sum) => remainder(sum, count),
         None => (rid.key % count + table) % count,
     }
 }
