@@ -16,6 +16,9 @@
 //! `Transcript` keeps lines as their text while they come, and clauses see the lines. Its one rule is that the bytes are a function of
 //! what was printed: each is `text_of` of it. `Piece` is one record of a text, for `hg_report`, which reads texts back.
 //!
+//! Most replies are one record of few bytes (`usual.rt`). Such a record is written on the stack, from its last byte to the first, and
+//! added at once. All others are written field by field.
+//!
 //! A text value of a row is written as a CSV writer writes it: in quotes if it has a comma, a quote or the end of a line, with each
 //! quote inside doubled. So one record may take several lines.
 #![tactic(auto)]
@@ -31,6 +34,7 @@ mod row_start;
 mod text;
 mod told;
 mod transcript;
+mod usual;
 mod values;
 
 pub use notes::{add_line, add_note, add_note_with};

@@ -7,6 +7,7 @@ ghost use Rattle.hg_records.specs.Bytes.{record_bytes};
 
 use crate::record::{write_head, write_held, write_total};
 use crate::row_start::RowStart;
+use crate::usual::add_usual;
 use hg_base::{Answer, Line, NoMemory, Row, Told, Totals};
 use hg_script::Table;
 
@@ -47,12 +48,27 @@ fn write_more(text: &mut Vec<u8>, line: &Line) -> Result<(), NoMemory>
     }
 }
 
-pub(crate) fn write_line(text: &mut Vec<u8>, tables: &[Table], line: &Line) -> Result<(), NoMemory>
+/// Adds the records of a reply field by field.
+pub(crate) fn write_records(
+    text: &mut Vec<u8>,
+    tables: &[Table],
+    line: &Line,
+) -> Result<(), NoMemory>
     ensures { OnOk result (text.new.items ≡
         text.old.items ++ flat_map record_bytes (line_records tables.now line.now)) }
 {
     write_head(text, tables, line)?;
     write_more(text, line)
+}
+
+pub(crate) fn write_line(text: &mut Vec<u8>, tables: &[Table], line: &Line) -> Result<(), NoMemory>
+    ensures { OnOk result (text.new.items ≡
+        text.old.items ++ flat_map record_bytes (line_records tables.now line.now)) }
+{
+    if add_usual(text, line)? {
+        return Ok(());
+    }
+    write_records(text, tables, line)
 }
 
 pub(crate) fn write_lines(

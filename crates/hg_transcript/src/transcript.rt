@@ -4,9 +4,11 @@ ghost use Rattle.std.specs.Prelude.{◌≡◌, ◌++◌, ◌∷◌, [], IfOk, On
 ghost use Rattle.hg_base.specs.Script.{Script};
 ghost use Rattle.hg_base.specs.Text.{text_of};
 ghost use Rattle.hg_records.specs.Bytes.{record_bytes};
+ghost use Rattle.hg_transcript.specs.LinesText.{lines_text};
 
-use crate::line::{write_line, write_totals};
+use crate::line::{write_records, write_totals};
 use crate::told::ToldLines;
+use crate::usual::add_usual;
 use hg_base::{Line, NoMemory, Totals};
 use hg_script::{Script, Table};
 use std::alloc::Global;
@@ -18,7 +20,7 @@ use std::marker::Model;
 pub struct Transcript<'a> {
     tables: &'a [Table],
     text: Vec<u8>,
-    // the text of the line that comes
+    // the text of a line that is not usual
     scratch: Vec<u8>,
     lines: ToldLines,
 }
@@ -32,6 +34,26 @@ impl<'a> Model for Transcript<'a> {
     ghost view = { λ t. record { tables = t.tables.now; lines = t.lines.lines } };
 
     ghost invariant = { λ t. t.text.items ≡ lines_text t.tables.now t.lines.lines };
+}
+
+// Adds the records of a line, which are written to `scratch` first if the line is not usual. A refusal leaves the text as before.
+fn add_whole(
+    text: &mut Vec<u8>,
+    scratch: &mut Vec<u8>,
+    tables: &[Table],
+    line: &Line,
+) -> Result<(), NoMemory>
+    ensures added { OnOk result
+        (text.new.items ≡ text.old.items ++ lines_text tables.now (line.now ∷ [])) }
+    ensures kept { OnErr result (text.new.items ≡ text.old.items) }
+{
+    if add_usual(text, line)? {
+        return Ok(());
+    }
+    scratch.clear();
+    write_records(scratch, tables, line)?;
+    text.extend_from_slice(scratch)?;
+    Ok(())
 }
 
 impl<'a> Transcript<'a> {
@@ -53,9 +75,7 @@ impl<'a> Transcript<'a> {
             (self.new ≡ record self.old { lines = self.old.lines ++ line.now ∷ [] }) }
         ensures err { OnErr result (self.new ≡ self.old) }
     {
-        self.scratch.clear();
-        write_line(&mut self.scratch, self.tables, line)?;
-        self.text.extend_from_slice(&self.scratch)?;
+        add_whole(&mut self.text, &mut self.scratch, self.tables, line)?;
         self.lines = self.lines.then(line);
         Ok(())
     }
