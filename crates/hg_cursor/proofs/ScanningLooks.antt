@@ -1,5 +1,5 @@
 -- What a look at a range of one bucket logs, and that the rows that were copied are those.
-use Rattle.std.proofs.Common.{◌≡◌, ℕ, ◌≤◌, List, [], ◌∷◌, ◌++◌, Some, Result, Ok, Err, ap, ◌∙◌, subst}
+use Rattle.std.proofs.Common.{◌≡◌, ℕ, ◌<◌, ◌≤◌, List, [], ◌∷◌, ◌++◌, Some, None, Result, Ok, Err, inl, refl, ap, ◌∙◌, subst, arith}
 use Rattle.std.specs.Prelude.{OnOk}
 use Rattle.hg_base.specs.declared.rid.TableId.{TableId}
 use Rattle.hg_base.specs.declared.writer.Writer.{Writer}
@@ -14,15 +14,17 @@ use Rattle.hg_rule.specs.declared.view.View.{View}
 use Rattle.hg_rule.specs.Views.{part_number, after_first}
 use Rattle.hg_rule.specs.Holding.{bucket, writer, snapshot}
 use Rattle.hg_rule.specs.Writes.{log_asked, Looks}
-use Rattle.hg_cursor.specs.Keys.{Rows, IsOwnKey, AreOwn, read_of}
-use Rattle.hg_cursor.proofs.Keys.{own_key}
+use Rattle.hg_core.specs.Contents.{Content}
+use Rattle.hg_cursor.specs.Keys.{Rows, IsOwnKey, AreOwn, IsFirstOwn, read_of}
+use Rattle.hg_cursor.proofs.Keys.{own_key, unread}
+use Rattle.hg_cursor.proofs.Rows.{widened}
 use Rattle.hg_cursor.proofs.Uniqueness.{same_rows}
 use Rattle.hg_cursor.proofs.Looking.{shown_there}
 use Rattle.hg_cursor.specs.Logs.{Adds}
 use Rattle.hg_cursor.specs.Scans.{AppendsAll, SeesAll}
 use Rattle.hg_cursor.proofs.Trips.{first_session, Beside}
 
-on_ok : {T A B : Type 0} (answer : Result T NoMemory) → (A → B) → OnOk answer A → OnOk answer B
+pub on_ok : {T A B : Type 0} (answer : Result T NoMemory) → (A → B) → OnOk answer A → OnOk answer B
 on_ok (Ok t) f a = f a
 on_ok (Err e) f a = a
 
@@ -49,3 +51,14 @@ module _ (count j b n : ℕ) (part : SessionPart) (old : List Sight) (table : Ta
     where
       same : AppendsAll (read_of (writer u) (snapshot u) table (bucket u).content) low high before after → after ≡ before ++ k.rows
       same a = a.is ∙ ap (λ rows. before ++ rows) (same_rows (read_of (writer u) (snapshot u) table (bucket u).content) low high a.more k.rows a.rows k.shown)
+
+-- the rows from the bucket's first key on are those of the range
+pub from_first : (count b : ℕ) (content : Content) (by : Writer) (at : ℕ) (table : TableId) (low own high : ℕ) (before after : Rows) → AreOwn count b content →
+    IsFirstOwn count b table low high own → AppendsAll (read_of by at table content) own high before after → AppendsAll (read_of by at table content) low high before after
+from_first count b content by at table low own high before after are first a =
+    let none : (k : ℕ) → low ≤ k → k < own → (read_of by at table content k).row ≡ None = λ k l less.
+    let under = first.0.1 in
+    unread by at table content k (λ has. let least = first.2 k l (omega (arith, less, under)) (own_key count b content table k are has) in absurd (omega (arith, least, less))) in
+    let w = widened (read_of by at table content) 0 low own high before after high first.0.0 none
+    (record { more = a.more; is = a.is; within = omega arith; rows = a.rows; enough = inl refl }) in
+    record { more = w.more; is = w.is; rows = w.rows }

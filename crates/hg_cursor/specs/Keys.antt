@@ -44,3 +44,7 @@ IsWithin from high (Some next) = (from ≤ next) × (next ≤ high)
 abbrev pub LeadsOn : (ℕ → Type 0) → ℕ → ℕ → Option ℕ → Type 0
 LeadsOn Sought from high None = (k : ℕ) → from ≤ k → k ≤ high → Sought k → ⊥
 LeadsOn Sought from high (Some next) = (k : ℕ) → from ≤ k → k ≤ high → Sought k → next ≤ k
+
+-- the least key from `low` to `high` that is bucket b's own
+abbrev pub IsFirstOwn : ℕ → ℕ → TableId → ℕ → ℕ → ℕ → Type 0
+IsFirstOwn count b table low high key = IsWithin low high (Some key) × IsOwnKey count b table key × LeadsOn (IsOwnKey count b table) low high (Some key)

@@ -1,20 +1,20 @@
 //! What a fetch reads of one bucket.
 
-ghost use Rattle.std.specs.Prelude.{◌≡◌, ◌+◌, ◌-◌, ◌<◌, ◌≤◌, ◌++◌, IfOk, IfSome, OnOk};
+ghost use Rattle.std.specs.Prelude.{◌≡◌, ◌<◌, ◌≤◌, ◌++◌, IfOk, OnOk};
 ghost use Rattle.hg_core.specs.Replies.{read_by};
 ghost use Rattle.hg_rule.specs.declared.view.View.{View};
 ghost use Rattle.hg_rule.specs.Holding.{bucket as bucket_in, held as held_in};
 ghost use Rattle.hg_rule.specs.Seats.{board_id, sizes_of, session_view, IsSessionOf};
 ghost use Rattle.hg_store.specs.Stores.{store_board_id, store_buckets, Holds};
 ghost use Rattle.hg_cursor.specs.Firsts.{IsNeeded};
-ghost use Rattle.hg_cursor.specs.Keys.{rows_at, IsOwnKey, HasVersion, IsWithin, LeadsOn};
+ghost use Rattle.hg_cursor.specs.Keys.{rows_at};
 ghost use Rattle.hg_cursor.specs.Logs.{IsHeard, ReadsAt};
 ghost use Rattle.hg_cursor.specs.Looks.{WhereOwn, IsFirstKey, AppendsFirst, Sees};
 
 use crate::firsts::Firsts;
-use crate::own_keys::next_there;
+use crate::own_keys::{next_after, next_from};
 use crate::request::Request;
-use hg_base::{Image, NoMemory, Rid, TableId, Writer};
+use hg_base::{Image, NoMemory, Rid, Writer};
 use hg_rule::{Board, SessionPass};
 use hg_store::{Held, Store};
 use std::sync::Wait;
@@ -25,50 +25,6 @@ pub(crate) struct Look {
     pub(crate) request: Request,
     pub(crate) own: u64,
     pub(crate) limit: u64,
-}
-
-// The first key to read of the bucket held, from one of its own keys to `high`. Where this is the bucket's only key there, it is
-// not looked up.
-fn next_from(held: &Held<'_>, table: TableId, count: u64, own: u64, high: u64) -> Option<u64>
-    requires { own ≤ high }
-    ensures within { IsWithin own high result }
-    ensures own { WhereOwn held.now count table own
-        (λ v b. IfSome result (IsOwnKey count b table)) }
-    ensures leads { (v : View) → Holds v held.now →
-        LeadsOn (HasVersion (bucket_in v).content table) own high result }
-{
-    if high - own < count {
-        Some(own)
-    } else {
-        next_there(held, table, own, high)
-    }
-}
-
-// The next key to read after one of the bucket's own keys. Own keys are `count` apart. Where the last ones that were read had rows
-// and were next to each other (`is_dense`), the next own key is tried; else the index leads on.
-fn next_after(
-    held: &Held<'_>,
-    table: TableId,
-    count: u64,
-    key: u64,
-    high: u64,
-    is_dense: bool,
-) -> Option<u64>
-    requires some { 0 < count }
-    requires within { key ≤ high }
-    ensures within { IsWithin (key + 1) high result }
-    ensures own { WhereOwn held.now count table key
-        (λ v b. IfSome result (IsOwnKey count b table)) }
-    ensures leads { WhereOwn held.now count table key
-        (λ v b. LeadsOn (HasVersion (bucket_in v).content table) (key + 1) high result) }
-{
-    if high - key < count {
-        None
-    } else if is_dense {
-        Some(key + count)
-    } else {
-        next_from(held, table, count, key + count, high)
-    }
 }
 
 // Copies the row that a transaction reads of a record, and says whether it reads one.

@@ -3,18 +3,19 @@
 //!     range, in 4 buckets of table 0      6   7   8   9  10  11  12  13
 //!     bucket 1's own                                  9              13
 //!
-//! Only the bucket's own keys are looked up, by its index where it may have many of them.
+//! Only the bucket's own keys are looked up. Where it may have many of them, its index leads over those that have no record.
 
-ghost use Rattle.std.specs.Prelude.{◌≡◌, ◌+◌, ◌%◌, ◌<◌, IfSome};
+ghost use Rattle.std.specs.Prelude.{◌≡◌, ◌+◌, ◌%◌, ◌<◌, ◌≤◌, IfSome, IsTrue};
 ghost use Rattle.hg_core.specs.Contents.{has_own};
 ghost use Rattle.hg_rule.specs.declared.view.View.{View};
 ghost use Rattle.hg_rule.specs.Holding.{bucket as bucket_in};
-ghost use Rattle.hg_store.specs.Stores.{store_buckets, Holds};
-ghost use Rattle.hg_cursor.specs.Keys.{IsOwnKey, AreOwn, HasVersion, IsWithin, LeadsOn};
+ghost use Rattle.hg_store.specs.Stores.{Holds};
+ghost use Rattle.hg_cursor.specs.Keys.{IsOwnKey, HasVersion, IsWithin, LeadsOn, IsFirstOwn};
+ghost use Rattle.hg_cursor.specs.Looks.{WhereOwn};
 
 use crate::range::Range;
 use hg_base::TableId;
-use hg_store::{Held, Store};
+use hg_store::Held;
 
 // How many buckets it is from `home` on to a bucket, round all of them.
 fn ahead(bucket: u32, home: u32, count: u32) -> u32
@@ -39,23 +40,19 @@ pub(crate) fn is_reached(bucket: u32, home: u32, count: u32, range: Range) -> bo
     range.reaches(u64::from(ahead(bucket, home, count)))
 }
 
-// The least key of a range that is a bucket's own. The range's least is of the bucket `home`.
-fn first_key(bucket: u32, home: u32, count: u32, range: Range) -> Option<u64>
+// The least key of a range that is a bucket's own, where it has one. The range's least is of the bucket `home`.
+pub(crate) fn first_key(bucket: u32, home: u32, count: u32, range: Range) -> u64
     requires bucket { bucket < count }
     requires home { IsOwnKey count home range.table range.low }
-    ensures within { IsWithin range.low range.high result }
-    ensures leads { LeadsOn (IsOwnKey count bucket range.table) range.low range.high result }
+    requires reached { IsTrue (has_own count range.table range.low range.high bucket) }
+    ensures { IsFirstOwn count bucket range.table range.low range.high result }
 {
     let ahead = u64::from(ahead(bucket, home, count));
-    if range.reaches(ahead) {
-        Some(range.low + ahead)
-    } else {
-        None
-    }
+    range.low + ahead
 }
 
 // The least key of a table from a number to `high`, of those that have a version in the bucket held.
-pub(crate) fn next_there(held: &Held<'_>, table: TableId, from: u64, high: u64) -> Option<u64>
+fn next_there(held: &Held<'_>, table: TableId, from: u64, high: u64) -> Option<u64>
     ensures within { IsWithin from high result }
     ensures there { (v : View) → Holds v held.now →
         IfSome result (HasVersion (bucket_in v).content table) }
@@ -69,42 +66,52 @@ pub(crate) fn next_there(held: &Held<'_>, table: TableId, from: u64, high: u64) 
     }
 }
 
-// The first key to read of the bucket held, in a range. Where no other key of the bucket is left there, nothing needs to
-// look it up.
-pub(crate) fn next_within(store: &Store, held: &Held<'_>, bucket: u32, range: Range) -> Option<u64>
-    requires bucket { bucket < store_buckets store.now }
-    ensures within { IsWithin range.low range.high result }
+// The first key to read of the bucket held, from one of its own keys to `high`. Where this is the bucket's only key there, it is
+// not looked up.
+pub(crate) fn next_from(
+    held: &Held<'_>,
+    table: TableId,
+    count: u64,
+    own: u64,
+    high: u64,
+) -> Option<u64>
+    requires { own ≤ high }
+    ensures within { IsWithin own high result }
+    ensures own { WhereOwn held.now count table own
+        (λ v b. IfSome result (IsOwnKey count b table)) }
     ensures leads { (v : View) → Holds v held.now →
-        AreOwn (store_buckets store.now) bucket (bucket_in v).content →
-        LeadsOn (HasVersion (bucket_in v).content range.table) range.low range.high result }
+        LeadsOn (HasVersion (bucket_in v).content table) own high result }
 {
-    let count = store.buckets();
-    let home = store.bucket_of(range.first());
-    let first = first_key(bucket, home, count, range)?;
-    if range.high - first < u64::from(count) {
-        Some(first)
+    if high - own < count {
+        Some(own)
     } else {
-        next_there(held, range.table, first, range.high)
+        next_there(held, table, own, high)
     }
 }
 
-// The next one after a key.
+// The next key to read after one of the bucket's own keys. Own keys are `count` apart. Where the last ones that were read had rows
+// and were next to each other (`is_dense`), the next own key is tried; else the index leads on.
 pub(crate) fn next_after(
-    store: &Store,
     held: &Held<'_>,
-    bucket: u32,
-    range: Range,
+    table: TableId,
+    count: u64,
     key: u64,
+    high: u64,
+    is_dense: bool,
 ) -> Option<u64>
-    requires bucket { bucket < store_buckets store.now }
-    ensures within { IsWithin (key + 1) range.high result }
-    ensures leads { (v : View) → Holds v held.now →
-        AreOwn (store_buckets store.now) bucket (bucket_in v).content →
-        LeadsOn (HasVersion (bucket_in v).content range.table) (key + 1) range.high result }
+    requires some { 0 < count }
+    requires within { key ≤ high }
+    ensures within { IsWithin (key + 1) high result }
+    ensures own { WhereOwn held.now count table key
+        (λ v b. IfSome result (IsOwnKey count b table)) }
+    ensures leads { WhereOwn held.now count table key
+        (λ v b. LeadsOn (HasVersion (bucket_in v).content table) (key + 1) high result) }
 {
-    if key < range.high {
-        next_within(store, held, bucket, range.over(key))
-    } else {
+    if high - key < count {
         None
+    } else if is_dense {
+        Some(key + count)
+    } else {
+        next_from(held, table, count, key + count, high)
     }
 }

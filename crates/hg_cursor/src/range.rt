@@ -1,6 +1,6 @@
 //! The keys that a scan asks for.
 
-ghost use Rattle.std.specs.Prelude.{◌≡◌, ◌+◌, ◌<◌, nat_le};
+ghost use Rattle.std.specs.Prelude.{◌≡◌, ◌+◌, ◌≤◌, nat_le};
 ghost use Rattle.hg_bucket.specs.BucketModel.{record_at};
 
 use hg_base::{Rid, TableId};
@@ -24,21 +24,21 @@ impl Range {
         }
     }
 
-    // The keys over one of them.
-    pub(crate) fn over(self, key: u64) -> Range
-        requires { key < self.high }
-        ensures { result ≡ record { table = self.table; low = key + 1; high = self.high } }
-    {
-        Range {
-            low: key + 1,
-            ..self
-        }
-    }
-
     // Whether the key that many over the least is one of them.
     pub(crate) fn reaches(self, ahead: u64) -> bool
         ensures { result ≡ nat_le (self.low + ahead) self.high }
     {
         self.low <= self.high && ahead <= self.high - self.low
+    }
+
+    // How many rows to make room for at first: one for each key, and at most 64.
+    pub(crate) fn room(self) -> usize
+        ensures { result ≤ 64 }
+    {
+        if self.low > self.high {
+            return 0;
+        }
+        let more = self.high - self.low;
+        if more < 64 { more as usize + 1 } else { 64 }
     }
 }

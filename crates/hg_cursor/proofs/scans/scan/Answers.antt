@@ -1,4 +1,4 @@
-use Rattle.std.proofs.Common.{◌≡◌, suc, ◌+◌, true, Ok, Err, sym, ◌∙◌, subst, rules, arith}
+use Rattle.std.proofs.Common.{◌≡◌, [], suc, ◌+◌, true, Ok, Err, sym, ◌∙◌, subst, rules, arith}
 use Rattle.std.proofs.lemmas.List.Sorted.{IsNonDecreasingBy-from_sort, answers_always}
 use Rattle.hg_core.specs.Contents.{has_own}
 use Rattle.hg_rule.specs.Seats.{session_view}
@@ -6,6 +6,7 @@ use Rattle.hg_store.specs.Stores.{store_buckets}
 use Rattle.hg_cursor.specs.Scans.{ScansAll, Scans}
 use Rattle.hg_cursor.proofs.Rows.{key_of}
 use Rattle.hg_cursor.proofs.Seeing.{may_read_on}
+use Rattle.hg_cursor.proofs.Trips.{adds_none}
 use Rattle.hg_cursor.proofs.ScanningOrder.{IsScanned, none_scanned, one_scanned, one_passed, stops, all_scanned}
 use Rattle.hg_cursor.proofs.scans.scan.Goals.{then-is_reached+in_ok-see_range, else-is_reached}
 use Rattle.hg_cursor.proofs.scans.scan.Goals as goal
@@ -15,7 +16,7 @@ loop-bucket-init g c =
     let count = store_buckets c.args.tables.now.store.now in
     let v = session_view c.args.pass.now in
     record {
-      scanned = subst (λ rows. IsScanned count v c.args.range.table c.args.range.low c.args.range.high 0 rows v) (sym c.new-rows.ensures.items)
+      scanned = subst (λ rows. IsScanned count v c.args.range.table c.args.range.low c.args.range.high 0 rows v) (sym c.in_ok-rows.ensures)
           (none_scanned count v c.args.range.table c.args.range.low c.args.range.high c.requires.reads.only);
       reads = c.requires.reads;
       heard = λ h. h;
@@ -54,6 +55,14 @@ loop-bucket-preserved g c =
       })
     ]
 
+pub returns-in_err-rows-clause-scans : goal.returns-in_err-rows-clause-scans
+returns-in_err-rows-clause-scans g c =
+    let count = store_buckets c.args.tables.now.store.now in
+    let v = session_view c.args.pass.now in
+    let refused : c.from_residual.result ≡ Err c.in_err-rows.field-0.0 = search rules in
+    subst (λ r. Scans count v c.args.range.table c.args.range.low c.args.range.high r v) (sym refused)
+    (record { seen = 0; within = omega arith; part = λ b. []; adds = adds_none v c.requires.reads.only })
+
 pub returns-in_err-see_range-clause-scans : goal.returns-in_err-see_range-clause-scans
 returns-in_err-see_range-clause-scans g c =
     let count = store_buckets c.args.tables.now.store.now in
@@ -63,7 +72,7 @@ returns-in_err-see_range-clause-scans g c =
     let low = c.args.range.low in
     let high = c.args.range.high in
     let reached : has_own count table low high c.loop-bucket.bucket ≡ true = search rules in
-    let refused : c.from_residual.result ≡ Err c.in_err-see_range.field-0.0 = search rules in
+    let refused : c.from_residual-in_err-see_range.result ≡ Err c.in_err-see_range.field-0.0 = search rules in
     let all : c.buckets-count.result ≡ count = search rules in
     subst (λ r. Scans count v table low high r w) (sym refused)
     (stops count v (session_view c.loop-bucket.pass) w table low high c.loop-bucket.bucket c.loop-bucket.rows.items c.see_range.new.rows.items c.see_range.result

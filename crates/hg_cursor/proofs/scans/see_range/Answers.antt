@@ -7,10 +7,10 @@ use Rattle.hg_rule.specs.Holding.{bucket}
 use Rattle.hg_rule.specs.Places.{HoldsBucket}
 use Rattle.hg_rule.specs.Seats.{board_id, sizes_of, session_view}
 use Rattle.hg_store.specs.Stores.{store_buckets}
-use Rattle.hg_cursor.specs.Keys.{AreOwn}
+use Rattle.hg_cursor.specs.Keys.{IsOwnKey, AreOwn}
 use Rattle.hg_cursor.proofs.Keys.{held_own}
 use Rattle.hg_cursor.proofs.Seeing.{look_adds, look_heard, look_own}
-use Rattle.hg_cursor.proofs.ScanningLooks.{saw_rows, sees}
+use Rattle.hg_cursor.proofs.ScanningLooks.{saw_rows, sees, on_ok, from_first}
 use Rattle.hg_cursor.proofs.Trips.{arrived, writer_beside, snapshot_beside}
 use Rattle.hg_cursor.proofs.scans.see_range.Goals as goal
 
@@ -37,8 +37,14 @@ returns-clause-sees g c =
     let own = subst (λ m. AreOwn m b (bucket u).content) all placed in
     let rows = saw_rows count (number v) b n (session v) v.sights table low high u w h k in
     let adds = look_adds v u w x b n (Read table low high) reads.only c.take-held.ensures.view k c.give.ensures.view (Saw table low high b k.rows) rows in
+    let counted : c.from-count.result ≡ count = search rules in
+    let first = c.requires.first in
+    let pushed = c.push_rows-pushed.ensures u b c.take-held.ensures.holds (subst (λ m. AreOwn m b (bucket u).content) (sym counted) own)
+    (subst (λ m. IsOwnKey m b table c.args.sought.own) (sym counted) first.1) in
     sees count (number v) b n (session v) v.sights table low high u w h k v x c.writer-by.result c.args.sought.at c.args.rows.now.items c.push_rows-pushed.new.rows.items
-    c.push_rows-pushed.result own by at (c.push_rows-pushed.ensures u c.take-held.ensures.holds own) adds
+    c.push_rows-pushed.result own by at
+    (on_ok c.push_rows-pushed.result
+    (from_first count b (bucket u).content c.writer-by.result c.args.sought.at table low c.args.sought.own high c.args.rows.now.items c.push_rows-pushed.new.rows.items own first) pushed) adds
 
 pub returns-clause-heard : goal.returns-clause-heard
 returns-clause-heard g c =

@@ -2,7 +2,7 @@ use Rattle.std.proofs.Common.{◌+◌, arith}
 use Rattle.hg_rule.specs.Holding.{bucket}
 use Rattle.hg_cursor.specs.Keys.{HasVersion}
 use Rattle.hg_cursor.proofs.Keys.{own_key, own_apart, own_next, leads_through}
-use Rattle.hg_cursor.proofs.looks.next_after.Goals as goal
+use Rattle.hg_cursor.proofs.own_keys.next_after.Goals as goal
 
 pub returns-then-high-key-clause-leads : goal.returns-then-high-key-clause-leads
 returns-then-high-key-clause-leads c = λ v b h are own k l m has.
