@@ -7,8 +7,8 @@ use Rattle.hg_core.specs.Logs.{current, begun_in, open_in, is_in, published_logs
 use Rattle.hg_core.specs.Phases.{IsSession}
 use Rattle.hg_core.specs.Commits.{AloneHaveLogs}
 use Rattle.hg_core.specs.State.{CoreState, opened}
-use Rattle.hg_core.specs.Events.{Event, Declare, Probe, Enter, Fix, GoLive, End, Mark, Sample, SampleMask, Move, Install, Undo, Stamp, Publish, Reclaim, Take, Look, put, happens, May}
-use Rattle.hg_core.specs.Steps.{Step, Act, Arrive, Leave, Split, step, Can, Run, run, Always}
+use Rattle.hg_core.specs.Events.{Event, Declare, Probe, Enter, Fix, GoLive, End, Mark, Sample, SampleMask, Move, Miss, Install, Undo, Stamp, Publish, Reclaim, Take, Look, put, happens, May}
+use Rattle.hg_core.specs.Steps.{Step, Act, Arrive, Leave, Split, Unite, step, Can, Run, run, Always}
 use Rattle.hg_core.specs.Contents.{versions}
 use Rattle.hg_core.specs.OpenWrites.{writer_of}
 use Rattle.hg_core.specs.Invariant.{IsSteady}
@@ -43,6 +43,7 @@ event_alone s (Mark p known) h may a = a
 event_alone s (Sample p j) h may a = a
 event_alone s (SampleMask p j) h may a = a
 event_alone s (Move p j) h may a = a
+event_alone s (Miss p j number) h may a = a
 event_alone s (Install j r image) h may a = put_log s.sessions j s.log _ (session_at s j h (λ e. let z = sym may.2.live ∙ e in cc)) a
 event_alone s (Undo j r) h may a = put_log s.sessions j s.log _ writes a
   where
@@ -56,7 +57,7 @@ event_alone s (Undo j r) h may a = put_log s.sessions j s.log _ writes a
 event_alone s (Stamp j r) h may a = a
 event_alone s (Publish js) h may a = published_log s.sessions _ s.log js (λ j e. each_in (λ k. IsSome (current (s.log k))) js j may.opened e) a
 event_alone s (Reclaim p kind r) h may a = a
-event_alone s Take h may a = a
+event_alone s (Take p) h may a = a
 event_alone s (Look j ask b rows) h may a = put_log s.sessions j s.log _ (session_at s j h (λ e. let z = sym may.2.live ∙ e in cc)) a
 
 step_alone : (s : CoreState) (e : Step) → IsSteady s → Can s e → AloneHaveLogs s.sessions s.log → AloneHaveLogs (step s e).sessions (step s e).log
@@ -73,16 +74,18 @@ step_alone s (Act event) h may a = same event (event_alone s event h may a)
     same (Sample p j) a = a
     same (SampleMask p j) a = a
     same (Move p j) a = a
+    same (Miss p j number) a = a
     same (Install j r image) a = a
     same (Undo j r) a = a
     same (Stamp j r) a = a
     same (Publish js) a = a
     same (Reclaim p kind r) a = a
-    same Take a = a
+    same (Take p) a = a
     same (Look j ask b rows) a = a
 step_alone s (Arrive p b) h may a = a
 step_alone s (Leave p) h may a = a
 step_alone s (Split p) h may a = a
+step_alone s (Unite p q m) h may a = a
 
 run_alone : (s : CoreState) (steps : List Step) → IsSteady s → AloneHaveLogs s.sessions s.log → Run s steps → AloneHaveLogs (run s steps).sessions (run s steps).log
 run_alone s [] h a r = a

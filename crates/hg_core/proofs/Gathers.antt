@@ -1,5 +1,5 @@
 -- The events of a collector's pass: each changes the pass's record, and a move the register too.
-use Rattle.std.proofs.Common.{◌≡◌, ℕ, ◌≤◌, List, [], length, Option, Some, None, Bool, true, false, inl, inr, refl, sym, subst, arith}
+use Rattle.std.proofs.Common.{◌≡◌, ℕ, suc, ◌<◌, ◌≤◌, List, [], length, Option, Some, None, Bool, true, false, inl, inr, refl, sym, subst, arith}
 use Rattle.std.specs.Prelude.{if◌then◌else◌, IfSome}
 use Rattle.hg_base.specs.declared.scope.Scope.{Scope}
 use Rattle.hg_base.specs.declared.scope.Scope.TheVariants as scopes
@@ -9,10 +9,12 @@ use Rattle.hg_core.specs.declared.register.Register.{Register}
 use Rattle.hg_core.specs.declared.register.Register.TheVariants as registers
 use Rattle.hg_core.specs.declared.phase.Phase.{Phase}
 use Rattle.hg_core.specs.declared.phase.Phase.TheVariants.{Idle, Declared, Probed, Entered, Fixed, Live}
+use Rattle.hg_core.specs.Words.{number_of}
+use Rattle.hg_core.specs.declared.journal.PassEntry.TheVariants.{Tried, Took}
 use Rattle.hg_core.specs.Phases.{scope_in}
 use Rattle.hg_core.specs.Passes.{PassRecord, found}
 use Rattle.hg_core.specs.State.{CoreState}
-use Rattle.hg_core.specs.Events.{put, moved, moved_in, masked_in, begun_record, sampled, happens, May, Mark, Sample, SampleMask, Move}
+use Rattle.hg_core.specs.Events.{put, moved, moved_in, masked_in, noting, begun_record, sampled, masked, moved_at, happens, May, Mark, Sample, SampleMask, Move, Miss, Take}
 use Rattle.hg_core.specs.Registers.{Shows, IsMaskOf, RegistersAgree}
 use Rattle.hg_core.specs.Bounds.{IsWithin, Bounds}
 use Rattle.hg_core.specs.Reach.{StandsIn}
@@ -77,7 +79,7 @@ with_record s p more register h agree low known told = record {
 -- ---- the mark, and a register
 
 pub mark_kept : (s : CoreState) (p : ℕ) (known : ℕ → ℕ) → IsSteady s → May s (Mark p known) → IsSteady (happens s (Mark p known))
-mark_kept s p known h may = with_record s p (begun_record s.mark known) s.register h h.registers_agree (omega arith) may (λ j. tt)
+mark_kept s p known h may = with_record s p (begun_record s.mark known (s.pass p)) s.register h h.registers_agree (omega arith) may.known_of (λ j. tt)
 
 -- what a register that is loaded now bounds
 pub bounds_now : (mark : ℕ) (register : Register) (p : Phase) → Shows p register → Bounds mark (record { register = register; mask = None }) p
@@ -123,7 +125,7 @@ pub sample_mask_kept : (s : CoreState) (p j : ℕ) → IsSteady s → May s (Sam
 sample_mask_kept s p j h (number, was_moved, found_it) =
     let one : Loaded = record { register = registers.Live number true was_moved; mask = None } in
     let now = found_one (IsTold s (s.pass p) j) _ one found_it (told s p h j) in
-    with_record s p (record (s.pass p) { loaded = masked_in j (s.mask j) (s.pass p).loaded }) s.register h h.registers_agree (h.mark_is_length.passes p) (h.records_reach_logs.known p)
+    with_record s p (masked (s.pass p) j (s.mask j)) s.register h h.registers_agree (h.mark_is_length.passes p) (h.records_reach_logs.known p)
     (changed_each (IsTold s (s.pass p)) _ j one (s.pass p).loaded found_it
     (bounds_masked s.tables _ number (s.mask j) was_moved (s.phase j) (h.registers_agree.masks j) now.0, now.1)
     (told s p h))
@@ -166,7 +168,7 @@ move_kept s p j h (n, mask, may) =
     let one : Loaded = record { register = registers.Live n true false; mask = mask } in
     let shown : Shows (s.phase j) (registers.Live n true true) = moved_shows n (s.phase j) (subst (Shows (s.phase j)) may.shown (h.registers_agree.shows j)) in
     let was = found_one (IsTold s (s.pass p) j) _ one may.loaded (told s p h j) in
-    with_record s p (record (s.pass p) { loaded = moved_in j (s.pass p).loaded }) (put s.register j (moved (s.register j))) h
+    with_record s p (moved_at (s.pass p) j (number_of (s.register j))) (put s.register j (moved (s.register j))) h
     (record {
       shows = by_number j (λ k b. Shows (s.phase k) (if b then moved (s.register j) else s.register k)) (rw may.shown shown) (λ k other. h.registers_agree.shows k);
       masks = h.registers_agree.masks;
@@ -176,3 +178,34 @@ move_kept s p j h (n, mask, may) =
     (changed_each (IsTold s (s.pass p)) _ j one (s.pass p).loaded may.loaded
     (bounds_moved _ n mask (s.phase j) was.0, stands_moved _ n (s.log j) (s.phase j) was.1)
     (told s p h))
+
+pub miss_kept : (s : CoreState) (p j number : ℕ) → IsSteady s → May s (Miss p j number) → IsSteady (happens s (Miss p j number))
+miss_kept s p j number h may = with_record s p (noting (Tried j number false) (s.pass p)) s.register h h.registers_agree (h.mark_is_length.passes p) (h.records_reach_logs.known p) (told s p h)
+
+-- ---- a group taken
+
+taken_more : (s : CoreState) → IsSteady s → s.taken < s.mark → IsSteady (record s { taken = suc s.taken })
+taken_more s h left = record {
+  mark_is_length = h.mark_is_length;
+  registers_agree = h.registers_agree;
+  covered = h.covered;
+  open_writes_stand = h.open_writes_stand;
+  stamped_is_next = h.stamped_is_next;
+  contents_are_ordered = h.contents_are_ordered;
+  contents_are_placed = h.contents_are_placed;
+  visits_stay = h.visits_stay;
+  counters_balance = h.counters_balance;
+  records_bound_sessions = h.records_bound_sessions;
+  open_writes_may_commit = h.open_writes_may_commit;
+  history = h.history;
+  no_update_is_lost = h.no_update_is_lost;
+  logs_answer = h.logs_answer;
+  replies_answer = h.replies_answer;
+  records_reach_logs = h.records_reach_logs;
+  taken_at_most_mark = omega (arith, left);
+}
+
+pub take_kept : (s : CoreState) (p : ℕ) → IsSteady s → May s (Take p) → IsSteady (happens s (Take p))
+take_kept s p h may =
+    let noted : PassRecord = noting (Took (suc s.taken)) (s.pass p) in
+    taken_more (record s { pass = put s.pass p noted }) (with_record s p noted s.register h h.registers_agree (h.mark_is_length.passes p) (h.records_reach_logs.known p) (told s p h)) may.left

@@ -36,7 +36,10 @@ pub mod Fences
 pub mod Sweep
 pub mod Reclaiming
 pub mod Seats
+pub mod Unions
 pub mod Runs
+pub mod Causes
+pub mod Moves
 -- What follows from it: of commits, counts, removals, and boards at rest.
 pub mod Earlier
 pub mod Commits

@@ -27,7 +27,7 @@ use Rattle.hg_core.specs.OpenWrites.{writer_of}
 use Rattle.hg_core.specs.Covered.{Reads}
 use Rattle.hg_core.specs.Replies.{read_by, in_bucket, refused_over, refused_by, refusal, writes_in, numbers_in, Refuses, IsReplied}
 use Rattle.hg_core.specs.State.{CoreState}
-use Rattle.hg_core.specs.Events.{put, with_refusal, happens, May, Look, Take}
+use Rattle.hg_core.specs.Events.{put, with_refusal, happens, May, Look}
 use Rattle.hg_core.specs.Invariant.{IsSteady}
 use Rattle.hg_core.proofs.Indices.{by_number, only_put, only_same}
 use Rattle.hg_core.proofs.Recalls.{reach_step}
@@ -219,26 +219,3 @@ look_kept s j (asks.Write r) b rows h (at, scope, may) = subst (λ n. IsSteady (
               does = subst (λ x. IsSome (image_in r (writes_in x (s.log k)))) (sym number) stands.does;
               after = subst (λ x. Each (λ c. at < c) (numbers_in x (s.log k))) (sym number) (subst (Each (λ c. at < c)) (sym stands.unnumbered) tt);
             })
-
--- ---- a group taken
-
-pub take_kept : (s : CoreState) → IsSteady s → May s Take → IsSteady (happens s Take)
-take_kept s h may = record {
-  mark_is_length = h.mark_is_length;
-  registers_agree = h.registers_agree;
-  covered = h.covered;
-  open_writes_stand = h.open_writes_stand;
-  stamped_is_next = h.stamped_is_next;
-  contents_are_ordered = h.contents_are_ordered;
-  contents_are_placed = h.contents_are_placed;
-  visits_stay = h.visits_stay;
-  counters_balance = h.counters_balance;
-  records_bound_sessions = h.records_bound_sessions;
-  open_writes_may_commit = h.open_writes_may_commit;
-  history = h.history;
-  no_update_is_lost = h.no_update_is_lost;
-  logs_answer = h.logs_answer;
-  replies_answer = h.replies_answer;
-  records_reach_logs = h.records_reach_logs;
-  taken_at_most_mark = omega (arith, may);
-}

@@ -43,7 +43,7 @@ mark_last_refused keeps = elim ((keeps (after early_sample) 0 (steady early_samp
 
 pub left_out_refused : ((s : CoreState) (p j : ℕ) → IsSteady s → May s (Sample p j) → IsSteady (sampled_without_entering s p j)) → ⊥
 left_out_refused keeps = elim ((keeps (after low_fix) 0 1 (steady low_fix low_fix_runs)
-    (record { session = record { first = omega arith; last = omega arith }; fresh = refl })).records_bound_sessions 0 1) [
+    (record { session = record { first = omega arith; last = omega arith }; fresh = refl; there = omega arith })).records_bound_sessions 0 1) [
       | inl a ↦ omega arith
       | inr a ↦ a
     ]
@@ -66,7 +66,7 @@ undeclared_refused keeps = let z : 0 ≡ 1 = ((keeps (after no_tables) 1 0 (Decl
 -- the pass loaded the mask before it was stored, and takes the table's versions for nobody's
 pub stored_late_refused : ((s : CoreState) (p j m : ℕ) (scope : Scope) → IsSteady s → MaySample s p j → MayGoLiveWith s j m scope → IsSteady (mask_stored_late s p j m scope)) → ⊥
 stored_late_refused keeps = elim ((keeps (after no_tables) 0 1 0 (Declared 1) (steady no_tables no_tables_runs)
-    (record { session = record { first = omega arith; last = omega arith }; fresh = refl }) other_tables).records_bound_sessions 0 1) [
+    (record { session = record { first = omega arith; last = omega arith }; fresh = refl; there = omega arith }) other_tables).records_bound_sessions 0 1) [
       | inl a ↦ omega arith
       | inr a ↦ elim a [ inl b ↦ b | inr b ↦ (let z = b.2 (record { 0 = 0 }) refl in cc) ]
     ]
@@ -74,7 +74,7 @@ stored_late_refused keeps = elim ((keeps (after no_tables) 0 1 0 (Declared 1) (s
 -- the pass loaded the mask before session 1 began
 pub loaded_first_refused : ((s : CoreState) (p j : ℕ) (steps : List Step) → IsSteady s → Run s steps → MaySample (run s steps) p j → IsSteady (sampled_with (run s steps) p j (s.mask j))) → ⊥
 loaded_first_refused keeps = elim ((keeps (after []) 0 1 early_live (steady [] tt) early_live_runs
-    (record { session = record { first = omega arith; last = omega arith }; fresh = refl })).records_bound_sessions 0 1) [
+    (record { session = record { first = omega arith; last = omega arith }; fresh = refl; there = omega arith })).records_bound_sessions 0 1) [
       | inl a ↦ omega arith
       | inr a ↦ elim a [ inl b ↦ b | inr b ↦ (let z = b.2 (record { 0 = 0 }) refl in cc) ]
     ]

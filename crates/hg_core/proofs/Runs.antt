@@ -1,20 +1,21 @@
 -- Each event keeps the invariant, so it holds after every list of events.
-use Rattle.std.proofs.Common.{ℕ, List, [], ◌∷◌, inl, inr, refl, arith, ◌≡◌, sym, ◌∙◌}
+use Rattle.std.proofs.Common.{ℕ, List, [], ◌∷◌, ◌++◌, inl, inr, refl, arith, ◌≡◌, sym, ap, subst, ◌∙◌}
 use Rattle.hg_core.specs.State.{CoreState, opened}
-use Rattle.hg_core.specs.Events.{Event, Declare, Probe, Enter, Fix, GoLive, End, Mark, Sample, SampleMask, Move, Install, Undo, Stamp, Publish, Reclaim, Take, Look, happens, May}
-use Rattle.hg_core.specs.Steps.{Step, Act, Arrive, Leave, Split, step, Can, Run, run, Always}
+use Rattle.hg_core.specs.Events.{Event, Declare, Probe, Enter, Fix, GoLive, End, Mark, Sample, SampleMask, Move, Miss, Install, Undo, Stamp, Publish, Reclaim, Take, Look, happens, May}
+use Rattle.hg_core.specs.Steps.{Step, Act, Arrive, Leave, Split, Unite, step, Can, Run, run, LeadsTo, Always}
 use Rattle.hg_core.specs.Invariant.{IsSteady}
 use Rattle.hg_core.proofs.Begins.{declare_kept, probe_kept, enter_kept, fix_kept, go_live_kept, end_kept}
-use Rattle.hg_core.proofs.Gathers.{mark_kept, sample_kept, sample_mask_kept, move_kept}
+use Rattle.hg_core.proofs.Gathers.{mark_kept, sample_kept, sample_mask_kept, move_kept, miss_kept, take_kept}
 use Rattle.hg_core.proofs.Writing.{install_kept, undo_kept, stamp_kept}
 use Rattle.hg_core.proofs.Publishing.{publish_kept}
-use Rattle.hg_core.proofs.Looking.{look_kept, take_kept}
+use Rattle.hg_core.proofs.Looking.{look_kept}
 use Rattle.hg_core.proofs.Reclaiming.{reclaim_kept}
 use Rattle.hg_core.proofs.Sums.{sum_none, below_none}
 use Rattle.hg_core.specs.Counters.{no_counters, removed_by}
 use Rattle.hg_base.specs.declared.report.Kind.{Kind}
 use Rattle.hg_base.specs.declared.report.Kind.TheVariants.{Group, Table, Interval}
 use Rattle.hg_core.proofs.Seats.{arrive_kept, leave_kept, split_kept}
+use Rattle.hg_core.proofs.Unions.{unite_kept}
 
 pub kept : (s : CoreState) (e : Event) → IsSteady s → May s e → IsSteady (happens s e)
 kept s (Declare j scope) h may = declare_kept s j scope h may
@@ -27,12 +28,13 @@ kept s (Mark p known) h may = mark_kept s p known h may
 kept s (Sample p j) h may = sample_kept s p j h may
 kept s (SampleMask p j) h may = sample_mask_kept s p j h may
 kept s (Move p j) h may = move_kept s p j h may
+kept s (Miss p j number) h may = miss_kept s p j number h may
 kept s (Install j r image) h may = install_kept s j r image h may
 kept s (Undo j r) h may = undo_kept s j r h may
 kept s (Stamp j r) h may = stamp_kept s j r h may
 kept s (Publish sessions) h may = publish_kept s sessions h may
 kept s (Reclaim p kind r) h may = reclaim_kept s p kind r h may
-kept s Take h may = take_kept s h may
+kept s (Take p) h may = take_kept s p h may
 kept s (Look j ask b rows) h may = look_kept s j ask b rows h may
 
 pub step_kept : (s : CoreState) (e : Step) → IsSteady s → Can s e → IsSteady (step s e)
@@ -40,6 +42,7 @@ step_kept s (Act event) h may = kept s event h may
 step_kept s (Arrive p b) h may = arrive_kept s p b h may
 step_kept s (Leave p) h may = leave_kept s p h may
 step_kept s (Split p) h may = split_kept s p h may
+step_kept s (Unite p q m) h may = unite_kept s p q m h may
 
 pub run_kept : (s : CoreState) (steps : List Step) → IsSteady s → Run s steps → IsSteady (run s steps)
 run_kept s [] h r = h
@@ -83,3 +86,26 @@ opened_steady sessions tables buckets passes quota = record {
 
 pub steady_after : Always IsSteady
 steady_after sessions tables buckets passes quota steps r = run_kept (opened sessions tables buckets passes quota) steps (opened_steady sessions tables buckets passes quota) r
+
+-- ---- states that are reached
+
+pub run_append : (s : CoreState) (steps more : List Step) → run s (steps ++ more) ≡ run (run s steps) more
+run_append s [] more = refl
+run_append s (e ∷ steps) more = run_append (step s e) steps more
+
+pub may_append : (s : CoreState) (steps more : List Step) → Run s steps → Run (run s steps) more → Run s (steps ++ more)
+may_append s [] more r m = m
+may_append s (e ∷ steps) more r m = (r.0, may_append (step s e) steps more r.1 m)
+
+pub reached_first : (s : CoreState) → LeadsTo s s
+reached_first s = record { steps = []; may = tt; leads = refl }
+
+pub reached_next : (start s : CoreState) (e : Step) → LeadsTo start s → Can s e → LeadsTo start (step s e)
+reached_next start s e r can = record {
+  steps = r.steps ++ e ∷ [];
+  may = may_append start r.steps (e ∷ []) r.may (subst (λ c. Can c e) (sym r.leads) can, tt);
+  leads = run_append start r.steps (e ∷ []) ∙ ap (λ c. step c e) r.leads;
+}
+
+pub reached_steady : (sessions tables buckets passes quota : ℕ) (s : CoreState) → LeadsTo (opened sessions tables buckets passes quota) s → IsSteady s
+reached_steady sessions tables buckets passes quota s r = subst IsSteady r.leads (steady_after sessions tables buckets passes quota r.steps r.may)

@@ -84,7 +84,7 @@ split_kept s p h may = record {
   mark_is_length = record {
     is_length = h.mark_is_length.is_length;
     sessions = h.mark_is_length.sessions;
-    passes = by_number s.passes (λ q b. (if b then s.pass p else s.pass q).mark ≤ s.mark) (h.mark_is_length.passes p) (λ q other. h.mark_is_length.passes q);
+    passes = by_number s.passes (λ q b. (if b then record (s.pass p) { journal = [] } else s.pass q).mark ≤ s.mark) (h.mark_is_length.passes p) (λ q other. h.mark_is_length.passes q);
   };
   registers_agree = h.registers_agree;
   covered = h.covered;
@@ -93,7 +93,7 @@ split_kept s p h may = record {
   contents_are_ordered = h.contents_are_ordered;
   contents_are_placed = h.contents_are_placed;
   records_bound_sessions = by_number s.passes (λ q b. (j : ℕ) →
-      IfSome (found j (if b then s.pass p else s.pass q).loaded) (λ loaded. Bounds (if b then s.pass p else s.pass q).mark loaded (s.phase j))) (h.records_bound_sessions p)
+      IfSome (found j (if b then record (s.pass p) { journal = [] } else s.pass q).loaded) (λ loaded. Bounds (if b then record (s.pass p) { journal = [] } else s.pass q).mark loaded (s.phase j))) (h.records_bound_sessions p)
       (λ q other. h.records_bound_sessions q);
   open_writes_may_commit = h.open_writes_may_commit;
   history = h.history;
@@ -101,9 +101,9 @@ split_kept s p h may = record {
   logs_answer = h.logs_answer;
   replies_answer = h.replies_answer;
   records_reach_logs = record {
-    known = by_number s.passes (λ q b. (j : ℕ) → (if b then s.pass p else s.pass q).known j ≤ length (s.log j)) (h.records_reach_logs.known p) (λ q other. h.records_reach_logs.known q);
-    stands = by_number s.passes (λ q b. (j : ℕ) → IfSome (found j (if b then s.pass p else s.pass q).loaded)
-        (λ loaded. StandsIn ((if b then s.pass p else s.pass q).known j) loaded.register (s.log j) (s.phase j))) (h.records_reach_logs.stands p) (λ q other. h.records_reach_logs.stands q);
+    known = by_number s.passes (λ q b. (j : ℕ) → (if b then record (s.pass p) { journal = [] } else s.pass q).known j ≤ length (s.log j)) (h.records_reach_logs.known p) (λ q other. h.records_reach_logs.known q);
+    stands = by_number s.passes (λ q b. (j : ℕ) → IfSome (found j (if b then record (s.pass p) { journal = [] } else s.pass q).loaded)
+        (λ loaded. StandsIn ((if b then record (s.pass p) { journal = [] } else s.pass q).known j) loaded.register (s.log j) (s.phase j))) (h.records_reach_logs.stands p) (λ q other. h.records_reach_logs.stands q);
   };
   taken_at_most_mark = h.taken_at_most_mark;
   counters_balance = record {

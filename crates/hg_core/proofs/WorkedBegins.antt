@@ -49,7 +49,7 @@ slow_begin_runs = (
                         publishes _ _ _ _ refl,
                         (
                           record { live = refl; none = λ r. refl },
-                          ((λ j. omega arith), (record { session = first; fresh = refl }, (record { session = second; fresh = refl }, ((0, refl), tt)))),
+                          (record { there = omega arith; known_of = λ j. omega arith }, (record { session = first; fresh = refl; there = omega arith }, (record { session = second; fresh = refl; there = omega arith }, ((0, refl), tt)))),
                         ),
                       ),
                     ),
@@ -97,7 +97,7 @@ late_entry_runs = (
                 ),
                 (
                   record { mine = refl; plain = refl },
-                  (publishes _ _ _ _ refl, (record { live = refl; none = λ r. refl }, ((λ j. omega arith), (record { session = first; fresh = refl }, ((All, refl), tt))))),
+                  (publishes _ _ _ _ refl, (record { live = refl; none = λ r. refl }, (record { there = omega arith; known_of = λ j. omega arith }, (record { session = first; fresh = refl; there = omega arith }, ((All, refl), tt))))),
                 ),
               ),
             ),
@@ -111,9 +111,9 @@ late_entry_runs = (
 pub early_sample_runs : Run (opened 2 1 1 1 1) early_sample
 unfolding bucket_of
 early_sample_runs = (
-  (λ j. omega arith),
+  record { there = omega arith; known_of = λ j. omega arith },
   (
-    record { session = first; fresh = refl },
+    record { session = first; fresh = refl; there = omega arith },
     (
       record { session = first; rests = refl; room = omega arith; tables = tt },
       (
@@ -199,7 +199,7 @@ low_fix_runs = (
                         newest = tt;
                       },
                     ),
-                    (record { mine = refl; plain = refl }, (publishes _ _ _ _ refl, (record { live = refl; none = λ r. refl }, ((λ j. omega arith), tt)))),
+                    (record { mine = refl; plain = refl }, (publishes _ _ _ _ refl, (record { live = refl; none = λ r. refl }, (record { there = omega arith; known_of = λ j. omega arith }, tt)))),
                   ),
                 ),
               ),

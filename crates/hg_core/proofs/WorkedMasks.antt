@@ -42,7 +42,7 @@ no_tables_runs = (
                         newest = tt;
                       },
                     ),
-                    (record { mine = refl; plain = refl }, (publishes _ _ _ _ refl, (record { live = refl; none = λ r. refl }, ((λ j. omega arith), tt)))),
+                    (record { mine = refl; plain = refl }, (publishes _ _ _ _ refl, (record { live = refl; none = λ r. refl }, (record { there = omega arith; known_of = λ j. omega arith }, tt)))),
                   ),
                 ),
               ),
@@ -91,7 +91,7 @@ early_live_runs = (
                           newest = tt;
                         },
                       ),
-                      (record { mine = refl; plain = refl }, (publishes _ _ _ _ refl, (record { live = refl; none = λ r. refl }, ((λ j. omega arith), tt)))),
+                      (record { mine = refl; plain = refl }, (publishes _ _ _ _ refl, (record { live = refl; none = λ r. refl }, (record { there = omega arith; known_of = λ j. omega arith }, tt)))),
                     ),
                   ),
                 ),
@@ -179,18 +179,18 @@ no_masks_runs = (
                                             (
                                               record { live = refl; none = λ r. refl },
                                               (
-                                                (λ j. omega arith),
+                                                record { there = omega arith; known_of = λ j. omega arith },
                                                 (
-                                                  record { session = first; fresh = refl },
+                                                  record { session = first; fresh = refl; there = omega arith },
                                                   (
                                                     (1, false, refl),
                                                     (
-                                                      record { session = second; fresh = refl },
+                                                      record { session = second; fresh = refl; there = omega arith },
                                                       (
                                                         record { pass = omega arith; bucket = omega arith },
                                                         (
                                                           (1, Some 1, record { shown = refl; loaded = refl }),
-                                                          ((λ j. omega arith), (record { session = first; fresh = refl }, (record { session = second; fresh = refl }, tt))),
+                                                          (record { there = omega arith; known_of = λ j. omega arith }, (record { session = first; fresh = refl; there = omega arith }, (record { session = second; fresh = refl; there = omega arith }, tt))),
                                                         ),
                                                       ),
                                                     ),

@@ -83,10 +83,10 @@ two_versions_runs image = (
                                             (
                                               record { live = refl; none = λ r. refl },
                                               (
-                                                (λ j. omega arith),
+                                                record { there = omega arith; known_of = λ j. omega arith },
                                                 (
-                                                  record { session = first; fresh = refl },
-                                                  ((1, false, refl), (record { session = second; fresh = refl }, (record { pass = omega arith; bucket = omega arith }, tt))),
+                                                  record { session = first; fresh = refl; there = omega arith },
+                                                  ((1, false, refl), (record { session = second; fresh = refl; there = omega arith }, (record { pass = omega arith; bucket = omega arith }, tt))),
                                                 ),
                                               ),
                                             ),
@@ -188,13 +188,13 @@ moved_snapshot_runs = (
                                             (
                                               record { live = refl; none = λ r. refl },
                                               (
-                                                (λ j. omega arith),
+                                                record { there = omega arith; known_of = λ j. omega arith },
                                                 (
-                                                  record { session = first; fresh = refl },
+                                                  record { session = first; fresh = refl; there = omega arith },
                                                   (
                                                     (1, false, refl),
                                                     (
-                                                      record { session = second; fresh = refl },
+                                                      record { session = second; fresh = refl; there = omega arith },
                                                       (record { pass = omega arith; bucket = omega arith }, ((1, Some 1, record { shown = refl; loaded = refl }), tt)),
                                                     ),
                                                   ),

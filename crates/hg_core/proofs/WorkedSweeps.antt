@@ -82,8 +82,8 @@ late_snapshot_runs = (
                                             (
                                               (2, refl),
                                               (
-                                                (λ j. omega arith),
-                                                (record { session = first; fresh = refl }, (record { session = second; fresh = refl }, (record { pass = omega arith; bucket = omega arith }, tt))),
+                                                record { there = omega arith; known_of = λ j. omega arith },
+                                                (record { session = first; fresh = refl; there = omega arith }, (record { session = second; fresh = refl; there = omega arith }, (record { pass = omega arith; bucket = omega arith }, tt))),
                                               ),
                                             ),
                                           ),
@@ -184,11 +184,11 @@ swept_visit_runs = (
                                             (
                                               (2, refl),
                                               (
-                                                (λ j. omega arith),
+                                                record { there = omega arith; known_of = λ j. omega arith },
                                                 (
-                                                  record { session = first; fresh = refl },
+                                                  record { session = first; fresh = refl; there = omega arith },
                                                   (
-                                                    record { session = second; fresh = refl },
+                                                    record { session = second; fresh = refl; there = omega arith },
                                                     (record { pass = omega arith; bucket = omega arith }, (record { whole = late_whole; here = (refl, refl) }, ((0, (refl, refl)), tt))),
                                                   ),
                                                 ),

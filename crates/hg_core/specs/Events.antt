@@ -9,12 +9,14 @@ use Rattle.hg_base.specs.Lists.{Each}
 use Rattle.hg_base.specs.History.{NoNumberTwice}
 use Rattle.hg_base.specs.Freshness.{is_declared}
 use Rattle.hg_core.specs.declared.loaded.Loaded.{Loaded}
+use Rattle.hg_core.specs.declared.journal.PassEntry.{PassEntry}
+use Rattle.hg_core.specs.declared.journal.PassEntry.TheVariants.{Marked, Sampled, Masked, Tried, Took}
 use Rattle.hg_core.specs.declared.register.Register.{Register}
 use Rattle.hg_core.specs.declared.register.Register.TheVariants as registers
 use Rattle.hg_core.specs.declared.phase.Phase.TheVariants.{Idle, Declared, Probed, Entered, Fixed, Live}
 use Rattle.hg_core.specs.declared.log.LogEntry.{LogEntry}
 use Rattle.hg_core.specs.declared.log.LogEntry.TheVariants.{Began, Saw, Refused, Outside, Wrote, Undid, Over}
-use Rattle.hg_core.specs.Words.{IsBelow, mask_of}
+use Rattle.hg_core.specs.Words.{IsBelow, mask_of, number_of}
 use Rattle.hg_core.specs.Logs.{current, snapshot_number, begans, wrotes, is_plain, open_in, begun_in, is_in, new_group, published_logs}
 use Rattle.hg_core.specs.Phases.{IsSession, declared_in, snapshot_in}
 use Rattle.hg_core.specs.Passes.{PassRecord, found, IsWhole}
@@ -38,10 +40,10 @@ use Rattle.hg_core.specs.State.{CoreState}
 -- A session stores its mask word (Declare), loads the mark (Probe), shows that it enters at it (Enter), loads the mark again
 -- (Fix), shows the second as its snapshot (GoLive), and goes to rest (End). A pass of a collector begins a record (Mark),
 -- loads a register (Sample), and the mask word where that is live and declared (SampleMask), and moves a long snapshot
--- (Move). A session stores a write (Install) or takes it back (Undo). A committer gives an open write the next number
+-- (Move), or comes too late to move it (Miss). A session stores a write (Install) or takes it back (Undo). A committer gives an open write the next number
 -- (Stamp), and publishes the transactions of some sessions as one group (Publish). A pass takes away versions of a record
--- (Reclaim). A session reads a range in a bucket, or tries a write, or names a table outside (Look). The group collector
--- takes the oldest group out of the committer's list (Take).
+-- (Reclaim), and takes the oldest group out of the committer's list (Take). A session reads a range in a bucket, or tries a
+-- write, or names a table outside (Look).
 pub data Event : Type 0 where
   Declare : (j : ℕ) → (scope : Scope) → Event
   Probe : (j : ℕ) → Event
@@ -53,12 +55,13 @@ pub data Event : Type 0 where
   Sample : (p j : ℕ) → Event
   SampleMask : (p j : ℕ) → Event
   Move : (p j : ℕ) → Event
+  Miss : (p j number : ℕ) → Event
   Install : (j : ℕ) → (r : Rid) → (image : Image) → Event
   Undo : (j : ℕ) → (r : Rid) → Event
   Stamp : (j : ℕ) → (r : Rid) → Event
   Publish : (sessions : List ℕ) → Event
   Reclaim : (p : ℕ) → (kind : Kind) → (r : Rid) → Event
-  Take : Event
+  Take : (p : ℕ) → Event
   Look : (j : ℕ) → (ask : Ask) → (b : ℕ) → (rows : List (ℕ × List Value)) → Event
 
 -- f with another value at j
@@ -84,13 +87,25 @@ moved_in j loaded = changed_in (λ one. record one { register = moved one.regist
 abbrev pub masked_in : ℕ → ℕ → List (ℕ × Loaded) → List (ℕ × Loaded)
 masked_in j mask loaded = changed_in (λ one. record one { mask = Some mask }) j loaded
 
--- the record of a pass that loads the mark
-abbrev pub begun_record : ℕ → (ℕ → ℕ) → PassRecord
-begun_record mark known = record { mark = mark; known = known; loaded = [] }
+-- a record whose journal has an entry more
+abbrev pub noting : PassEntry → PassRecord → PassRecord
+noting entry pass = record pass { journal = pass.journal ++ entry ∷ [] }
+
+-- the record of a pass that loads the mark, which begins its next round
+abbrev pub begun_record : ℕ → (ℕ → ℕ) → PassRecord → PassRecord
+begun_record mark known pass = record { mark = mark; round = suc pass.round; known = known; loaded = []; journal = pass.journal ++ Marked mark ∷ [] }
 
 -- a record with a register more, of which no mask is loaded yet
 abbrev pub sampled : PassRecord → ℕ → Register → PassRecord
-sampled pass j register = record pass { loaded = (j, record { register = register; mask = None }) ∷ pass.loaded }
+sampled pass j register = record pass { loaded = (j, record { register = register; mask = None }) ∷ pass.loaded; journal = pass.journal ++ Sampled j register ∷ [] }
+
+-- a record with the mask word of session j
+abbrev pub masked : PassRecord → ℕ → ℕ → PassRecord
+masked pass j mask = record pass { loaded = masked_in j mask pass.loaded; journal = pass.journal ++ Masked j mask ∷ [] }
+
+-- a record whose entry of session j was moved at this number
+abbrev pub moved_at : PassRecord → ℕ → ℕ → PassRecord
+moved_at pass j number = record pass { loaded = moved_in j pass.loaded; journal = pass.journal ++ Tried j number true ∷ [] }
 
 -- a log with a refusal, where there is one
 abbrev pub with_refusal : Rid → Option Answer → List LogEntry → List LogEntry
@@ -132,10 +147,11 @@ happens s (Enter j f) = record s { phase = put s.phase j (Entered (declared_in (
 happens s (Fix j f) = record s { phase = put s.phase j (Fixed (declared_in (s.phase j)) f s.mark) }
 happens s (GoLive j m scope) = record s { phase = put s.phase j (Live m scope); register = put s.register j (registers.Live m (is_declared scope) false); log = put s.log j (Began m scope ∷ s.log j) }
 happens s (End j) = record s { phase = put s.phase j Idle; register = put s.register j registers.Idle; log = put s.log j (Over ∷ s.log j) }
-happens s (Mark p known) = record s { pass = put s.pass p (begun_record s.mark known) }
+happens s (Mark p known) = record s { pass = put s.pass p (begun_record s.mark known (s.pass p)) }
 happens s (Sample p j) = record s { pass = put s.pass p (sampled (s.pass p) j (s.register j)) }
-happens s (SampleMask p j) = record s { pass = put s.pass p (record (s.pass p) { loaded = masked_in j (s.mask j) (s.pass p).loaded }) }
-happens s (Move p j) = record s { register = put s.register j (moved (s.register j)); pass = put s.pass p (record (s.pass p) { loaded = moved_in j (s.pass p).loaded }) }
+happens s (SampleMask p j) = record s { pass = put s.pass p (masked (s.pass p) j (s.mask j)) }
+happens s (Move p j) = record s { register = put s.register j (moved (s.register j)); pass = put s.pass p (moved_at (s.pass p) j (number_of (s.register j))) }
+happens s (Miss p j number) = record s { pass = put s.pass p (noting (Tried j number false) (s.pass p)) }
 happens s (Install j r image) =
     record s {
       bucket = stored s.buckets s.bucket r (installed (writer_of (begun_in s.log) j) image (versions s.buckets s.bucket r));
@@ -150,7 +166,7 @@ happens s (Undo j r) = record s {
 happens s (Stamp j r) = record s { bucket = stored s.buckets s.bucket r (stamped (suc s.mark) (writer_of (begun_in s.log) j) (versions s.buckets s.bucket r)); stamped_list = (j, r) ∷ s.stamped_list }
 happens s (Publish sessions) = record s { mark = suc s.mark; history = s.history ++ new_group s.log sessions ∷ []; stamped_list = []; log = published_logs s.log sessions (suc s.mark) }
 happens s (Reclaim p kind r) = shortened s p kind r (reclaimed kind r.table (s.pass p) (versions s.buckets s.bucket r))
-happens s Take = record s { taken = suc s.taken }
+happens s (Take p) = record s { taken = suc s.taken; pass = put s.pass p (noting (Took (suc s.taken)) (s.pass p)) }
 happens s (Look j ask b rows) = record s { log = put s.log j (looked s j ask b rows) }
 
 -- a session may begin, with tables that are there: it is at rest, and has begun fewer transactions than it may
@@ -160,8 +176,14 @@ pub record MayDeclare (s : CoreState) (j : ℕ) (scope : Scope) : Type 0 where
   pub room : begans (s.log j) < s.quota
   pub tables : IsBelow s.tables scope
 
--- a register is loaded once for a record
+-- a pass that is there may begin a record, of logs that are at least as long as it says
+pub record MayMark (s : CoreState) (p : ℕ) (known : ℕ → ℕ) : Type 0 where
+  pub there : p < s.passes
+  pub known_of : (j : ℕ) → known j ≤ length (s.log j)
+
+-- a register is loaded once for a record, by a pass that is there
 pub record MaySample (s : CoreState) (p j : ℕ) : Type 0 where
+  pub there : p < s.passes
   pub session : IsSession s.sessions j
   pub fresh : IsNone (found j (s.pass p).loaded)
 
@@ -172,6 +194,11 @@ MaySampleMask s p j number moved = found j (s.pass p).loaded ≡ Some (record { 
 -- a pass may move a declared snapshot that it loaded unmoved, and that the register still shows
 pub record MayMove (s : CoreState) (p j : ℕ) (number : ℕ) (mask : Option ℕ) : Type 0 where
   pub shown : s.register j ≡ registers.Live number true false
+  pub loaded : found j (s.pass p).loaded ≡ Some (record { register = registers.Live number true false; mask = mask })
+
+-- a pass comes too late to move a declared snapshot that it loaded unmoved: the register shows it no more
+pub record MayMiss (s : CoreState) (p j : ℕ) (number : ℕ) (mask : Option ℕ) : Type 0 where
+  pub gone : s.register j ≡ registers.Live number true false → ⊥
   pub loaded : found j (s.pass p).loaded ≡ Some (record { register = registers.Live number true false; mask = mask })
 
 -- a session may go to rest: it reads at a snapshot, and has no open write
@@ -230,6 +257,11 @@ pub record MayReclaim (s : CoreState) (p : ℕ) (r : Rid) : Type 0 where
   pub whole : IsWhole s.sessions (s.pass p)
   pub here : IsVisiting (bucket_of s.buckets r) (s.visits p)
 
+-- a pass that is there may take a group where one is left
+pub record MayTake (s : CoreState) (p : ℕ) : Type 0 where
+  pub there : p < s.passes
+  pub left : s.taken < s.mark
+
 -- when an event may happen
 abbrev pub May : CoreState → Event → Type 0
 May s (Declare j scope) = MayDeclare s j scope
@@ -238,14 +270,15 @@ May s (Enter j f) = (scope : Scope) × (s.phase j ≡ Probed scope f)
 May s (Fix j f) = (scope : Scope) × (s.phase j ≡ Entered scope f)
 May s (GoLive j m scope) = (f : ℕ) × (s.phase j ≡ Fixed scope f m)
 May s (End j) = MayEnd s j
-May s (Mark p known) = (j : ℕ) → known j ≤ length (s.log j)
+May s (Mark p known) = MayMark s p known
 May s (Sample p j) = MaySample s p j
 May s (SampleMask p j) = (number : ℕ) × (moved : Bool) × MaySampleMask s p j number moved
 May s (Move p j) = (number : ℕ) × (mask : Option ℕ) × MayMove s p j number mask
+May s (Miss p j number) = (mask : Option ℕ) × MayMiss s p j number mask
 May s (Install j r image) = (at : ℕ) × (scope : Scope) × MayInstall s j r at scope
 May s (Undo j r) = MayUndo s j r
 May s (Stamp j r) = MayStamp s j r
 May s (Publish sessions) = MayPublish s.log s.stamped_list sessions
 May s (Reclaim p kind r) = MayReclaim s p r
-May s Take = s.taken < s.mark
+May s (Take p) = MayTake s p
 May s (Look j ask b rows) = (at : ℕ) × (scope : Scope) × MayLook s j ask b rows at scope

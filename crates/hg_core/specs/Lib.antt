@@ -31,6 +31,7 @@ pub mod Shown
 -- What follows of commits and gathers, a run, and which steps would be wrong.
 pub mod Commits
 pub mod Missed
+pub mod Causes
 pub mod Held
 pub mod Few
 pub mod Worked

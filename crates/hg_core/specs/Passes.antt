@@ -6,21 +6,25 @@ use Rattle.hg_base.specs.declared.rid.TableId.{TableId}
 use Rattle.hg_base.specs.declared.scope.Scope.TheVariants.{Declared}
 use Rattle.hg_base.specs.Transcript.{has}
 use Rattle.hg_core.specs.declared.loaded.Loaded.{Loaded}
+use Rattle.hg_core.specs.declared.journal.PassEntry.{PassEntry}
 use Rattle.hg_core.specs.declared.register.Register.{Register}
 use Rattle.hg_core.specs.declared.register.Register.TheVariants.{Idle, Entering, Live}
 use Rattle.hg_core.specs.Words.{shows_declared}
 use Rattle.hg_core.specs.Phases.{IsSession}
 
--- The record of a pass: the mark that it loaded, how many entries it had seen then of each log, and the registers that it
--- loaded since, each with its session and with the mask word, once that was loaded too, the last one first.
+-- The record of a pass: the mark that it loaded, the number of its round, which is how often it has loaded the mark, how many
+-- entries it had seen then of each log, and the registers that it loaded since, each with its session and with the mask word, once
+-- that was loaded too, the last one first. And its journal: all that it ever loaded, tried and took, oldest entry first.
 pub record PassRecord : Type 0 where
   pub mark : ℕ
+  pub round : ℕ
   pub known : ℕ → ℕ
   pub loaded : List (ℕ × Loaded)
+  pub journal : List PassEntry
 
 -- the record of a pass that has not begun one
 abbrev pub no_record : PassRecord
-no_record = record { mark = 0; known = λ j. 0; loaded = [] }
+no_record = record { mark = 0; round = 0; known = λ j. 0; loaded = []; journal = [] }
 
 -- what was loaded of session j
 abbrev pub found : ℕ → List (ℕ × Loaded) → Option Loaded

@@ -6,8 +6,8 @@ use Rattle.hg_base.specs.declared.image.Image.{Image}
 use Rattle.hg_base.specs.declared.scope.Scope.TheVariants.{All, Declared}
 use Rattle.hg_base.specs.declared.report.Kind.TheVariants.{Interval}
 use Rattle.hg_core.specs.declared.ask.Ask.TheVariants.{Outside}
-use Rattle.hg_core.specs.Events.{Event, Declare, Probe, Enter, Fix, GoLive, End, Mark, Sample, SampleMask, Move, Install, Undo, Stamp, Publish, Reclaim, Take, Look}
-use Rattle.hg_core.specs.Steps.{Step, Act, Arrive, Leave, Split, acts}
+use Rattle.hg_core.specs.Events.{Event, Declare, Probe, Enter, Fix, GoLive, End, Mark, Sample, SampleMask, Move, Miss, Install, Undo, Stamp, Publish, Reclaim, Take, Look}
+use Rattle.hg_core.specs.Steps.{Step, Act, Arrive, Leave, Split, Unite, acts}
 use Rattle.hg_base.specs.declared.statement.Statement.TheVariants.{Begin, Put, Commit as CommitIt}
 use Rattle.hg_base.specs.declared.line.Answer.{Answer}
 use Rattle.hg_base.specs.declared.line.Answer.TheVariants.{Begun, Stored, Committed}
@@ -37,12 +37,17 @@ commits = Declare 2 All ∷ Probe 2 ∷ Enter 2 0 ∷ Fix 2 0 ∷ GoLive 2 0 All
 abbrev pub slow_begin : List Step
 slow_begin = acts (Declare 1 (Declared 1) ∷ Probe 1 ∷ Enter 1 0 ∷ Fix 1 0 ∷ commits ++ Mark 0 (λ j. 0) ∷ Sample 0 1 ∷ Sample 0 2 ∷ GoLive 1 0 (Declared 1) ∷ [])
 
--- The group is taken. The pass visits the bucket, and takes away what session 1 doesn't need of the record. It is split. It
--- begins a new record, finds session 1 live at 0, loads its mask, and moves that snapshot to the table that it declared.
--- Session 1 names another table, writes another record, takes that back, and is over.
+-- The pass takes the group. It visits the bucket, and takes away what session 1 doesn't need of the record. It is split. Both
+-- passes begin a record and find session 1 live at 0. The first loads its mask, and moves that snapshot to the table that it
+-- declared; the other comes too late. Session 1 names another table, writes another record, takes that back, and is over.
+abbrev pub two_passes : List Step
+two_passes = Act (Take 0) ∷ Arrive 0 0 ∷ Act (Reclaim 0 Interval one_rid) ∷ Leave 0 ∷ Split 0 ∷ acts
+    (Mark 0 (λ j. 0) ∷ Sample 0 1 ∷ Mark 1 (λ j. 0) ∷ Sample 1 1 ∷ SampleMask 0 1 ∷ Move 0 1 ∷ Miss 1 1 0 ∷ Look 1 (Outside (record { 0 = 1 })) 0 [] ∷ Install 1 two_rid row ∷
+    Undo 1 two_rid ∷ End 1 ∷ [])
+
+-- and the two passes become one
 abbrev pub long_snapshot : List Step
-long_snapshot = Act Take ∷ Arrive 0 0 ∷ Act (Reclaim 0 Interval one_rid) ∷ Leave 0 ∷ Split 0 ∷ acts
-    (Mark 0 (λ j. 0) ∷ Sample 0 1 ∷ SampleMask 0 1 ∷ Move 0 1 ∷ Look 1 (Outside (record { 0 = 1 })) 0 [] ∷ Install 1 two_rid row ∷ Undo 1 two_rid ∷ End 1 ∷ [])
+long_snapshot = two_passes ++ Unite 0 1 1 ∷ []
 
 -- Session 1 loads the mark 0. Session 2 commits. A pass loads the mark 1 and finds session 1 idle, which then enters at 0.
 abbrev pub late_entry : List Step

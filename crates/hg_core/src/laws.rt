@@ -7,9 +7,9 @@ ghost use Rattle.hg_base.specs.declared.report.Kind.{Kind};
 ghost use Rattle.hg_base.specs.declared.scope.Scope.{Scope};
 ghost use Rattle.hg_base.specs.declared.value.Value.{Value};
 ghost use Rattle.hg_core.specs.declared.ask.Ask.{Ask};
-ghost use Rattle.hg_core.specs.State.{CoreState};
-ghost use Rattle.hg_core.specs.Events.{Declare, Probe, Enter, Fix, GoLive, End, Mark, Sample, SampleMask, Move, Install, Undo, Stamp, Publish, Reclaim, Take, Look, happens, May};
-ghost use Rattle.hg_core.specs.Steps.{Always, Arrive, Leave, Split, step, Can};
+ghost use Rattle.hg_core.specs.State.{CoreState, opened};
+ghost use Rattle.hg_core.specs.Events.{Declare, Probe, Enter, Fix, GoLive, End, Mark, Sample, SampleMask, Move, Miss, Install, Undo, Stamp, Publish, Reclaim, Take, Look, happens, May};
+ghost use Rattle.hg_core.specs.Steps.{Always, Step, Arrive, Leave, Split, Unite, LeadsTo, step, Can};
 ghost use Rattle.hg_core.specs.Invariant.{IsSteady};
 
 /// A session at rest stores the mask word of the tables of its next transaction.
@@ -102,15 +102,22 @@ pub fn reclaim_keeps()
         May s (Reclaim p kind r) → IsSteady (happens s (Reclaim p kind r)) }
 {}
 
+/// A pass tries to move a snapshot that is no more there.
+pub fn miss_keeps()
+    ensures { (s : CoreState) (p j number : ℕ) → IsSteady s → May s (Miss p j number) →
+        IsSteady (happens s (Miss p j number)) }
+{}
+
 /// A session reads a range in a bucket, tries a write, or names a table outside. What it finds goes into its log.
 pub fn look_keeps()
     ensures { (s : CoreState) (j : ℕ) (ask : Ask) (b : ℕ) (rows : List (ℕ × List Value)) →
         IsSteady s → May s (Look j ask b rows) → IsSteady (happens s (Look j ask b rows)) }
 {}
 
-/// The oldest group is taken out of the committer's list, for the group collector.
+/// A pass takes the oldest group out of the committer's list.
 pub fn take_keeps()
-    ensures { (s : CoreState) → IsSteady s → May s Take → IsSteady (happens s Take) }
+    ensures { (s : CoreState) (p : ℕ) → IsSteady s → May s (Take p) →
+        IsSteady (happens s (Take p)) }
 {}
 
 /// A pass takes a bucket, and its visit begins.
@@ -129,7 +136,21 @@ pub fn split_keeps()
     ensures { (s : CoreState) (p : ℕ) → IsSteady s → Can s (Split p) → IsSteady (step s (Split p)) }
 {}
 
+/// Two passes become one, which has the visits of both.
+pub fn unite_keeps()
+    ensures { (s : CoreState) (p q m : ℕ) → IsSteady s → Can s (Unite p q m) →
+        IsSteady (step s (Unite p q m)) }
+{}
+
 /// The invariant holds after every list of steps from the state in which a board opens.
 pub fn always_steady()
     ensures { Always IsSteady }
+{}
+
+/// A step more reaches the next state, and the invariant holds of each state that is reached.
+pub fn each_is_reached()
+    ensures next { (start s : CoreState) (e : Step) → LeadsTo start s → Can s e →
+        LeadsTo start (step s e) }
+    ensures steady { (sessions tables buckets passes quota : ℕ) (s : CoreState) →
+        LeadsTo (opened sessions tables buckets passes quota) s → IsSteady s }
 {}

@@ -13,12 +13,16 @@
 //!     Probe   load the mark: f      idle               Sample  load one register, for each session in turn, and
 //!     Enter   store the register    entering f         SampleMask   its mask word, where that is live and declared
 //!     Fix     load the mark: m      entering f         Move    exchange a live register for the same, moved
-//!     GoLive  store the register    live at m          Reclaim remove versions of a record
-//!     Look    read, or try a write  live at m
-//!     Install store a write         live at m          committer
-//!     Undo    take it back          live at m          Stamp   give a write the next number
-//!     End     store the register    idle               Publish store the mark: one more
-//!                                                      Take    hand the oldest group to its collector
+//!     GoLive  store the register    live at m          Miss    the same, too late: the register is another
+//!     Look    read, or try a write  live at m          Take    take the oldest group
+//!     Install store a write         live at m          Reclaim remove versions of a record
+//!     Undo    take it back          live at m
+//!     End     store the register    idle               committer
+//!                                                      Stamp   give a write the next number
+//!                                                      Publish store the mark: one more
+//!
+//! A pass has a journal of what it loaded, tried and took, and its visits have the number of the round in which they were made. So
+//! what it reports can be read from the state that a list of steps leaves, and so can each session's replies from its log.
 //!
 //! A session that a pass finds idle has not yet loaded the mark for the second time, so it goes live at or above M. One that the pass
 //! finds entering f goes live at or above f. The horizon of a record is the least of M and of all numbers that were found entering. So
@@ -51,6 +55,7 @@
 #![tactic(auto)]
 
 mod ask;
+mod journal;
 mod laws;
 mod loaded;
 mod log;
@@ -62,11 +67,12 @@ mod version;
 mod visit;
 
 pub use ask::Ask;
+pub use journal::PassEntry;
 pub use laws::{
-    always_steady, arrive_keeps, declare_keeps, end_keeps, enter_keeps, fix_keeps, go_live_keeps,
-    install_keeps, leave_keeps, look_keeps, mark_keeps, move_keeps, probe_keeps, publish_keeps,
-    reclaim_keeps, sample_keeps, sample_mask_keeps, split_keeps, stamp_keeps, take_keeps,
-    undo_keeps,
+    always_steady, arrive_keeps, declare_keeps, each_is_reached, end_keeps, enter_keeps, fix_keeps,
+    go_live_keeps, install_keeps, leave_keeps, look_keeps, mark_keeps, miss_keeps, move_keeps,
+    probe_keeps, publish_keeps, reclaim_keeps, sample_keeps, sample_mask_keeps, split_keeps,
+    stamp_keeps, take_keeps, undo_keeps, unite_keeps,
 };
 pub use loaded::Loaded;
 pub use log::LogEntry;
@@ -82,10 +88,11 @@ pub use refuted::{
 pub use register::{Register, mask_word};
 pub use theorems::{
     a_log_is_read, a_visit_counts, commits_are_bounded, counters_balance, counts_are_bounded,
-    every_answer_is_right, every_event_happens, history_is_sound, mark_is_bounded,
-    no_conflict_is_lost, no_gather_misses_a_snapshot, no_removal_is_seen, records_are_placed,
-    removal_is_exact, replies_are_right, what_is_live_is_left, what_is_open_is_new,
-    what_was_left_stays, words_are_exact,
+    each_move_is_noted, each_moved_snapshot_was_live, each_refusal_had_its_cause,
+    each_snapshot_was_the_mark, every_answer_is_right, every_event_happens, history_is_sound,
+    mark_is_bounded, no_conflict_is_lost, no_gather_misses_a_snapshot, no_removal_is_seen,
+    records_are_placed, removal_is_exact, replies_are_right, what_is_live_is_left,
+    what_is_open_is_new, what_was_left_stays, words_are_exact,
 };
 pub use version::{Stamp, Version};
 pub use visit::{Counters, Removed, Visit};

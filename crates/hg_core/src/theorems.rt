@@ -1,6 +1,6 @@
 //! What follows of the laws, in the words of the subject.
 
-ghost use Rattle.std.specs.Prelude.{◌≡◌, ℕ, List, [], ◌∷◌, None, Some, length, filter, map, suc, ◌+◌, is_some, if◌then◌else◌, ◌<◌, ◌≤◌, ◌*◌, ◌^◌, ◌++◌, IsSome, IsTrue};
+ghost use Rattle.std.specs.Prelude.{◌≡◌, ℕ, Bool, true, List, [], ◌∷◌, None, Some, length, filter, map, suc, ◌+◌, is_some, if◌then◌else◌, ◌<◌, ◌≤◌, ◌*◌, ◌^◌, ◌++◌, IsSome, IsTrue};
 ghost use Rattle.hg_base.specs.declared.rid.Rid.{Rid};
 ghost use Rattle.hg_base.specs.declared.rid.TableId.{TableId};
 ghost use Rattle.hg_base.specs.declared.scope.Scope.{Scope};
@@ -33,6 +33,8 @@ ghost use Rattle.hg_core.specs.Replies.{AreReplied};
 ghost use Rattle.hg_core.specs.Steps.{Always, Run, run};
 ghost use Rattle.hg_core.specs.Invariant.{IsSteady};
 ghost use Rattle.hg_core.specs.Missed.{MissesNone};
+ghost use Rattle.hg_core.specs.Causes.{Runs, AtSome, BeganAt, WasRefused, IsRefused, WasMoved, IsMovable};
+ghost use Rattle.hg_base.specs.declared.line.Answer.{Answer};
 ghost use Rattle.hg_core.specs.Worked.{swept_visit, one_swept, slow_begin, long_snapshot, committed_there, IsReadThere};
 
 use crate::phase::Phase;
@@ -262,4 +264,34 @@ pub fn words_are_exact()
         IsSome (scope_in (s.phase j)) → s.mask j < 2 ^ 64 }
     ensures has { (scope : Scope) (t : TableId) → t.0 < 64 →
         has (Scope.Declared (mask_of scope)) t ≡ has scope t }
+{}
+
+/// A snapshot was the mark. Whatever snapshot a list of steps leaves in a log, the mark was that number after some of the steps.
+pub fn each_snapshot_was_the_mark()
+    ensures { Runs (λ start steps.
+        (j n : ℕ) → BeganAt n ((run start steps).log j) → AtSome start steps (λ s. s.mark ≡ n)) }
+{}
+
+/// A refused write had its cause. Whatever refusal a list of steps leaves in a log, the versions of the record that were there after
+/// some of the steps refuse the write so.
+pub fn each_refusal_had_its_cause()
+    ensures { Runs (λ start steps.
+        (j : ℕ) (r : Rid) (answer : Answer) → WasRefused r answer ((run start steps).log j) →
+        AtSome start steps (IsRefused j r answer)) }
+{}
+
+/// A moved snapshot was live. Whatever snapshot a list of steps leaves as moved in a pass's journal, after some of the steps that
+/// session's register was live at it, with declared tables, and not moved.
+pub fn each_moved_snapshot_was_live()
+    ensures { Runs (λ start steps.
+        (p j n : ℕ) → WasMoved j n ((run start steps).pass p).journal →
+        AtSome start steps (IsMovable j n)) }
+{}
+
+/// Each move was made by a pass that noted it. After every list of steps, where a register shows a snapshot as moved, some pass's
+/// journal has the try that moved it.
+pub fn each_move_is_noted()
+    ensures { Always (λ s.
+        (j n : ℕ) (declared : Bool) → s.register j ≡ Register.Live n declared true →
+        (p : ℕ) × WasMoved j n (s.pass p).journal) }
 {}

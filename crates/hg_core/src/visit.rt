@@ -25,6 +25,8 @@ pub struct Visit {
     pub bucket: u32,
     /// The mark of the pass's record when it took the bucket.
     pub mark: u64,
+    /// The number of the pass's round then, counted from 1.
+    pub round: u64,
     /// What the pass removed there in this visit.
     pub removed: Removed,
     /// The records with their versions as they were given back, once they were.

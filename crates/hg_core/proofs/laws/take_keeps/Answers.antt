@@ -1,4 +1,4 @@
-use Rattle.hg_core.proofs.Looking.{take_kept}
+use Rattle.hg_core.proofs.Gathers.{take_kept}
 use Rattle.hg_core.proofs.laws.take_keeps.Goals as goal
 
 pub returns : goal.returns
