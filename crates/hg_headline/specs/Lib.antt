@@ -16,5 +16,7 @@ pub mod Few
 -- A replay whose history is known at its end alone.
 pub mod Following
 pub mod Totalled
+-- One run that prints a text.
+pub mod OneRun
 -- A replay and a run that meet all this.
 pub mod Worked
