@@ -7,9 +7,8 @@ use native.Mathlib.Decide.{ℕ_discrete}
 use Rattle.atomic_table.specs.Table.{step, keeps, Allows}
 use Rattle.hg_core.specs.State.{CoreState}
 use Rattle.hg_core.specs.Events.{put}
-use Rattle.hg_core.specs.Steps.{split}
+use Rattle.hg_core.specs.Steps.{Split, split}
 use Rattle.hg_core.proofs.Indices.{by_number, put_here, put_else}
-use Rattle.hg_core.proofs.Seats.{split_kept}
 use Rattle.hg_rule.specs.declared.view.PassPart.{PassPart}
 use Rattle.hg_rule.specs.declared.view.Part.TheVariants.{OfPass}
 use Rattle.hg_rule.specs.declared.view.View.{View}
@@ -29,6 +28,7 @@ use Rattle.hg_rule.proofs.Evidence.{own_pass}
 use Rattle.hg_rule.proofs.Registers.{loaded_words}
 use Rattle.hg_rule.proofs.Turning.{there, has_part}
 use Rattle.hg_rule.proofs.Uses.{turn_to, passing_only, unlike}
+use Rattle.hg_rule.proofs.Reached.{stepped}
 
 pub halves_kept : (share : ℕ) → 2 ≤ share → 0 < kept_of share
 halves_kept share l = omega arith
@@ -76,7 +76,7 @@ may_bud z slots id m is two t r deep at small =
       tt,
       turn_to z t r id v u (OfPass n new ∷ OfPass p old ∷ []) (OfPass p old ∷ []) (OfPass p kept ∷ OfPass n new ∷ []) (others v) _ used' d at is refl
           (record {
-            steady = split_kept c p r.steady p_low;
+            reached = stepped z c (Split p) r.reached p_low;
             sized = record { sessions = r.sized.sessions; tables = r.sized.tables; buckets = r.sized.buckets; quota = r.sized.quota };
             passes = record {
               below = by_number n (λ k b. (if b then true else r.used k) ≡ true → k < suc n) (λ e. omega arith) (λ k other e. let l = r.passes.below k e in omega arith);
@@ -92,7 +92,7 @@ may_bud z slots id m is two t r deep at small =
           })
           (λ rest. true_on c d v (OfPass p kept ∷ OfPass n new ∷ others v) grows (
             (put_else c.pass n p _ (λ (e : p ≡ n). let l = p_low in omega arith) ∙ own.0, (own.1.0, halves_kept old.share two)),
-            ((put_here c.pass n _ ∙ own.0, (fresh.1.0, halves_given old.share two)), rest),
+            ((put_here c.pass n _ ∙ (λ i. record (own.0 i) { journal = [] }), (fresh.1.0, halves_given old.share two)), rest),
           ) (r.shown id v at)),
       ((n, refl), refl),
     )

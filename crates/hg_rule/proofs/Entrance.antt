@@ -14,7 +14,6 @@ use Rattle.hg_core.specs.Contents.{has_stamped}
 use Rattle.hg_core.specs.State.{CoreState}
 use Rattle.hg_core.specs.Events.{happens, Declare, Probe, Enter, Fix}
 use Rattle.hg_core.proofs.Indices.{put_here, put_else}
-use Rattle.hg_core.proofs.Begins.{declare_kept, probe_kept, enter_kept, fix_kept}
 use Rattle.hg_rule.specs.declared.view.SessionPart.{SessionPart}
 use Rattle.hg_rule.specs.declared.view.Part.{Part}
 use Rattle.hg_rule.specs.declared.view.Part.TheVariants.{OfSession, OfBucket, OfCommit, OfPass, Away, Lent}
@@ -34,6 +33,7 @@ use Rattle.hg_rule.proofs.Lists.{starts_same}
 use Rattle.hg_rule.proofs.Keeps.{keep}
 use Rattle.hg_rule.proofs.Registers.{loaded_words, stored_words, masked_words}
 use Rattle.hg_rule.proofs.Evidence.{own_session, at_board, history_at, log_stays}
+use Rattle.hg_rule.proofs.Reached.{acted}
 
 -- what a session's step leaves
 pub record Sessional (c d : CoreState) (j : ℕ) : Type 0 where
@@ -72,7 +72,7 @@ declares z slots id i x scope picked m is inside rests fewer below same there va
       keeps,
       tt,
       keep z t r id v (OfSession j (session v) ∷ []) (OfSession j new ∷ []) (others v) [] (events.Declare j picked) i x d at is record {
-        steady = declare_kept c j scope r.steady record {
+        reached = acted z c (Declare j scope) r.reached record {
           session = at_board z c j r.sized inside;
           rests = own.0 ∙ rests;
           room = omega (arith, fewer, ap begans own.1.0, r.sized.quota);
@@ -119,7 +119,7 @@ probes z slots id m scope room is was t r deep at small =
       keeps,
       tt,
       keep z t r id v (OfSession j (session v) ∷ []) (OfSession j new ∷ []) (others v) (sights.Saw (groups c.history) ∷ []) (events.Probe j n) 0 n d at is record {
-        steady = probe_kept c j r.steady (scope, own.0 ∙ was);
+        reached = acted z c (Probe j) r.reached (scope, own.0 ∙ was);
         sized = record { sessions = r.sized.sessions; tables = r.sized.tables; buckets = r.sized.buckets; quota = r.sized.quota };
         passes = refl;
         shows = record { count = w.count; mark = w.mark; registers = w.registers; masks = w.masks };
@@ -163,7 +163,7 @@ fixes z slots id f scope m room is was t r deep at small =
       keeps,
       tt,
       keep z t r id v (OfSession j (session v) ∷ []) (OfSession j new ∷ []) (others v) (sights.Saw (groups c.history) ∷ []) (events.Fix j n) 0 n d at is record {
-        steady = fix_kept c j f r.steady (scope, own.0 ∙ was);
+        reached = acted z c (Fix j f) r.reached (scope, own.0 ∙ was);
         sized = record { sessions = r.sized.sessions; tables = r.sized.tables; buckets = r.sized.buckets; quota = r.sized.quota };
         passes = refl;
         shows = record { count = w.count; mark = w.mark; registers = w.registers; masks = w.masks };
@@ -207,7 +207,7 @@ enters z slots id f i x scope m is inside was there value t r deep at small =
       keeps,
       tt,
       keep z t r id v (OfSession j (session v) ∷ []) (OfSession j new ∷ []) (others v) [] (events.Enter j g) i x d at is record {
-        steady = enter_kept c j f r.steady (scope, own.0 ∙ was);
+        reached = acted z c (Enter j f) r.reached (scope, own.0 ∙ was);
         sized = record { sessions = r.sized.sessions; tables = r.sized.tables; buckets = r.sized.buckets; quota = r.sized.quota };
         passes = refl;
         shows = subst (λ i. ShowsWords z d (set t.words i x)) (sym there) (record { count = w.count; mark = w.mark; registers = w.registers; masks = w.masks });

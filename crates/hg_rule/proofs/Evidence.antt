@@ -33,6 +33,7 @@ use Rattle.hg_rule.proofs.Lists.{starts_same, ends_same, each_map}
 use Rattle.hg_rule.proofs.Growing.{Grows}
 use Rattle.hg_rule.proofs.Keeps.{Table, backs}
 use Rattle.hg_rule.proofs.Registers.{mark_small}
+use Rattle.hg_rule.proofs.Reached.{steady}
 
 pub own_session : (z : Sizes) (t : Table) (r : Rule z t) (id : ℕ) (v : View) → get_elem? t.views id ≡ some v → HasSession v → Shown r.state (OfSession (number v) (session v))
 own_session z t r id v at is = (subst (Each (Shown r.state)) is (r.shown id v at).parts).0
@@ -65,9 +66,9 @@ within s h (sights.Did e) k = tt
 -- at a load of the mark the whole history is seen
 pub history_at : (z : Sizes) (t : Table) (r : Rule z t) (id : ℕ) (v : View) → HasRoom z → get_elem? t.views id ≡ some v → IsHistoryAt v (get_or t.words 0 0) r.state.history
 history_at z t r id v room at = record {
-  is_length = sym r.steady.mark_is_length.is_length ∙ sym r.words.mark;
-  number = subst (λ n. n < 2 ^ 44) (sym r.words.mark) (mark_small z r.state room r.sized r.steady);
-  within = each_map (Known r.state) (Within r.state.history) (within r.state r.steady) v.sights (r.shown id v at).sights;
+  is_length = sym (steady r).mark_is_length.is_length ∙ sym r.words.mark;
+  number = subst (λ n. n < 2 ^ 44) (sym r.words.mark) (mark_small z r.state room r.sized (steady r));
+  within = each_map (Known r.state) (Within r.state.history) (within r.state (steady r)) v.sights (r.shown id v at).sights;
 }
 
 -- the same of a view that a load backs, which has the committer's part

@@ -25,10 +25,11 @@ use Rattle.hg_rule.specs.Facts.{record_of, Shown, new_part}
 use Rattle.hg_rule.specs.Words.{register_at, mask_at}
 use Rattle.hg_rule.specs.Rules.{IsSized, HasRoom, AreUsed, Rule, IsBacked}
 use Rattle.hg_rule.specs.Views.{session_there, bucket_there, commit_there, pass_there}
-use Rattle.hg_rule.specs.Reading.{chosen, seek, passes_in, state_of, all_parts, registers_in, read, HasAll, AllRest, own_state}
+use Rattle.hg_rule.specs.Reading.{chosen, seek, passes_in, state_of, all_parts, registers_in, read, HasAll, AllRest, own_state, unmasked, IsRunsEnd}
 use Rattle.hg_rule.proofs.Counts.{same_number, has_new, one_true, count_append}
 use Rattle.hg_rule.proofs.Lists.{each_append}
 use Rattle.hg_rule.proofs.Registers.{word_back, register_small}
+use Rattle.hg_rule.proofs.Reached.{steady}
 
 -- ---- each part is found
 
@@ -210,7 +211,7 @@ inside_is z j e = record { first = sure 0 j (left (ltb 0 j) _ e); last = let l :
     sure a b e = ltb_less a b (let x : ℕ = one (ltb a b) in let f : x ≡ 1 = ap one e in omega arith)
 
 outside_idle : (z : Sizes) (t : State ℕ View) (r : Rule z t) (j : ℕ) → both (ltb 0 j) (ltb j (suc z.sessions)) ≡ false → r.state.register j ≡ registers.Idle
-outside_idle z t r j e = idle_shows (r.state.register j) (r.state.phase j) (r.steady.registers_agree.shows j) (r.outside (session_key j) (ap one e)).0
+outside_idle z t r j e = idle_shows (r.state.register j) (r.state.phase j) ((steady r).registers_agree.shows j) (r.outside (session_key j) (ap one e)).0
 
 pub reads : (z : Sizes) (t : State ℕ View) → HasRoom z → (r : Rule z t) → r.state ≡ read z t.words t.views
 reads z t room r = state_is z r.state r.used (slice_index t.words 0) (registers_in z t.words) (λ j. slice_index t.words (mask_at j)) (all_parts t.views) r.sized r.passes
@@ -218,7 +219,7 @@ reads z t room r = state_is z r.state r.used (slice_index t.words 0) (registers_
     (λ k part. tally_all k t.views ∙ r.exact k) r.outside (sym r.words.mark) (λ j. go j (both (ltb 0 j) (ltb j (suc z.sessions))) refl) (λ j. sym (r.words.masks j))
   where
     go : (j : ℕ) (b : Bool) → both (ltb 0 j) (ltb j (suc z.sessions)) ≡ b → r.state.register j ≡ (if b then register_of (slice_index t.words (register_at j)) else registers.Idle)
-    go j true e = sym (ap register_of (r.words.registers j (inside_is z j e)) ∙ word_back (r.state.register j) (register_small z r.state j room r.sized r.steady))
+    go j true e = sym (ap register_of (r.words.registers j (inside_is z j e)) ∙ word_back (r.state.register j) (register_small z r.state j room r.sized (steady r)))
     go j false e = outside_idle z t r j e
 
 -- ---- one view that has everything
@@ -238,9 +239,6 @@ has_all z n v b h commit_key part = let a : ℕ = count commit_key v.parts in le
 has_all z n v b h (pass_key p) part = b.alone h.passes p
 
 -- no mask counts while all rest
-abbrev unmasked : CoreState → CoreState
-unmasked s = record s { mask = λ _. 0 }
-
 steady_unmasked : (s : CoreState) → IsSteady s → ((j : ℕ) → s.phase j ≡ phases.Idle) → IsSteady (unmasked s)
 steady_unmasked s h rest = record {
   mark_is_length = h.mark_is_length;
@@ -262,8 +260,8 @@ steady_unmasked s h rest = record {
   taken_at_most_mark = h.taken_at_most_mark;
 }
 
-pub owned : (z : Sizes) (n : ℕ) (v : View) → IsBacked z n v → HasAll z v → AllRest v → IsSteady (own_state z v) × (n ≡ (own_state z v).mark)
-owned z n v b h rest = (subst IsSteady same (steady_unmasked s b.steady resting), sym b.mark_is ∙ mark)
+pub owned : (z : Sizes) (n : ℕ) (v : View) → IsBacked z n v → HasAll z v → AllRest v → IsSteady (own_state z v) × ((n ≡ (own_state z v).mark) × IsRunsEnd z v)
+owned z n v b h rest = (subst IsSteady same (steady_unmasked s b.steady resting), (sym b.mark_is ∙ mark, record { state = s; reached = b.reached; own = same }))
   where
     s : CoreState
     s = b.state

@@ -29,6 +29,7 @@ use Rattle.hg_rule.proofs.Keeps.{keep, turn, true_on, may_split, may_join}
 use Rattle.hg_rule.proofs.Registers.{loaded_words}
 use Rattle.hg_rule.proofs.Shifts.{second_count, second_shares, second_each}
 use Rattle.hg_rule.proofs.Evidence.{own_session, history_at, log_stays}
+use Rattle.hg_rule.proofs.Reached.{steady}
 
 -- the two halves of a session's part count as the part does
 pub halves : (k : Key) (j : ℕ) (a b s : SessionPart) (n : ℕ) → count k (Away j a n ∷ Lent j b ∷ []) ≡ count k (OfSession j s ∷ [])
@@ -61,7 +62,7 @@ may_lend z slots id m room is t r deep at small =
       keeps,
       tt,
       keep z t r id v (OfSession j (session v) ∷ []) (Away j (session v) n ∷ Lent j (session v) ∷ []) (others v) (sights.Saw (groups c.history) ∷ []) (events.HandOver j n) 0 n c at is record {
-        steady = r.steady;
+        reached = r.reached;
         sized = r.sized;
         passes = refl;
         shows = w;
@@ -80,7 +81,7 @@ may_lend z slots id m room is t r deep at small =
             history_at z t r id v room at,
             (
               subst (λ x. loaded_in (session v).phase ≤ x) (sym mark)
-                  (loaded_most c.mark (session v).phase (subst (PhaseUpTo c.mark) own.0 (r.steady.mark_is_length.sessions j))),
+                  (loaded_most c.mark (session v).phase (subst (PhaseUpTo c.mark) own.0 ((steady r).mark_is_length.sessions j))),
               refl,
             ),
           ),
@@ -106,7 +107,7 @@ may_retake z slots id m is next t r deep at small =
       tt,
       turn z t r id v u (Away j (session v) (since v) ∷ Lent j (next_lent v) ∷ []) (OfSession j (next_lent v) ∷ []) (beyond v) _ c at parts refl
           (record {
-            steady = r.steady;
+            reached = r.reached;
             sized = r.sized;
             passes = refl;
             shows = w;

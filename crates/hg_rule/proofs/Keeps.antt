@@ -7,7 +7,7 @@ use Rattle.hg_base.specs.Lists.{Each}
 use Rattle.atomic_table.specs.Table.{State, Splits, Joins}
 use Rattle.atomic_table.proofs.Lists.{at_set, at_snoc, set_else}
 use Rattle.hg_core.specs.State.{CoreState}
-use Rattle.hg_core.specs.Invariant.{IsSteady}
+use Rattle.hg_core.specs.Steps.{LeadsTo}
 use Rattle.hg_rule.specs.declared.view.Part.{Part}
 use Rattle.hg_rule.specs.declared.view.Sight.{Sight}
 use Rattle.hg_rule.specs.declared.view.Event.{Event}
@@ -15,11 +15,12 @@ use Rattle.hg_rule.specs.declared.view.View.{View}
 use Rattle.hg_rule.specs.declared.view.Sizes.{Sizes}
 use Rattle.hg_rule.specs.Keys.{Key, pass_key, count, tally, shares, all_shares, whole_share, expected}
 use Rattle.hg_rule.specs.Facts.{Shown, Known, Stands, new_part}
-use Rattle.hg_rule.specs.Rules.{IsSized, ShowsWords, IsTrueOf, AreUsed, Rule, IsBacked}
+use Rattle.hg_rule.specs.Rules.{IsSized, ShowsWords, IsTrueOf, AreUsed, new_state, Rule, IsBacked}
 use Rattle.hg_rule.specs.Views.{seeing, then_has}
 use Rattle.hg_rule.proofs.Counts.{count_append, new_key, expected_small, sum, sum_set, sum_snoc, sum_one, sum_two, sum_alone, tally_is, all_shares_is, shares_append, no_share, Only, stay}
 use Rattle.hg_rule.proofs.Lists.{each_append, each_right, each_map}
 use Rattle.hg_rule.proofs.Growing.{Grows, known_on, stands_on}
+use Rattle.hg_rule.proofs.Reached.{steady}
 
 abbrev pub Table : Type 0
 Table = State ℕ View
@@ -56,7 +57,7 @@ shares_snoc vs w = let a : ℕ = all_shares (vs ++ w ∷ []) in let b : ℕ = al
 
 -- A step turns the state c into d, where the view's parts qs become qs', more is seen and the event is done.
 pub record Changes (z : Sizes) (c d : CoreState) (words : List ℕ) (qs qs' : List Part) (more : List Sight) (event : Event) : Type 0 where
-  pub steady : IsSteady d
+  pub reached : LeadsTo (new_state z) d
   pub sized : IsSized z d
   pub passes : d.passes ≡ c.passes
   pub shows : ShowsWords z d words
@@ -77,7 +78,7 @@ true_on c d v parts g shown h = record {
 
 -- the same of a view that becomes another, in whatever way
 pub record Turns (z : Sizes) (c d : CoreState) (words : List ℕ) (qs qs' : List Part) : Type 0 where
-  pub steady : IsSteady d
+  pub reached : LeadsTo (new_state z) d
   pub sized : IsSized z d
   pub passes : d.passes ≡ c.passes
   pub shows : ShowsWords z d words
@@ -92,7 +93,7 @@ pub turn : (z : Sizes) (t : Table) (r : Rule z t) (id : ℕ) (v w : View) (qs qs
     → Rule z record { words = words; homes = t.homes; views = set t.views id w }
 turn z t r id v w qs qs' ps words d at is is' h own = record {
   state = d;
-  steady = h.steady;
+  reached = h.reached;
   sized = h.sized;
   words = h.shows;
   used = r.used;
@@ -147,7 +148,7 @@ pub keep : (z : Sizes) (t : Table) (r : Rule z t) (id : ℕ) (v : View) (qs qs' 
     → Changes z r.state d (set t.words i x) qs qs' more e
     → Rule z record { words = set t.words i x; homes = t.homes; views = set t.views id (then_has v (qs' ++ ps) more e) }
 keep z t r id v qs qs' ps more e i x d at is h = turn z t r id v (then_has v (qs' ++ ps) more e) qs qs' ps (set t.words i x) d at is refl
-    (record { steady = h.steady; sized = h.sized; passes = h.passes; shows = h.shows; grows = h.grows; only = h.only; counts = h.counts; shared = h.shared })
+    (record { reached = h.reached; sized = h.sized; passes = h.passes; shows = h.shows; grows = h.grows; only = h.only; counts = h.counts; shared = h.shared })
     (λ rest. let s = true_on r.state d v (qs' ++ ps) h.grows (each_append (Shown d) qs' ps h.shown rest) (r.shown id v at) in record {
       parts = s.parts;
       sights = each_append (Known d) v.sights more s.sights h.known;
@@ -172,7 +173,7 @@ pub record SplitsInto (v l o : View) : Type 0 where
 pub may_split : (z : Sizes) (id : ℕ) (v l o : View) → SplitsInto v l o → Splits (Rule z) id v l o
 may_split z id v l o h t r at = record {
   state = r.state;
-  steady = r.steady;
+  reached = r.reached;
   sized = r.sized;
   words = r.words;
   used = r.used;
@@ -204,7 +205,7 @@ pub record JoinsInto (v w b o : View) : Type 0 where
 pub may_join : (z : Sizes) (id : ℕ) (v : View) (other : ℕ) (w b o : View) → JoinsInto v w b o → Joins (Rule z) id v other w b o
 may_join z id v other w b o h t r at apart at2 = record {
   state = r.state;
-  steady = r.steady;
+  reached = r.reached;
   sized = r.sized;
   words = r.words;
   used = r.used;
@@ -235,7 +236,8 @@ may_join z id v other w b o h t r at apart at2 = record {
 pub backs : (z : Sizes) (t : Table) (r : Rule z t) (id : ℕ) (v : View) (n : ℕ) → get_elem? t.views id ≡ some v → r.state.mark ≡ n → IsBacked z n v
 backs z t r id v n at is = record {
   state = r.state;
-  steady = r.steady;
+  reached = r.reached;
+  steady = steady r;
   sized = r.sized;
   mark_is = is;
   used = r.used;

@@ -9,6 +9,7 @@ pub mod Holders
 pub mod Agreements
 pub mod Found
 -- Each step keeps the rule.
+pub mod Reached
 pub mod Keeps
 pub mod Evidence
 pub mod Entrance

@@ -16,7 +16,6 @@ use Rattle.hg_core.specs.Phases.{IsSession, declared_in, snapshot_in}
 use Rattle.hg_core.specs.State.{CoreState}
 use Rattle.hg_core.specs.Events.{happens, GoLive, End}
 use Rattle.hg_core.proofs.Indices.{put_here, put_else}
-use Rattle.hg_core.proofs.Begins.{go_live_kept, end_kept}
 use Rattle.hg_rule.specs.declared.view.SessionPart.{SessionPart}
 use Rattle.hg_rule.specs.declared.view.Part.TheVariants.{OfSession}
 use Rattle.hg_rule.specs.declared.view.Sight.TheVariants as sights
@@ -34,6 +33,7 @@ use Rattle.hg_rule.proofs.Keeps.{keep}
 use Rattle.hg_rule.proofs.Registers.{stored_words}
 use Rattle.hg_rule.proofs.Evidence.{own_session, log_stays, log_grows}
 use Rattle.hg_rule.proofs.Entrance.{session_only}
+use Rattle.hg_rule.proofs.Reached.{acted}
 
 pub goes_live : (z : Sizes) (slots id f n i x : ℕ) (scope : Scope) (m : Seated) → HasSession m.0 → IsSession z.sessions (number m.0) → (session m.0).phase ≡ Fixed scope f n →
     i ≡ register_at (number m.0) → x ≡ word_of (registers.Live n (is_declared scope) false)
@@ -56,7 +56,7 @@ goes_live z slots id f n i x scope m is inside was there value t r deep at small
       keeps,
       tt,
       keep z t r id v (OfSession j (session v) ∷ []) (OfSession j new ∷ []) (others v) (sights.Heard j (Began g to ∷ (session v).log) ∷ []) (events.GoLive j g to) i x d at is record {
-        steady = go_live_kept c j n scope r.steady (f, own.0 ∙ was);
+        reached = acted z c (GoLive j n scope) r.reached (f, own.0 ∙ was);
         sized = record { sessions = r.sized.sessions; tables = r.sized.tables; buckets = r.sized.buckets; quota = r.sized.quota };
         passes = refl;
         shows = subst (λ i. ShowsWords z d (set t.words i x)) (sym there) (record { count = w.count; mark = w.mark; registers = w.registers; masks = w.masks });
@@ -99,7 +99,7 @@ ends z slots id i m is inside live none_open there t r deep at small =
       keeps,
       tt,
       keep z t r id v (OfSession j (session v) ∷ []) (OfSession j new ∷ []) (others v) (sights.Heard j (Over ∷ (session v).log) ∷ []) (events.End j) i 0 d at is record {
-        steady = end_kept c j r.steady record { live = subst (λ p. IsSome (snapshot_in p)) (sym own.0) live; none = λ rid. ap (open_in rid) own.1.0 ∙ none_open rid };
+        reached = acted z c (End j) r.reached record { live = subst (λ p. IsSome (snapshot_in p)) (sym own.0) live; none = λ rid. ap (open_in rid) own.1.0 ∙ none_open rid };
         sized = record { sessions = r.sized.sessions; tables = r.sized.tables; buckets = r.sized.buckets; quota = r.sized.quota };
         passes = refl;
         shows = subst (λ i. ShowsWords z d (set t.words i 0)) (sym there) (record { count = w.count; mark = w.mark; registers = w.registers; masks = w.masks });

@@ -29,7 +29,6 @@ use Rattle.hg_core.specs.Replies.{read_by, in_bucket, refusal}
 use Rattle.hg_core.specs.State.{CoreState}
 use Rattle.hg_core.specs.Events.{happens, looked, with_refusal, Look, Asks}
 use Rattle.hg_core.proofs.Indices.{put_here, put_else}
-use Rattle.hg_core.proofs.Looking.{look_kept}
 use Rattle.hg_rule.specs.declared.view.SessionPart.{SessionPart}
 use Rattle.hg_rule.specs.declared.view.Part.TheVariants.{OfSession, OfBucket}
 use Rattle.hg_rule.specs.declared.view.Sight.{Sight}
@@ -54,6 +53,7 @@ use Rattle.hg_rule.proofs.Owned.{Leaves, leaves_only, not_first, log_put, own_se
 use Rattle.hg_rule.proofs.Evidence.{own_session, history_at}
 use Rattle.hg_rule.proofs.Turning.{in_range}
 use Rattle.hg_rule.proofs.Ranges.{some_rows}
+use Rattle.hg_rule.proofs.Reached.{steady, acted}
 
 -- ---- a bucket has its own records alone
 
@@ -146,7 +146,7 @@ finds z t r id v (Write rid) n at is mark live may =
     let there : Shown c (OfBucket (bucket_number v) (bucket v)) = own_second z t r id v at _ _ _ is may.0 in
     let vs : versions c.buckets c.bucket rid ≡ held v rid = held_versions c 0 z.buckets (bucket_number v) (bucket v).content rid r.sized.buckets may.1.0 there.0 in
     let w = writer_is c v own.1.0 in
-    let s = snapshot_is c v r.steady own.0 live in
+    let s = snapshot_is c v (steady r) own.0 live in
     record { rows = []; shown = refl; asks = may.1.1; log = λ i. with_refusal rid (refusal (mark i) (w i) (s i) (vs i)) (own.1.0 i) }
 finds z t r id v (Read table low high) n at is mark live may =
     let c = r.state in
@@ -156,7 +156,7 @@ finds z t r id v (Read table low high) n at is mark live may =
     let some_ = some_rows (λ key. read_by (writer v) (snapshot v) (held v record { table = table; key = key })) low high in
     let same : (key : ℕ) → read_by (writer v) (snapshot v) (held v record { table = table; key = key }) ≡ in_bucket c.buckets b table
     (λ rid. read_by (writer v) (snapshot v) (versions c.buckets c.bucket rid)) key =
-    λ key. shown_there c.tables c.buckets b c.bucket (bucket v).content (writer v) (snapshot v) table key there.0 (r.steady.contents_are_placed b) in
+    λ key. shown_there c.tables c.buckets b c.bucket (bucket v).content (writer v) (snapshot v) table key there.0 ((steady r).contents_are_placed b) in
     record {
       rows = some_.0;
       shown = some_.1;
@@ -189,7 +189,7 @@ asks z y slots id ask m same room is live plain unstamped may = subst (λ (y : S
         let all : List Sight = heards d.log z.sessions in
         let after : View = then_has v (OfSession j new ∷ others v) (sights.Saw (groups c.history) ∷ sights.Heard j log ∷ all) (events.Look j ask n) in
         let changes : Changes z c d (set t.words 0 n) (OfSession j (session v) ∷ []) (OfSession j new ∷ []) (sights.Saw (groups c.history) ∷ sights.Heard j log ∷ all) (events.Look j ask n) = record {
-          steady = look_kept c j ask (bucket_number v) f.rows r.steady (
+          reached = acted z c (Look j ask (bucket_number v) f.rows) r.reached (
             snapshot v,
             tables v,
             record {

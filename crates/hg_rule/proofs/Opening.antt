@@ -8,7 +8,7 @@ use lib.ListN.{get_elem?, length-replicate}
 use Rattle.atomic_table.specs.Table.{opening}
 use Rattle.hg_base.specs.Lists.{Each}
 use Rattle.hg_core.specs.State.{CoreState, opened}
-use Rattle.hg_core.proofs.Runs.{steady_after}
+use Rattle.hg_core.proofs.Runs.{reached_first}
 use Rattle.hg_rule.specs.declared.view.Part.{Part}
 use Rattle.hg_rule.specs.declared.view.View.{View}
 use Rattle.hg_rule.specs.declared.view.Sizes.{Sizes}
@@ -129,7 +129,7 @@ zeros (suc n) (suc i) = zeros n i
 pub opens : (z : Sizes) → Rule z (opening (replicate (words_for z.sessions) 0) [] (first_view z))
 opens z = record {
   state = s;
-  steady = steady_after z.sessions z.tables z.buckets 3 z.quota [] tt;
+  reached = reached_first s;
   sized = record { sessions = refl; tables = refl; buckets = refl; quota = refl };
   words = record {
     count = length-replicate (words_for z.sessions) 0;

@@ -14,7 +14,6 @@ use Rattle.hg_core.specs.Phases.{snapshot_in}
 use Rattle.hg_core.specs.Contents.{is_stamped, has_stamped}
 use Rattle.hg_core.specs.State.{CoreState}
 use Rattle.hg_core.specs.Events.{happens, Publish}
-use Rattle.hg_core.proofs.Publishing.{publish_kept}
 use Rattle.hg_rule.specs.declared.view.SessionPart.{SessionPart}
 use Rattle.hg_rule.specs.declared.view.CommitPart.{CommitPart}
 use Rattle.hg_rule.specs.declared.view.Part.{Part}
@@ -38,6 +37,7 @@ use Rattle.hg_rule.proofs.Owned.{Leaves, leaves_only}
 use Rattle.hg_rule.proofs.Evidence.{history_at}
 use Rattle.hg_rule.proofs.Commits.{marked_words, history_is}
 use Rattle.hg_rule.proofs.Members.{each_part, each_lent, each_who, each_two, each_in, not_in, lent_shares, numbered_count, none_twice, unlike}
+use Rattle.hg_rule.proofs.Reached.{steady, acted}
 
 -- the log of who publishes, and of others
 log_here : (log : ℕ → List LogEntry) (js : List ℕ) (n k : ℕ) → is_in js k ≡ true → published_logs log js n k ≡ entries.Published n ∷ log k
@@ -129,7 +129,7 @@ may_publish z slots id x m room is has_it far next may t r deep at small =
     let all : Each (Shown c) qs = subst (Each (Shown c)) parts (r.shown id v at).parts in
     let list : Shown c (OfCommit h) = all.1.0 in
     let each = each_lent (Shown c) ms all.1.1 in
-    let mark : suc c.mark ≡ x = ap suc (r.steady.mark_is_length.is_length ∙ ap length list.0) ∙ sym next in
+    let mark : suc c.mark ≡ x = ap suc ((steady r).mark_is_length.is_length ∙ ap length list.0) ∙ sym next in
     let d : CoreState = happens c (Publish js) in
     let part : CommitPart = publishing ms h in
     let qs' : List Part = first ∷ OfCommit part ∷ lent (numbered x ms) in
@@ -147,12 +147,12 @@ may_publish z slots id x m room is has_it far next may t r deep at small =
       tt,
       subst (λ (ps : List Part). Rule z record { words = set t.words 0 x; homes = t.homes; views = set t.views id (then_has v ps more (events.Publish x)) }) (append-nil qs')
           (keep z t r id v qs qs' [] more (events.Publish x) 0 x d at (parts ∙ sym (append-nil qs)) record {
-            steady = publish_kept c js r.steady record {
+            reached = acted z c (Publish js) r.reached record {
               some = omega (arith, may.some, many ms);
               distinct = none_twice ms small_counts;
               opened = each_who (λ j. IsSome (current (c.log j))) ms
                   (each_two (λ m. Shown c (Lent m.0 m.1)) (λ m. IsSome (snapshot_in m.1.phase)) (λ m. IsSome (current (c.log m.0))) ms
-                  (λ m s l. subst IsSome (sym (r.steady.logs_answer.reads m.0 ∙ ap snapshot_in s.0)) l) each may.live);
+                  (λ m s l. subst IsSome (sym ((steady r).logs_answer.reads m.0 ∙ ap snapshot_in s.0)) l) each may.live);
               plain = each_who (λ j. IsTrue (is_plain (c.log j))) ms (logs_plain c ms all.1.1 may.plain);
               stamped = λ k. cases (is_in js k)
                   (λ e. (each_part (λ k p. has_stamped k c.stamped_list ≡ true) ms k

@@ -12,7 +12,6 @@ use Rattle.hg_core.specs.Visits.{IsVisiting, removing}
 use Rattle.hg_core.specs.State.{CoreState}
 use Rattle.hg_core.specs.Events.{happens, with_removed, Reclaim}
 use Rattle.hg_core.proofs.Indices.{put_here, put_else}
-use Rattle.hg_core.proofs.Reclaiming.{reclaim_kept}
 use Rattle.hg_rule.specs.declared.view.BucketPart.{BucketPart}
 use Rattle.hg_rule.specs.declared.view.PassPart.{PassPart}
 use Rattle.hg_rule.specs.declared.view.Part.{Part}
@@ -32,6 +31,7 @@ use Rattle.hg_rule.proofs.Registers.{loaded_words}
 use Rattle.hg_rule.proofs.Owned.{Leaves, leaves_only, not_first, not_second, own_second, held_versions, stored_here, stored_else}
 use Rattle.hg_rule.proofs.Evidence.{own_pass, log_stays}
 use Rattle.hg_rule.proofs.Works.{counters_else}
+use Rattle.hg_rule.proofs.Reached.{acted}
 
 reclaim_leaves : (c d : CoreState) (p b : ℕ) (old : PassPart) (part : BucketPart) → d.phase ≡ c.phase → d.log ≡ c.log → d.stamped_list ≡ c.stamped_list
     → ((k : ℕ) → (k ≡ b → ⊥) → d.bucket k ≡ c.bucket k) → ((k : ℕ) → (k ≡ b → ⊥) → d.counters k ≡ c.counters k) → d.history ≡ c.history → d.taken ≡ c.taken → d.pass ≡ c.pass →
@@ -82,7 +82,7 @@ reclaims z slots id rid kind m is whole bucketed place here t r deep at small =
       tt,
       keep z t r id v (OfPass p (pass v) ∷ OfBucket b (bucket v) ∷ []) (OfPass p new ∷ OfBucket b part ∷ []) (beyond v) [] (events.Reclaim p kind rid (removed_of v rid kind)) 0 n d at
           (is ∙ ap (λ (l : List Part). OfPass p (pass v) ∷ l) bucketed) record {
-            steady = reclaim_kept c p kind rid r.steady record {
+            reached = acted z c (Reclaim p kind rid) r.reached record {
               whole = subst (λ n. IsWhole n (c.pass p)) (sym r.sized.sessions) (subst (IsWhole z.sessions) (sym own.0) whole);
               here = subst (λ n. IsVisiting n (c.visits p)) (sym place') (subst (IsVisiting b) (sym own.1.0) here);
             };

@@ -1,9 +1,10 @@
 -- What a collector's pass loads into its record is allowed: mark, sample and sample_mask.
-use Rattle.std.proofs.Common.{◌≡◌, ℕ, ◌+◌, Bool, true, false, List, [], ◌∷◌, length, get_or, Option, Some, None, refl, sym, ap, ◌∙◌, subst, arith}
+use Rattle.std.proofs.Common.{suc, ◌≡◌, ℕ, ◌+◌, Bool, true, false, List, [], ◌∷◌, ◌++◌, length, get_or, Option, Some, None, refl, sym, ap, ◌∙◌, subst, arith}
 use Rattle.std.proofs.Common.{inl, inr, length-append, le_refl}
-use Rattle.std.specs.Prelude.{if◌then◌else◌, IsTrue, IsNone, max, ◌≤◌, ◌==◌}
+use Rattle.std.specs.Prelude.{if◌then◌else◌, IsTrue, IsNone, max, ◌<◌, ◌≤◌, ◌==◌}
 use Rattle.std.proofs.lemmas.Bool.Decides.{nat_tests}
-use mathlib.Core.Option.{none}
+use mathlib.Core.Option.{some, none}
+use lib.ListN.{get_elem?}
 use Rattle.atomic_table.specs.Table.{step, keeps, Allows}
 use Rattle.hg_base.specs.declared.scope.Scope.{Scope}
 use Rattle.hg_base.specs.declared.scope.Snapshot.{Snapshot}
@@ -22,9 +23,9 @@ use Rattle.hg_core.specs.Passes.{PassRecord, found}
 use Rattle.hg_core.specs.Contents.{has_stamped}
 use Rattle.hg_core.specs.Registers.{Shows}
 use Rattle.hg_core.specs.State.{CoreState}
-use Rattle.hg_core.specs.Events.{moved, masked_in, sampled as sampling, happens, Mark, Sample, SampleMask}
+use Rattle.hg_core.specs.declared.journal.PassEntry.TheVariants.{Marked}
+use Rattle.hg_core.specs.Events.{moved, masked_in, sampled as sampling, masked as with_mask, happens, Mark, Sample, SampleMask}
 use Rattle.hg_core.proofs.Indices.{put_here, put_else}
-use Rattle.hg_core.proofs.Gathers.{mark_kept, sample_kept, sample_mask_kept}
 use Rattle.hg_rule.specs.declared.view.PassPart.{PassPart}
 use Rattle.hg_rule.specs.declared.view.Part.{Part}
 use Rattle.hg_rule.specs.declared.view.Part.TheVariants.{OfSession, OfBucket, OfCommit, OfPass, Away, Lent}
@@ -33,18 +34,20 @@ use Rattle.hg_rule.specs.declared.view.Sight.TheVariants as sights
 use Rattle.hg_rule.specs.declared.view.Event.TheVariants as events
 use Rattle.hg_rule.specs.declared.view.View.{View}
 use Rattle.hg_rule.specs.declared.view.Sizes.{Sizes}
-use Rattle.hg_rule.specs.Keys.{key_of, count}
+use Rattle.hg_rule.specs.Keys.{pass_key, key_of, count}
 use Rattle.hg_rule.specs.Facts.{IsAmong, groups, heard, HasBegun, Shown, Known}
 use Rattle.hg_rule.specs.Words.{register_at, mask_at}
 use Rattle.hg_rule.specs.Rules.{HasRoom, Rule}
 use Rattle.hg_rule.specs.Views.{number, pass, others, HasPass, then_has}
 use Rattle.hg_rule.specs.Steps.{Seated, Samples, SamplesMask, AwaitsMask, beginning, loading, masking}
 use Rattle.hg_rule.specs.Steps.{marked, sampled, masked}
-use Rattle.hg_rule.proofs.Counts.{another, away_same}
+use Rattle.hg_rule.proofs.Counts.{another, away_same, one_true}
 use Rattle.hg_rule.proofs.Lists.{starts_same}
-use Rattle.hg_rule.proofs.Keeps.{keep}
+use Rattle.hg_rule.proofs.Keeps.{Table, keep}
+use Rattle.hg_rule.proofs.Turning.{there, has_part}
 use Rattle.hg_rule.proofs.Registers.{word_back, loaded_words, register_small}
 use Rattle.hg_rule.proofs.Evidence.{own_pass, at_board, history_at, one_register, log_stays}
+use Rattle.hg_rule.proofs.Reached.{steady, acted}
 
 -- what a pass's step leaves
 pub record Collecting (c d : CoreState) (p : ℕ) : Type 0 where
@@ -84,6 +87,10 @@ heard_most s j (sights.Heard k log ∷ xs) h = go (k == j) refl (heard_most s j 
         let a : ℕ = length (s.log j) in let b : ℕ = length log in let x : ℕ = heard j xs in let i : x ≤ a = less in
         omega arith
 
+-- the pass of a view is there
+pub pass_low : (z : Sizes) (t : Table) (r : Rule z t) (id : ℕ) (v : View) → get_elem? t.views id ≡ some v → HasPass v → number v < r.state.passes
+pass_low z t r id v at is = r.passes.below (number v) (one_true (r.used (number v)) (there z t r id v (pass_key (number v)) at (has_part (OfPass (number v) (pass v)) (others v) v.parts is)))
+
 pub marks : (z : Sizes) (slots id : ℕ) (m : Seated) → HasRoom z → HasPass m.0 → Allows (Rule z) slots id m 0 (λ n. n) (marked (step slots 0 0 0 none) m)
 marks z slots id m room is t r deep at small =
     let v : View = m.0 in
@@ -100,7 +107,7 @@ marks z slots id m room is t r deep at small =
       keeps,
       tt,
       keep z t r id v (OfPass p (pass v) ∷ []) (OfPass p new ∷ []) (others v) (sights.Saw (groups c.history) ∷ []) (events.Mark p n) 0 n d at is record {
-        steady = mark_kept c p known r.steady (λ j. heard_most c j v.sights (r.shown id v at).sights);
+        reached = acted z c (Mark p known) r.reached record { there = pass_low z t r id v at is; known_of = λ j. heard_most c j v.sights (r.shown id v at).sights };
         sized = record { sessions = r.sized.sessions; tables = r.sized.tables; buckets = r.sized.buckets; quota = r.sized.quota };
         passes = refl;
         shows = record { count = w.count; mark = w.mark; registers = w.registers; masks = w.masks };
@@ -119,7 +126,7 @@ marks z slots id m room is t r deep at small =
         };
         counts = λ k. refl;
         shared = refl;
-        shown = ((put_here c.pass p _ ∙ (λ i. record { mark = sym r.words.mark i; known = known; loaded = [] }), own.1), tt);
+        shown = ((put_here c.pass p _ ∙ (λ i. record { mark = sym r.words.mark i; round = suc (own.0 i).round; known = known; loaded = []; journal = (own.0 i).journal ++ Marked (sym r.words.mark i) ∷ [] }), own.1), tt);
         known = (starts_same c.history, tt);
         stands = tt;
       },
@@ -158,7 +165,7 @@ samples_there z slots id j m room is inside fresh t r deep at small =
     let p : ℕ = number v in
     let n : ℕ = get_or t.words (register_at j) 0 in
     let register : Register = register_of n in
-    let back : c.register j ≡ register = sym (ap register_of (r.words.registers j inside) ∙ word_back (c.register j) (register_small z c j room r.sized r.steady)) in
+    let back : c.register j ≡ register = sym (ap register_of (r.words.registers j inside) ∙ word_back (c.register j) (register_small z c j room r.sized (steady r))) in
     let new : PassPart = loading j register (pass v) in
     let d : CoreState = happens c (Sample p j) in
     let own = own_pass z t r id v at is in
@@ -168,7 +175,7 @@ samples_there z slots id j m room is inside fresh t r deep at small =
       keeps,
       tt,
       keep z t r id v (OfPass p (pass v) ∷ []) (OfPass p new ∷ []) (others v) [] (events.Sample p j register) (register_at j) n d at is record {
-        steady = sample_kept c p j r.steady record { session = at_board z c j r.sized inside; fresh = subst IsNone (sym (ap (λ (x : PassRecord). found j x.loaded) own.0 ∙ fresh)) refl };
+        reached = acted z c (Sample p j) r.reached record { there = pass_low z t r id v at is; session = at_board z c j r.sized inside; fresh = subst IsNone (sym (ap (λ (x : PassRecord). found j x.loaded) own.0 ∙ fresh)) refl };
         sized = record { sessions = r.sized.sessions; tables = r.sized.tables; buckets = r.sized.buckets; quota = r.sized.quota };
         passes = refl;
         shows = record { count = w.count; mark = w.mark; registers = w.registers; masks = w.masks };
@@ -189,12 +196,12 @@ samples_there z slots id j m room is inside fresh t r deep at small =
         shared = refl;
         shown = ((put_here c.pass p _ ∙ (λ i. sampling (own.0 i) j (back i)), own.1), tt);
         known = tt;
-        stands = subst (λ x. HasBegun x (c.log j)) back (register_begun (c.register j) (c.phase j) (c.log j) (r.steady.registers_agree.shows j) (r.steady.logs_answer.reads j));
+        stands = subst (λ x. HasBegun x (c.log j)) back (register_begun (c.register j) (c.phase j) (c.log j) ((steady r).registers_agree.shows j) ((steady r).logs_answer.reads j));
       },
       (
         (λ i same. subst (λ i. Samples v i register (then_has v (OfPass p new ∷ others v) [] (events.Sample p j register))) (one_register j i same) refl),
         subst IsRegister back
-            (register_small z c j room r.sized r.steady),
+            (register_small z c j room r.sized (steady r)),
         refl,
       ),
     )
@@ -242,7 +249,7 @@ samples_mask_there z slots id j m is has_it t r deep at small =
       keeps,
       tt,
       keep z t r id v (OfPass p (pass v) ∷ []) (OfPass p new ∷ []) (others v) [] (events.SampleMask p j n) (mask_at j) n d at is record {
-        steady = sample_mask_kept c p j r.steady (entry.0, entry.1, ap (λ (x : PassRecord). found j x.loaded) own.0 ∙ entry.2);
+        reached = acted z c (SampleMask p j) r.reached (entry.0, entry.1, ap (λ (x : PassRecord). found j x.loaded) own.0 ∙ entry.2);
         sized = record { sessions = r.sized.sessions; tables = r.sized.tables; buckets = r.sized.buckets; quota = r.sized.quota };
         passes = refl;
         shows = record { count = w.count; mark = w.mark; registers = w.registers; masks = w.masks };
@@ -261,7 +268,7 @@ samples_mask_there z slots id j m is has_it t r deep at small =
         };
         counts = λ k. refl;
         shared = refl;
-        shown = ((put_here c.pass p _ ∙ (λ i. record (own.0 i) { loaded = masked_in j (mask i) (own.0 i).loaded }), own.1), tt);
+        shown = ((put_here c.pass p _ ∙ (λ i. with_mask (own.0 i) j (mask i)), own.1), tt);
         known = tt;
         stands = tt;
       },

@@ -13,7 +13,6 @@ use Rattle.hg_core.specs.Versions.{stamped, IsOpenBy}
 use Rattle.hg_core.specs.Contents.{bucket_of, store, versions, has_stamped}
 use Rattle.hg_core.specs.State.{CoreState}
 use Rattle.hg_core.specs.Events.{happens, Stamp as StampIt}
-use Rattle.hg_core.proofs.Writing.{stamp_kept}
 use Rattle.hg_rule.specs.declared.view.SessionPart.{SessionPart}
 use Rattle.hg_rule.specs.declared.view.BucketPart.{BucketPart}
 use Rattle.hg_rule.specs.declared.view.CommitPart.{CommitPart}
@@ -36,6 +35,7 @@ use Rattle.hg_rule.proofs.Registers.{loaded_words}
 use Rattle.hg_rule.proofs.Owned.{Leaves, leaves_only, not_second, held_versions, stored_here, stored_else}
 use Rattle.hg_rule.proofs.Evidence.{log_stays}
 use Rattle.hg_rule.proofs.Members.{each_part, each_lent, there, lent_shares, flag_count, alike, unlike}
+use Rattle.hg_rule.proofs.Reached.{steady, acted}
 
 turned : (j k : ℕ) → (k == j) ≡ false → (j == k) ≡ false
 turned j k e = grind (arith, nat_tests)
@@ -97,7 +97,7 @@ may_stamp z slots id j rid m is both far among plain place mine t r deep at smal
     let place' : bucket_of c.buckets rid ≡ b = ap (λ n. bucket_of n rid) r.sized.buckets ∙ place in
     let vs : versions c.buckets c.bucket rid ≡ held v rid = held_versions c 0 z.buckets b (bucket v).content rid r.sized.buckets place there.0 in
     let w : writer_of (begun_in c.log) j ≡ writer_at j ms = (λ i. record { session = j; transaction = begans (own.1.0 i) }) in
-    let mark : c.mark ≡ length h.history.list = r.steady.mark_is_length.is_length ∙ ap length list.0 in
+    let mark : c.mark ≡ length h.history.list = (steady r).mark_is_length.is_length ∙ ap length list.0 in
     let next : ℕ = suc (length h.history.list) in
     let d : CoreState = happens c (StampIt j rid) in
     let part : BucketPart = stamping next (writer_at j ms) rid (bucket v) in
@@ -110,7 +110,7 @@ may_stamp z slots id j rid m is both far among plain place mine t r deep at smal
       tt,
       subst (λ (ps : List Part). Rule z record { words = set t.words 0 n; homes = t.homes; views = set t.views id (then_has v ps [] (events.Stamp j rid next)) }) (append-nil qs')
           (keep z t r id v qs qs' [] [] (events.Stamp j rid next) 0 n d at (parts ∙ sym (append-nil qs)) record {
-            steady = stamp_kept c j rid r.steady record {
+            reached = acted z c (StampIt j rid) r.reached record {
               mine = subst (λ w. IsOpenBy w (versions c.buckets c.bucket rid)) (sym w) (subst (IsOpenBy (writer_at j ms)) (sym vs) mine);
               plain = subst (λ l. IsTrue (is_plain l)) (sym own.1.0) plain;
             };

@@ -13,10 +13,8 @@ use Rattle.hg_core.specs.Contents.{Content}
 use Rattle.hg_core.specs.Visits.{IsVisiting, giving}
 use Rattle.hg_core.specs.State.{CoreState}
 use Rattle.hg_core.specs.Events.{put}
-use Rattle.hg_core.specs.Steps.{Arrive, Leave, step}
-use Rattle.hg_core.specs.Invariant.{IsSteady}
+use Rattle.hg_core.specs.Steps.{Arrive, Leave, step, LeadsTo}
 use Rattle.hg_core.proofs.Indices.{put_here, put_else}
-use Rattle.hg_core.proofs.Seats.{arrive_kept, leave_kept}
 use Rattle.hg_rule.specs.declared.view.BucketPart.{BucketPart}
 use Rattle.hg_rule.specs.declared.view.CommitPart.{CommitPart}
 use Rattle.hg_rule.specs.declared.view.PassPart.{PassPart}
@@ -26,7 +24,7 @@ use Rattle.hg_rule.specs.declared.view.View.{View}
 use Rattle.hg_rule.specs.declared.view.Sizes.{Sizes}
 use Rattle.hg_rule.specs.Keys.{Key, bucket_key, pass_key, key_of, has, one, count, tally, share_of, shares, expected}
 use Rattle.hg_rule.specs.Facts.{Shown, Known}
-use Rattle.hg_rule.specs.Rules.{Rule}
+use Rattle.hg_rule.specs.Rules.{new_state, Rule}
 use Rattle.hg_rule.specs.Views.{seeing, first_in, others, part_number}
 use Rattle.hg_rule.specs.Moves.{put_in, joined, spent}
 use Rattle.hg_rule.specs.Holding.{bucket, bucket_number, beyond, commit}
@@ -38,6 +36,7 @@ use Rattle.hg_rule.proofs.Growing.{Grows}
 use Rattle.hg_rule.proofs.Lists.{starts_same, ends_same, each_append}
 use Rattle.hg_rule.proofs.Keeps.{Table, turn, true_on, may_split, tally_one}
 use Rattle.hg_rule.proofs.Shifts.{joins}
+use Rattle.hg_rule.proofs.Reached.{stepped}
 
 -- ---- the parts that a view has are there
 
@@ -69,11 +68,11 @@ visits_only c p old visits (Lent k t) away s = s
 visits_only c p old visits (OfPass q t) away s = (s.0, (put_else c.visits p q visits (another p q away) ∙ s.1.0, s.1.1))
 
 turned : (z : Sizes) (t : Table) (r : Rule z t) (id : ℕ) (v : View) (p : ℕ) (part : PassPart) (ps : List Part) (visits : List Visit) → get_elem? t.views id ≡ some v → v.parts ≡ OfPass p part ∷ ps
-    → IsSteady (record r.state { visits = put r.state.visits p visits })
+    → LeadsTo (new_state z) (record r.state { visits = put r.state.visits p visits })
     → Rule z record { words = t.words; homes = t.homes; views = set t.views id (seeing (OfPass p (record part { visits = visits }) ∷ ps) v.sights v.events) }
-turned z t r id v p part ps visits at is steady = turn z t r id v (seeing (OfPass p new ∷ ps) v.sights v.events) (OfPass p part ∷ []) (OfPass p new ∷ []) ps t.words d at is refl
+turned z t r id v p part ps visits at is reached = turn z t r id v (seeing (OfPass p new ∷ ps) v.sights v.events) (OfPass p part ∷ []) (OfPass p new ∷ []) ps t.words d at is refl
     record {
-      steady = steady;
+      reached = reached;
       sized = record { sessions = r.sized.sessions; tables = r.sized.tables; buckets = r.sized.buckets; quota = r.sized.quota };
       passes = refl;
       shows = record { count = r.words.count; mark = r.words.mark; registers = r.words.registers; masks = r.words.masks };
@@ -118,9 +117,9 @@ arrived z t id v b (OfPass p part ∷ ps) at is r l =
     let own : Shown c (OfPass p part) = (subst (Each (Shown c)) is (r.shown id v at).parts).0 in
     let small : p < c.passes = r.passes.below p (one_true (r.used p) (there z t r id v (pass_key p) at (has_part (OfPass p part) ps v.parts is))) in
     let low : b < z.buckets = ltb_less b z.buckets l in
-    let kept : IsSteady (step c (Arrive p b)) = arrive_kept c p b r.steady record { pass = small; bucket = subst (λ n. b < n) (sym r.sized.buckets) low } in
+    let kept : LeadsTo (new_state z) (step c (Arrive p b)) = stepped z c (Arrive p b) r.reached record { pass = small; bucket = subst (λ n. b < n) (sym r.sized.buckets) low } in
     turned z t r id v p part ps (arriving b part).visits at is
-    (subst (λ (visits : List Visit). IsSteady (record c { visits = put c.visits p visits })) (λ i. record { bucket = b; mark = (own.0 i).mark; removed = none_removed; given = None } ∷ own.1.0 i) kept)
+    (subst (λ (visits : List Visit). LeadsTo (new_state z) (record c { visits = put c.visits p visits })) (λ i. record { bucket = b; mark = (own.0 i).mark; round = (own.0 i).round; removed = none_removed; given = None } ∷ own.1.0 i) kept)
 
 departed : (z : Sizes) (t : Table) (id : ℕ) (v : View) (b : ℕ) (part : BucketPart) (ps : List Part) (p : Part) → get_elem? t.views id ≡ some v →
     v.parts ≡ p ∷ OfBucket b part ∷ ps → (r : Rule z t) → IsThere b p
@@ -133,9 +132,9 @@ departed z t id v b part ps (Lent j s) at is r l = same_view z t id v (Lent j s 
 departed z t id v b part ps (OfPass p s) at is r l =
     let c = r.state in
     let own : Each (Shown c) (OfPass p s ∷ OfBucket b part ∷ ps) = subst (Each (Shown c)) is (r.shown id v at).parts in
-    let kept : IsSteady (step c (Leave p)) = leave_kept c p r.steady (b, subst (IsVisiting b) (sym own.0.1.0) l) in
+    let kept : LeadsTo (new_state z) (step c (Leave p)) = stepped z c (Leave p) r.reached (b, subst (IsVisiting b) (sym own.0.1.0) l) in
     turned z t r id v p s (OfBucket b part ∷ ps) (departing part.content s).visits at is
-    (subst (λ (visits : List Visit). IsSteady (record c { visits = put c.visits p visits })) (given c.bucket part.content b s.visits l own.1.0.0 (c.visits p) own.0.1.0) kept)
+    (subst (λ (visits : List Visit). LeadsTo (new_state z) (record c { visits = put c.visits p visits })) (given c.bucket part.content b s.visits l own.1.0.0 (c.visits p) own.0.1.0) kept)
   where
     given : (bucket : ℕ → Content) (content : Content) (b : ℕ) (visits : List Visit) → IsVisiting b visits → bucket b ≡ content → (vs : List Visit) → vs ≡ visits →
         giving bucket vs ≡ giving (λ b. content) visits

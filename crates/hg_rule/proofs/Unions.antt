@@ -9,6 +9,8 @@ use Rattle.hg_base.specs.Lists.{Each}
 use Rattle.hg_core.specs.declared.visit.Visit.{Visit}
 use Rattle.hg_core.specs.State.{CoreState}
 use Rattle.hg_core.specs.Events.{put}
+use Rattle.hg_core.specs.Passes.{PassRecord}
+use Rattle.hg_core.specs.Steps.{IsUnused, Unite, with_journal, united as passes_united}
 use Rattle.hg_core.proofs.Indices.{by_number, put_here, put_else}
 use Rattle.hg_rule.specs.declared.view.PassPart.{PassPart}
 use Rattle.hg_rule.specs.declared.view.Part.{Part}
@@ -29,8 +31,9 @@ use Rattle.hg_rule.proofs.Lists.{each_append, starts_same, ends_same}
 use Rattle.hg_rule.proofs.Keeps.{tally_one, true_on, may_join}
 use Rattle.hg_rule.proofs.Registers.{loaded_words}
 use Rattle.hg_rule.proofs.Shifts.{put_in_count, put_in_shares, put_in_each}
-use Rattle.hg_rule.proofs.Unity.{tight, together, together_kept}
+use Rattle.hg_rule.proofs.Unity.{tight}
 use Rattle.hg_rule.proofs.Uses.{turn_to, passing_only, unlike}
+use Rattle.hg_rule.proofs.Reached.{stepped}
 
 module _ (used : ℕ → Bool) (p q : ℕ) (is_used : used q ≡ true) where
   abbrev one_less : ℕ → Bool
@@ -57,12 +60,12 @@ may_unite z slots id m is next t r deep at small =
       tt,
       turn_to z t r id v u qs qs (OfPass p both ∷ []) (beyond v) _ used' d at parts refl
           (record {
-            steady = together_kept c p q fewer.0 r.steady apart_from (r.passes.below p p_used) (r.passes.below q q_used) fewer.1.0 rest;
+            reached = stepped z c (Unite p q fewer.0) r.reached record { apart = apart_from; first = r.passes.below p p_used; other = r.passes.below q q_used; most = fewer.1.0; rest = rest };
             sized = record { sessions = r.sized.sessions; tables = r.sized.tables; buckets = r.sized.buckets; quota = r.sized.quota };
             passes = fewer.1.1;
             shows = record { count = w.count; mark = w.mark; registers = w.registers; masks = w.masks };
             grows = grows;
-            only = passing_only c fewer.0 p q d.pass d.visits old more record { pass = λ k a b. put_else c.pass q k _ b; visits = λ k a b. put_else gathered q k [] b ∙ put_else c.visits p k _ a };
+            only = passing_only c fewer.0 p q d.pass d.visits old more record { pass = λ k a b. put_else noted q k _ b ∙ put_else c.pass p k _ a; visits = λ k a b. put_else gathered q k [] b ∙ put_else c.visits p k _ a };
             apart = λ k. let a : ℕ = count k qs in let x : ℕ = expected z r.used k in let l : x ≤ 1 = expected_small z r.used k in omega arith;
             counts = counts;
             outside = outside;
@@ -70,7 +73,8 @@ may_unite z slots id m is next t r deep at small =
           })
           (λ ps. true_on c d v (OfPass p both ∷ beyond v) grows (
             (
-              put_else c.pass q p _ apart_from ∙ all.0.0,
+              put_else noted q p _ apart_from ∙
+                  (put_here c.pass p _ ∙ (λ i. record (all.0.0 i) { journal = (all.0.0 i).journal ++ (all.1.0.0 i).journal })),
               (
                 put_else gathered q p [] apart_from ∙
                     (put_here c.visits p _ ∙ (λ i. all.1.0.1.0 i ++ all.0.1.0 i)),
@@ -140,11 +144,14 @@ may_unite z slots id m is next t r deep at small =
     fewer : (m : ℕ) × ((m ≤ c.passes) × AreUsed m used')
     fewer = tight c.passes used' still
 
+    noted : ℕ → PassRecord
+    noted = put c.pass p (with_journal c p q)
+
     gathered : ℕ → List Visit
     gathered = put c.visits p (c.visits q ++ c.visits p)
 
     d : CoreState
-    d = together c p q fewer.0
+    d = passes_united c p q fewer.0
 
     grows : Grows c d
     grows = record { history = starts_same c.history; logs = λ k. ends_same (c.log k); taken = omega arith }
@@ -154,19 +161,19 @@ may_unite z slots id m is next t r deep at small =
     unused x e = go (ℕ_discrete x q)
       where
         go : Dec (x ≡ q) → Shown d (new_part (pass_key x))
-        go (yes same) = (ap d.pass same ∙ put_here c.pass q _, (ap d.visits same ∙ put_here gathered q [], omega arith))
+        go (yes same) = (ap d.pass same ∙ put_here noted q _, (ap d.visits same ∙ put_here gathered q [], omega arith))
         go (no away) =
             let none : r.used x ≡ false = sym (put_else r.used q x false away) ∙ e in
             let other : x ≢ p = (λ (same : x ≡ p). true≢false (sym (ap r.used same ∙ p_used) ∙ none)) in
             let h = r.outside (pass_key x) (ap one none) in
-            (put_else c.pass q x _ away ∙ h.0, (put_else gathered q x [] away ∙ (put_else c.visits p x _ other ∙ h.1.0), h.1.1))
+            (put_else noted q x _ away ∙ (put_else c.pass p x _ other ∙ h.0), (put_else gathered q x [] away ∙ (put_else c.visits p x _ other ∙ h.1.0), h.1.1))
 
-    rest : (x : ℕ) → (x < fewer.0) ⊎ (d.visits x ≡ [])
+    rest : (x : ℕ) → (x < fewer.0) ⊎ IsUnused d x
     rest x = go (used' x) refl
       where
-        go : (b : Bool) → used' x ≡ b → (x < fewer.0) ⊎ (d.visits x ≡ [])
+        go : (b : Bool) → used' x ≡ b → (x < fewer.0) ⊎ IsUnused d x
         go true e = inl (fewer.1.1.below x e)
-        go false e = inr (unused x e).1.0
+        go false e = let h = unused x e in inr record { bare = h.0; none = h.1.0 }
 
     counts : (k : Key) → expected z used' k + count k qs ≡ expected z r.used k + count k (OfPass p both ∷ [])
     counts (session_key j) = nothing_less (expected z r.used (session_key j))

@@ -8,7 +8,7 @@ use Rattle.hg_base.specs.Lists.{Each}
 use Rattle.hg_core.specs.declared.visit.Visit.{Visit}
 use Rattle.hg_core.specs.Passes.{PassRecord}
 use Rattle.hg_core.specs.State.{CoreState}
-use Rattle.hg_core.specs.Invariant.{IsSteady}
+use Rattle.hg_core.specs.Steps.{LeadsTo}
 use Rattle.hg_rule.specs.declared.view.PassPart.{PassPart}
 use Rattle.hg_rule.specs.declared.view.Part.{Part}
 use Rattle.hg_rule.specs.declared.view.Part.TheVariants.{OfSession, OfBucket, OfCommit, OfPass, Away, Lent}
@@ -16,7 +16,7 @@ use Rattle.hg_rule.specs.declared.view.View.{View}
 use Rattle.hg_rule.specs.declared.view.Sizes.{Sizes}
 use Rattle.hg_rule.specs.Keys.{Key, one, count, tally, shares, all_shares, expected}
 use Rattle.hg_rule.specs.Facts.{Shown, new_part}
-use Rattle.hg_rule.specs.Rules.{IsSized, ShowsWords, IsTrueOf, AreUsed, Rule}
+use Rattle.hg_rule.specs.Rules.{IsSized, ShowsWords, IsTrueOf, AreUsed, new_state, Rule}
 use Rattle.hg_rule.proofs.Counts.{count_append, shares_append, Only, stay}
 use Rattle.hg_rule.proofs.Growing.{Grows}
 use Rattle.hg_rule.proofs.Lists.{each_right}
@@ -26,7 +26,7 @@ use Rattle.hg_rule.proofs.Keeps.{Table, tally_set, tally_one, tally_two, shares_
 
 -- The state c turns into d, where other passes are in use. The two differ in the keys of some parts alone.
 pub record TurnsTo (z : Sizes) (used used' : ℕ → Bool) (c d : CoreState) (words : List ℕ) (ts qs qs' : List Part) : Type 0 where
-  pub steady : IsSteady d
+  pub reached : LeadsTo (new_state z) d
   pub sized : IsSized z d
   pub passes : AreUsed d.passes used'
   pub shows : ShowsWords z d words
@@ -43,7 +43,7 @@ pub turn_to : (z : Sizes) (t : Table) (r : Rule z t) (id : ℕ) (v w : View) (ts
     → Rule z record { words = words; homes = t.homes; views = set t.views id w }
 turn_to z t r id v w ts qs qs' ps words used' d at is is' h own = record {
   state = d;
-  steady = h.steady;
+  reached = h.reached;
   sized = h.sized;
   words = h.shows;
   used = used';

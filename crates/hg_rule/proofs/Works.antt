@@ -26,7 +26,6 @@ use Rattle.hg_core.specs.Counters.{added}
 use Rattle.hg_core.specs.State.{CoreState}
 use Rattle.hg_core.specs.Events.{put, happens, with_made, with_undone, Install, Undo}
 use Rattle.hg_core.proofs.Indices.{put_here, put_else}
-use Rattle.hg_core.proofs.Writing.{install_kept, undo_kept}
 use Rattle.hg_rule.specs.declared.view.SessionPart.{SessionPart}
 use Rattle.hg_rule.specs.declared.view.BucketPart.{BucketPart}
 use Rattle.hg_rule.specs.declared.view.Part.{Part}
@@ -47,6 +46,7 @@ use Rattle.hg_rule.proofs.Keeps.{keep}
 use Rattle.hg_rule.proofs.Registers.{loaded_words}
 use Rattle.hg_rule.proofs.Owned.{Leaves, leaves_only, not_first, not_second, log_put, own_second, held_versions, stored_here, stored_else, live_is, writer_is}
 use Rattle.hg_rule.proofs.Evidence.{own_session}
+use Rattle.hg_rule.proofs.Reached.{steady, acted}
 
 -- ---- what the condition of a write says at the mark
 
@@ -123,7 +123,7 @@ installs z slots id rid image m is live plain unstamped bucketed place table low
     let new : SessionPart = with_entry (entries.Wrote rid image) (session v) in
     let part : BucketPart = installing (writer v) rid image (bucket v) in
     let words = loaded_words z c t.words 0 r.words in
-    let snap : snapshot v ≤ c.mark = snapshot_low c.mark (c.phase j) (snapshot v) (tables v) (own.0 ∙ live_is (session v).phase live) (r.steady.mark_is_length.sessions j) in
+    let snap : snapshot v ≤ c.mark = snapshot_low c.mark (c.phase j) (snapshot v) (tables v) (own.0 ∙ live_is (session v).phase live) ((steady r).mark_is_length.sessions j) in
     let log : d.log j ≡ entries.Wrote rid image ∷ (session v).log = put_here c.log j _ ∙ ap (λ l. entries.Wrote rid image ∷ l) own.1.0 in
     let content : d.bucket b ≡ part.content = stored_here c.buckets c.bucket rid _ b (bucket v).content place' there.0 ∙ (λ i. store rid (installed (w i) image (vs i)) (bucket v).content) in
     let counts : d.counters b ≡ part.counters =
@@ -133,7 +133,7 @@ installs z slots id rid image m is live plain unstamped bucketed place table low
       tt,
       keep z t r id v (OfSession j (session v) ∷ OfBucket b (bucket v) ∷ []) (OfSession j new ∷ OfBucket b part ∷ []) (beyond v) (sights.Heard j new.log ∷ [])
           (events.Install j rid image) 0 n d at (is ∙ ap (λ (l : List Part). OfSession j (session v) ∷ l) bucketed) record {
-            steady = install_kept c j rid image r.steady (
+            reached = acted z c (Install j rid image) r.reached (
               snapshot v,
               tables v,
               record {
@@ -189,7 +189,7 @@ undoes z slots id rid m is unstamped bucketed place mine t r deep at small =
       tt,
       keep z t r id v (OfSession j (session v) ∷ OfBucket b (bucket v) ∷ []) (OfSession j new ∷ OfBucket b part ∷ []) (beyond v) (sights.Heard j new.log ∷ [])
           (events.Undo j rid) 0 n d at (is ∙ ap (λ (l : List Part). OfSession j (session v) ∷ l) bucketed) record {
-            steady = undo_kept c j rid r.steady record {
+            reached = acted z c (Undo j rid) r.reached record {
               mine = subst (λ w. IsOpenBy w (versions c.buckets c.bucket rid)) (sym w) (subst (IsOpenBy (writer v)) (sym vs) mine);
               unstamped = own.1.1 ∙ unstamped;
             };

@@ -56,7 +56,7 @@ heard j (Did e ∷ sights) = heard j sights
 
 -- the record of a pass
 abbrev pub record_of : PassPart → PassRecord
-record_of part = record { mark = part.mark; known = λ j. heard j part.seen; loaded = part.loaded }
+record_of part = record { mark = part.mark; round = part.round; known = λ j. heard j part.seen; loaded = part.loaded; journal = part.journal }
 
 -- the log is as it was when the part was handed over at mark n, or has one commit number more, which is over n
 abbrev pub IsLeft : ℕ → List LogEntry → List LogEntry → Type 0
@@ -85,7 +85,7 @@ new_commit = record { history = groups []; stamped = []; taken = 0 }
 
 -- a collector pass's part on a new board: a record of nothing, at mark 0
 abbrev pub new_pass : PassPart
-new_pass = record { mark = 0; seen = []; loaded = []; visits = []; share = first_share }
+new_pass = record { mark = 0; round = 0; seen = []; loaded = []; visits = []; journal = []; share = first_share }
 
 -- the part that a new board has for each key
 abbrev pub new_part : Key → Part

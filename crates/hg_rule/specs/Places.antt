@@ -18,9 +18,9 @@ HasFirst v = v.parts ≡ first_in v.parts ∷ others v
 
 -- ---- a bucket
 
--- a collector's pass begins a visit of bucket b, which keeps the mark of its record
+-- a collector's pass begins a visit of bucket b, which keeps the mark of its record and the number of its round
 abbrev pub arriving : ℕ → PassPart → PassPart
-arriving b part = record part { visits = record { bucket = b; mark = part.mark; removed = none_removed; given = None } ∷ part.visits }
+arriving b part = record part { visits = record { bucket = b; mark = part.mark; round = part.round; removed = none_removed; given = None } ∷ part.visits }
 
 -- a part after bucket b was joined to it: only a pass's begins a visit
 abbrev pub arrive : ℕ → Part → Part

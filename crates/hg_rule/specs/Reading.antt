@@ -6,6 +6,7 @@ use Rattle.hg_core.specs.declared.phase.Phase.TheVariants as phases
 use Rattle.hg_core.specs.Words.{register_of}
 use Rattle.hg_core.specs.Phases.{IsSession}
 use Rattle.hg_core.specs.State.{CoreState}
+use Rattle.hg_core.specs.Steps.{LeadsTo}
 use Rattle.hg_rule.specs.declared.view.Part.{Part}
 use Rattle.hg_rule.specs.declared.view.Part.TheVariants.{OfSession, OfBucket, OfCommit, OfPass, Away, Lent}
 use Rattle.hg_rule.specs.declared.view.View.{View}
@@ -13,6 +14,7 @@ use Rattle.hg_rule.specs.declared.view.Sizes.{Sizes}
 use Rattle.hg_rule.specs.Keys.{Key, session_key, bucket_key, commit_key, pass_key, both, has, count, shares, whole_share}
 use Rattle.hg_rule.specs.Words.{register_at, mask_at}
 use Rattle.hg_rule.specs.Facts.{record_of, new_part}
+use Rattle.hg_rule.specs.Rules.{new_state}
 use Rattle.hg_rule.specs.Views.{session_there, bucket_there, commit_there, pass_there}
 
 -- one of two parts, by a test
@@ -87,3 +89,13 @@ AllRest v = (j : ℕ) → (session_there (seek (session_key j) v.parts)).phase �
 -- the state that its parts are, while all registers are idle, so that no mask counts
 abbrev pub own_state : Sizes → View → CoreState
 own_state z v = state_of z (length (commit_there (seek commit_key v.parts)).history.list) (λ _. registers.Idle) (λ _. 0) v.parts
+
+-- a state without its masks
+abbrev pub unmasked : CoreState → CoreState
+unmasked s = record s { mask = λ _. 0 }
+
+-- The view's parts are the state in which one list of steps ends that begins at a new board. At rest no mask counts.
+pub record IsRunsEnd (z : Sizes) (v : View) : Type 0 where
+  pub state : CoreState
+  pub reached : LeadsTo (new_state z) state
+  pub own : unmasked state ≡ own_state z v

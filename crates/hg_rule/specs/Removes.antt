@@ -1,7 +1,8 @@
 -- What each step of a collector's pass on contents and on groups makes of its view.
-use Rattle.std.specs.Prelude.{◌≡◌, ℕ, suc, ◌-◌, List, [], ◌∷◌, length}
+use Rattle.std.specs.Prelude.{◌≡◌, ℕ, suc, ◌-◌, List, [], ◌∷◌, ◌++◌, length}
 use Rattle.hg_base.specs.declared.rid.Rid.{Rid}
 use Rattle.hg_base.specs.declared.report.Kind.{Kind}
+use Rattle.hg_core.specs.declared.journal.PassEntry.TheVariants as entries
 use Rattle.hg_core.specs.declared.version.Version.{Version}
 use Rattle.hg_core.specs.Contents.{store}
 use Rattle.hg_core.specs.Counters.{removed_more}
@@ -42,13 +43,17 @@ Reclaims v rid kind w = w ≡ then_has v (OfPass (number v) (visiting kind (remo
     (shortening rid kind (left_of v rid kind) (removed_of v rid kind) (bucket v)) ∷ beyond v) []
     (Reclaim (number v) kind rid (removed_of v rid kind))
 
+-- the pass notes that it took the group of this number
+abbrev pub noting : ℕ → PassPart → PassPart
+noting group part = record part { journal = part.journal ++ entries.Took group ∷ [] }
+
 -- the committer's part after one group more was taken out of its list
 abbrev pub taking : CommitPart → CommitPart
 taking part = record part { taken = suc part.taken }
 
 -- w is v after the pass took a group out of the committer's list, at the mark n
 abbrev pub Takes : View → ℕ → View → Type 0
-Takes v n w = IsHistoryAt v n (commit v).history.list × (w ≡ then_has v (OfPass (number v) (pass v) ∷ OfCommit (taking (commit v)) ∷ beyond v)
+Takes v n w = IsHistoryAt v n (commit v).history.list × (w ≡ then_has v (OfPass (number v) (noting (suc (commit v).taken) (pass v)) ∷ OfCommit (taking (commit v)) ∷ beyond v)
     (Saw (commit v).history ∷ Took (suc (commit v).taken) ∷ []) (Take (number v) n))
 
 -- ---- the same steps, as the table plays them

@@ -59,9 +59,9 @@ abbrev pub loaded_after : List (ℕ × Loaded) → List Event → List (ℕ × L
 loaded_after loaded [] = loaded
 loaded_after loaded (e ∷ events) = loaded_after (then_loaded e loaded) events
 
--- the record that these steps make; of the logs it says nothing
+-- the record that these steps make; of the logs and of earlier rounds it says nothing
 abbrev pub round_record : List Event → PassRecord
-round_record events = record { mark = mark_in events; known = λ j. 0; loaded = loaded_after [] events }
+round_record events = record { mark = mark_in events; round = 0; known = λ j. 0; loaded = loaded_after [] events; journal = [] }
 
 -- pass p made the record that it has in this round
 pub record IsRoundOf (p : ℕ) (part : PassPart) (events : List Event) : Type 0 where

@@ -1,4 +1,4 @@
--- The rule of the board: its words and views show a state that meets the invariant.
+-- The rule of the board: its words and views show a state that is reached by a list of steps, and so meets the invariant.
 use Rattle.std.specs.Prelude.{◌≡◌, ℕ, suc, ◌*◌, ◌^◌, ◌<◌, ◌≤◌, Bool, true, List, length, slice_index}
 use mathlib.Core.Option.{some}
 use lib.ListN.{get_elem?}
@@ -6,7 +6,8 @@ use Rattle.hg_base.specs.Lists.{Each}
 use Rattle.atomic_table.specs.Table.{State}
 use Rattle.hg_core.specs.Words.{word_of}
 use Rattle.hg_core.specs.Phases.{IsSession}
-use Rattle.hg_core.specs.State.{CoreState}
+use Rattle.hg_core.specs.State.{CoreState, opened}
+use Rattle.hg_core.specs.Steps.{LeadsTo}
 use Rattle.hg_core.specs.Invariant.{IsSteady}
 use Rattle.hg_rule.specs.declared.view.View.{View}
 use Rattle.hg_rule.specs.declared.view.Sizes.{Sizes}
@@ -49,11 +50,15 @@ pub record AreUsed (passes : ℕ) (used : ℕ → Bool) : Type 0 where
   -- the one before this number is in use
   pub last : (p : ℕ) → suc p ≡ passes → used p ≡ true
 
--- The rule: there is a state that words and views show, and it meets the invariant.
+-- the state of a new board of these sizes: it has three passes
+abbrev pub new_state : Sizes → CoreState
+new_state z = opened z.sessions z.tables z.buckets 3 z.quota
+
+-- The rule: there is a state that words and views show, and a list of steps from that of a new board reaches it.
 pub record Rule (z : Sizes) (t : State ℕ View) : Type 0 where
   pub state : CoreState
-  -- the state meets the invariant
-  pub steady : IsSteady state
+  -- a list of steps reaches the state, so it meets the invariant
+  pub reached : LeadsTo (new_state z) state
   -- it is the state of a board of these sizes
   pub sized : IsSized z state
   -- the words show its mark, its registers and its masks
@@ -70,10 +75,11 @@ pub record Rule (z : Sizes) (t : State ℕ View) : Type 0 where
   -- each view is true of the state
   pub shown : (i : ℕ) (v : View) → get_elem? t.views i ≡ some v → IsTrueOf state v
 
--- What a load of the mark says of a view: some state that meets the invariant has this mark, and is as the view says. A view that
--- has all shares has all passes.
+-- What a load of the mark says of a view: some state that is reached and meets the invariant has this mark, and is as the view says. A
+-- view that has all shares has all passes.
 pub record IsBacked (z : Sizes) (mark : ℕ) (v : View) : Type 0 where
   pub state : CoreState
+  pub reached : LeadsTo (new_state z) state
   pub steady : IsSteady state
   pub sized : IsSized z state
   -- the mark that was loaded is that of the state

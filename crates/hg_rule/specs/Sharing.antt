@@ -30,9 +30,9 @@ MaySplit (suc n) share = (2 ≤ share) × MaySplit n (kept_of share)
 abbrev pub halving : PassPart → PassPart
 halving part = record part { share = kept_of part.share }
 
--- the new pass's part after a split: it has the same record, and no visits
+-- the new pass's part after a split: it has the same record, no visits, and an empty journal
 abbrev pub branching : PassPart → PassPart
-branching part = record part { visits = []; share = given_of part.share }
+branching part = record part { visits = []; journal = []; share = given_of part.share }
 
 -- the view of a pass after a split
 abbrev pub halved : View → View
@@ -52,9 +52,9 @@ Buds n v w = w ≡ seeing (OfPass (number v) (halving (pass v)) ∷ OfPass n (br
 abbrev pub HasOnlyPass : View → Type 0
 HasOnlyPass v = v.parts ≡ OfPass (number v) (pass v) ∷ []
 
--- the part of two passes that become one: the other's visits come before the pass's own, and its share is added
+-- the part of two passes that become one: the other's visits come before the pass's own, its journal after it, and its share is added
 abbrev pub uniting : PassPart → PassPart → PassPart
-uniting other part = record part { visits = other.visits ++ part.visits; share = part.share + other.share }
+uniting other part = record part { visits = other.visits ++ part.visits; journal = part.journal ++ other.journal; share = part.share + other.share }
 
 -- v after it was united with w: what w had seen and done is v's too
 abbrev pub united : View → View → View

@@ -1,5 +1,5 @@
 -- What each step makes of the view of the pass that makes it.
-use Rattle.std.specs.Prelude.{◌≡◌, ℕ, ◌^◌, ◌<◌, ◌≤◌, ◌==◌, Bool, true, false, Option, Some, None, IsTrue, List, [], ◌∷◌, length, ⊤}
+use Rattle.std.specs.Prelude.{◌≡◌, ℕ, suc, ◌^◌, ◌<◌, ◌≤◌, ◌==◌, Bool, true, false, Option, Some, None, IsTrue, List, [], ◌∷◌, ◌++◌, length, ⊤}
 use Rattle.hg_base.specs.declared.scope.Scope.{Scope}
 use Rattle.hg_base.specs.History.{History}
 use Rattle.hg_base.specs.Lists.{Each}
@@ -7,6 +7,7 @@ use Rattle.atomic_table.specs.Table.{Me, Step}
 use Rattle.hg_core.specs.declared.loaded.Loaded.{Loaded}
 use Rattle.hg_core.specs.declared.register.Register.{Register}
 use Rattle.hg_core.specs.declared.register.Register.TheVariants as registers
+use Rattle.hg_core.specs.declared.journal.PassEntry.TheVariants.{Marked, Sampled, Masked, Tried}
 use Rattle.hg_core.specs.declared.phase.Phase.{Phase}
 use Rattle.hg_core.specs.declared.phase.Phase.TheVariants.{Idle, Declared, Probed, Entered, Fixed, Live}
 use Rattle.hg_core.specs.declared.log.LogEntry.{LogEntry}
@@ -106,21 +107,25 @@ Ends v w = w ≡ then_has v (OfSession (number v) (logging Over Idle (session v)
 
 -- ---- a collector pass's
 
--- a record begins, with what was seen so far
+-- the next round begins, with what was seen so far
 abbrev pub beginning : ℕ → List Sight → PassPart → PassPart
-beginning mark seen part = record part { mark = mark; seen = seen; loaded = [] }
+beginning mark seen part = record part { mark = mark; round = suc part.round; seen = seen; loaded = []; journal = part.journal ++ Marked mark ∷ [] }
 
 -- the first entry is session j's, with this register and no mask yet
 abbrev pub loading : ℕ → Register → PassPart → PassPart
-loading j register part = record part { loaded = (j, record { register = register; mask = None }) ∷ part.loaded }
+loading j register part = record part { loaded = (j, record { register = register; mask = None }) ∷ part.loaded; journal = part.journal ++ Sampled j register ∷ [] }
 
 -- session j's entry has its mask
 abbrev pub masking : ℕ → ℕ → PassPart → PassPart
-masking j mask part = record part { loaded = masked_in j mask part.loaded }
+masking j mask part = record part { loaded = masked_in j mask part.loaded; journal = part.journal ++ Masked j mask ∷ [] }
 
--- session j's entry is moved
-abbrev pub moving : ℕ → PassPart → PassPart
-moving j part = record part { loaded = moved_in j part.loaded }
+-- session j's entry is moved at this number
+abbrev pub moving : ℕ → ℕ → PassPart → PassPart
+moving j n part = record part { loaded = moved_in j part.loaded; journal = part.journal ++ Tried j n true ∷ [] }
+
+-- session j's entry was not moved at this number, though the pass tried
+abbrev pub missing : ℕ → ℕ → PassPart → PassPart
+missing j n part = record part { journal = part.journal ++ Tried j n false ∷ [] }
 
 -- w is v after the pass loaded the mark, n, and began a record; it has seen the history of that length
 abbrev pub Marks : View → ℕ → View → Type 0
@@ -134,14 +139,14 @@ Samples v j register w = w ≡ then_has v (OfPass (number v) (loading j register
 abbrev pub SamplesMask : View → ℕ → ℕ → View → Type 0
 SamplesMask v j mask w = w ≡ then_has v (OfPass (number v) (masking j mask (pass v)) ∷ others v) [] (SampleMask (number v) j mask)
 
--- the parts of v after the pass tried to move session j's register, which was moved or was not
-abbrev pub after_try : Bool → ℕ → View → List Part
-after_try true j v = OfPass (number v) (moving j (pass v)) ∷ others v
-after_try false j v = v.parts
+-- the parts of v after the pass tried to move session j's register at this number, which was moved or was not
+abbrev pub after_try : Bool → ℕ → ℕ → View → List Part
+after_try true j n v = OfPass (number v) (moving j n (pass v)) ∷ others v
+after_try false j n v = OfPass (number v) (missing j n (pass v)) ∷ others v
 
 -- w is v after the pass tried to move session j's snapshot n; `moved` says whether it did
 abbrev pub Moves : View → ℕ → ℕ → Bool → View → Type 0
-Moves v j n moved w = w ≡ then_has v (after_try moved j v) [] (Move (number v) j n moved)
+Moves v j n moved w = w ≡ then_has v (after_try moved j n v) [] (Move (number v) j n moved)
 
 -- a live register, declared and not moved
 abbrev pub IsMovable : Register → Type 0

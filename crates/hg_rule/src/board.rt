@@ -104,7 +104,7 @@ impl Board {
 
 impl Board {
     ghost use Rattle.hg_rule.specs.Rules.{IsBacked};
-    ghost use Rattle.hg_rule.specs.Reading.{HasAll, AllRest, own_state};
+    ghost use Rattle.hg_rule.specs.Reading.{HasAll, AllRest, own_state, IsRunsEnd};
     ghost use Rattle.hg_rule.specs.Seats.{board_id, sizes_of, view, IsSeatOf};
 
     fn look_as<P: Pass, A: Sized>(&self, pass: &mut P) -> u64
@@ -130,13 +130,14 @@ impl Board {
     }
 
     /// A pass that has each session, each bucket, the committer's part and all passes knows the whole invariant, of a state
-    /// that is written down from its own parts. The answer is the mark.
+    /// that is written down from its own parts; and that state is the end of one run. The answer is the mark.
     pub fn know_all<P: Pass>(&self, pass: &mut P) -> u64
         requires own { IsSeatOf (board_id self.now) (P.seat_of pass.old) }
         requires all { HasAll (sizes_of self.now) (view (P.seat_of pass.old)) }
         requires rest { AllRest (view (P.seat_of pass.old)) }
         ensures steady { IsSteady (own_state (sizes_of self.now) (view (P.seat_of pass.old))) }
         ensures mark { result ≡ (own_state (sizes_of self.now) (view (P.seat_of pass.old))).mark }
+        ensures run { IsRunsEnd (sizes_of self.now) (view (P.seat_of pass.old)) }
         ensures stays { view (P.seat_of pass.new) ≡ view (P.seat_of pass.old) }
         ensures own { IsSeatOf (board_id self.now) (P.seat_of pass.new) ×
             (P.rest_of pass.new ≡ P.rest_of pass.old) }

@@ -66,7 +66,7 @@ mod words;
 
 pub use board::{Board, state_is_read};
 pub use groups::Groups;
-pub use hg_core::{Ask, Loaded, Register};
+pub use hg_core::{Ask, Loaded, PassEntry, Register};
 pub use passes::{
     BucketSeat, BucketSeatList, CollectorPass, CommitSeat, Pass, Seats, SessionPass,
     SessionPassList, TxSeat,

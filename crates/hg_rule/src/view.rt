@@ -9,7 +9,7 @@ ghost use base.Fml.{ftrue};
 
 use crate::groups::Groups;
 use hg_base::{Image, Kind, Rid, Scope};
-use hg_core::{Ask, Counters, Loaded, LogEntry, Phase, Register, Version, Visit};
+use hg_core::{Ask, Counters, Loaded, LogEntry, PassEntry, Phase, Register, Version, Visit};
 use std::marker::Model;
 
 /// A session's part of the state: its phase, its log, newest entry first, and whether a write of its open transaction has the
@@ -34,13 +34,16 @@ pub struct CommitPart {
     pub taken: u64,
 }
 
-/// A collector pass's part of the state: its record with what it had seen when the record began, what it loaded of sessions
-/// since, the last one first, and its visits, newest first. No pass's share is 0, and the sum of all shares never changes.
+/// A collector pass's part of the state: its record with the number of its round and what it had seen when the record began, what it
+/// loaded of sessions since, the last one first, its visits, newest first, and its journal, oldest entry first. No pass's share is 0,
+/// and the sum of all shares never changes.
 pub struct PassPart {
     pub mark: u64,
+    pub round: u64,
     pub seen: [Sight; 0],
     pub loaded: [(u64, Loaded); 0],
     pub visits: [Visit; 0],
+    pub journal: [PassEntry; 0],
     pub share: u64,
 }
 
