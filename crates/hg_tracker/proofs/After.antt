@@ -8,6 +8,7 @@ use Rattle.hg_base.specs.declared.scope.Scope.{Scope}
 use Rattle.hg_base.specs.History.{History}
 use Rattle.hg_base.specs.Lists.{Each}
 use Rattle.hg_core.specs.declared.loaded.Loaded.{Loaded}
+use Rattle.hg_core.specs.declared.journal.PassEntry.TheVariants.{Marked}
 use Rattle.hg_core.specs.Passes.{found, lower, least_entering, HasMask, IsWhole}
 use Rattle.hg_core.specs.Logs.{UpTo}
 use Rattle.hg_rule.specs.declared.view.Part.{Part}
@@ -27,7 +28,7 @@ use Rattle.hg_tracker.specs.declared.gathered.Gathered.{Gathered}
 use Rattle.hg_rule.specs.Rounds.{live_entry, entries_of}
 use Rattle.hg_tracker.specs.Entries.{down_from}
 use Rattle.hg_tracker.specs.Gathers.{IsNotedOf, IsFull}
-use Rattle.hg_tracker.specs.Begun.{AtMost, HasBegun, sample_of, samples_of, Loads, HasLoaded, HasGathered}
+use Rattle.hg_tracker.specs.Begun.{AtMost, HasBegun, sample_of, samples_of, note_of, notes_of, Loads, gathering, HasLoaded, HasGathered}
 
 pub within_most : (h : History) (n : ℕ) → length h ≡ n → (x : Sight) → Within h x → AtMost n x
 within_most h n l (Saw g) b = omega (arith, ap length b.1, length-append g.list b.0)
@@ -60,7 +61,7 @@ begins_all v v0 v1 v2 v3 w f m scope de p en fi li = subst (λ (v0 : View). Prob
 pub loads_none : (v w : View) (m : ℕ) → Marks v m w → HasLoaded v m 0 (pass w).loaded w × ((pass w).loaded ≡ [])
 loads_none v w m is = subst (λ (w : View). HasLoaded v m 0 (pass w).loaded w × ((pass w).loaded ≡ [])) (sym is.1.1) (
   record {
-    parts = refl;
+    parts = (λ i. OfPass (number v) (gathering m [] (sym (append-nil ((pass v).journal ++ Marked m ∷ [])) i) v) ∷ others v);
     keys = refl;
     registers = tt;
     most = most v m is.0 is.1.0;
@@ -74,7 +75,8 @@ loads_none v w m is = subst (λ (w : View). HasLoaded v m 0 (pass w).loaded w ×
 -- a session more
 pub loads_one : (v w w' : View) (m n : ℕ) (loaded : List (ℕ × Loaded)) (r : Loaded) → HasLoaded v m n loaded w → Loads w (suc n) r w' → IsFull r → HasLoaded v m (suc n) ((suc n, r) ∷ loaded) w'
 loads_one v w w' m n loaded r g is full = subst (HasLoaded v m (suc n) ((suc n, r) ∷ loaded)) (sym is) record {
-  parts = ap F g.parts;
+  parts = ap F g.parts ∙ ap (λ l. OfPass (number v) (gathering m ((suc n, r) ∷ loaded) l v) ∷ others v)
+      (append_assoc ((pass v).journal ++ Marked m ∷ []) (notes_of loaded) (note_of (suc n) r));
   keys = ap (λ ks. suc n ∷ ks) g.keys;
   registers = (full, g.registers);
   most = g.most;
@@ -84,7 +86,7 @@ loads_one v w w' m n loaded r g is full = subst (HasLoaded v m (suc n) ((suc n, 
 }
   where
     F : List Part → List Part
-    F ps = let u = seeing ps [] [] in OfPass (number u) (record (pass u) { loaded = (suc n, r) ∷ (pass u).loaded }) ∷ others u
+    F ps = let u = seeing ps [] [] in OfPass (number u) (record (pass u) { loaded = (suc n, r) ∷ (pass u).loaded; journal = (pass u).journal ++ note_of (suc n) r }) ∷ others u
 
     same : number w ≡ number v
     same = ap (λ (ps : List Part). number (seeing ps [] [])) g.parts

@@ -5,6 +5,7 @@ use Rattle.std.proofs.lemmas.List.{take_more}
 use Rattle.std.proofs.lemmas.List.Elements.{filter-append}
 use Rattle.hg_base.specs.declared.report.Entry.{Entry}
 use Rattle.hg_core.specs.declared.loaded.Loaded.{Loaded}
+use Rattle.hg_core.specs.declared.journal.PassEntry.TheVariants.{Tried}
 use Rattle.hg_core.specs.declared.register.Register.TheVariants.{Live}
 use Rattle.hg_core.specs.Passes.{found, least_entering}
 use Rattle.hg_core.specs.Events.{moved_in}
@@ -16,7 +17,7 @@ use Rattle.hg_rule.specs.declared.view.View.{View}
 use Rattle.hg_rule.specs.Views.{number, pass, others, seeing}
 use Rattle.hg_rule.specs.Steps.{after_try, Moves}
 use Rattle.hg_tracker.specs.declared.gathered.Gathered.{Gathered}
-use Rattle.hg_tracker.specs.Tries.{is_long, tries_of, moved_by, successes, HasTried}
+use Rattle.hg_tracker.specs.Tries.{is_long, tries_of, try_notes, moved_by, successes, HasTried}
 use Rattle.hg_rule.specs.Rounds.{entries_of}
 use Rattle.hg_tracker.specs.Entries.{down_from}
 use Rattle.hg_tracker.specs.Gathers.{IsNotedOf, IsLoaded, StandsAt}
@@ -63,18 +64,24 @@ successes_snoc (true ∷ bs) true = ap suc (successes_snoc bs true)
 successes_snoc (true ∷ bs) false = ap suc (successes_snoc bs false)
 successes_snoc (false ∷ bs) b = successes_snoc bs b
 
-parts_tried : (b : Bool) (j : ℕ) (w : View) (n : ℕ) (r : PassPart) (ps : List Part) → w.parts ≡ OfPass n r ∷ ps →
-    after_try b j w ≡ OfPass n (record r { loaded = if b then moved_in j r.loaded else r.loaded }) ∷ ps
-parts_tried true j w n r ps e = ap (λ (qs : List Part). after_try true j (seeing qs [] [])) e
-parts_tried false j w n r ps e = e
+notes_snoc : (es : List Entry) (bs : List Bool) (e : Entry) (b : Bool) → length bs ≡ length es → try_notes (es ++ e ∷ []) (bs ++ b ∷ []) ≡ try_notes es bs ++ Tried e.session e.number b ∷ []
+notes_snoc [] [] e b l = refl
+notes_snoc [] (c ∷ bs) e b l = absurd (omega arith)
+notes_snoc (x ∷ es) [] e b l = absurd (omega arith)
+notes_snoc (x ∷ es) (c ∷ bs) e b l = ap (λ ts. Tried x.session x.number c ∷ ts) (notes_snoc es bs e b (omega arith))
+
+parts_tried : (b : Bool) (j k : ℕ) (w : View) (n : ℕ) (r : PassPart) (ps : List Part) → w.parts ≡ OfPass n r ∷ ps →
+    after_try b j k w ≡ OfPass n (record r { loaded = if b then moved_in j r.loaded else r.loaded; journal = r.journal ++ Tried j k b ∷ [] }) ∷ ps
+parts_tried true j k w n r ps e = ap (λ (qs : List Part). after_try true j k (seeing qs [] [])) e
+parts_tried false j k w n r ps e = ap (λ (qs : List Part). after_try false j k (seeing qs [] [])) e
 
 pub tried_one : (v w w' : View) (es : List Entry) (c : ℕ) (e : Entry) (b : Bool) → HasTried v es c w → Moves w e.session e.number b w' → HasTried v (es ++ e ∷ []) (if b then suc c else c) w'
 tried_one v w w' es c e b h is = subst (HasTried v (es ++ e ∷ []) (if b then suc c else c)) (sym is) record {
   outcomes = h.outcomes ++ b ∷ [];
   each = let a = length-append h.outcomes (b ∷ []) in let d = length-append es (e ∷ []) in omega (arith, h.each, a, d);
   count_is = ap (λ n. if b then suc n else n) h.count_is ∙ sym (successes_snoc h.outcomes b);
-  parts = parts_tried b e.session w (number v) (record (pass v) { loaded = moved_by es h.outcomes (pass v).loaded }) (others v) h.parts ∙
-      ap (λ l. OfPass (number v) (record (pass v) { loaded = l }) ∷ others v) (sym (moved_snoc es h.outcomes e b (pass v).loaded h.each));
+  parts = parts_tried b e.session e.number w (number v) (record (pass v) { loaded = moved_by es h.outcomes (pass v).loaded; journal = (pass v).journal ++ try_notes es h.outcomes }) (others v) h.parts ∙
+      (λ i. OfPass (number v) (record (pass v) { loaded = sym (moved_snoc es h.outcomes e b (pass v).loaded h.each) i; journal = notes i }) ∷ others v);
   sights = append-nil w.sights ∙ h.sights;
   events = (λ i. h.events i ++ Move (same i) e.session e.number b ∷ []) ∙ (append_assoc v.events (tries_of (number v) es h.outcomes) (Move (number v) e.session e.number b ∷ []) ∙
       ap (λ ts. v.events ++ ts) (sym (tries_snoc (number v) es h.outcomes e b h.each)));
@@ -82,6 +89,9 @@ tried_one v w w' es c e b h is = subst (HasTried v (es ++ e ∷ []) (if b then s
   where
     same : number w ≡ number v
     same = ap (λ (ps : List Part). number (seeing ps [] [])) h.parts
+
+    notes : ((pass v).journal ++ try_notes es h.outcomes) ++ Tried e.session e.number b ∷ [] ≡ (pass v).journal ++ try_notes (es ++ e ∷ []) (h.outcomes ++ b ∷ [])
+    notes = append_assoc (pass v).journal (try_notes es h.outcomes) (Tried e.session e.number b ∷ []) ∙ ap (λ ts. (pass v).journal ++ ts) (sym (notes_snoc es h.outcomes e b h.each))
 
 pub mark_tried : (v w : View) (es : List Entry) (c : ℕ) → HasTried v es c w → (pass w).mark ≡ (pass v).mark
 mark_tried v w es c h = ap (λ (ps : List Part). (pass (seeing ps [] [])).mark) h.parts

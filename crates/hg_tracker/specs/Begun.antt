@@ -1,9 +1,11 @@
 -- What a begin, an end and a gather make of a pass's view.
-use Rattle.std.specs.Prelude.{◌≡◌, ℕ, ◌≤◌, List, [], ◌∷◌, ◌++◌, length, map, Option, Some, None, ⊤}
+use Rattle.std.specs.Prelude.{◌≡◌, ℕ, suc, ◌≤◌, List, [], ◌∷◌, ◌++◌, length, map, Option, Some, None, ⊤}
 use Rattle.hg_base.specs.declared.scope.Scope.{Scope}
 use Rattle.hg_base.specs.Lists.{Each}
 use Rattle.hg_base.specs.History.{History}
 use Rattle.hg_core.specs.declared.loaded.Loaded.{Loaded}
+use Rattle.hg_core.specs.declared.journal.PassEntry.{PassEntry}
+use Rattle.hg_core.specs.declared.journal.PassEntry.TheVariants.{Marked, Sampled, Masked}
 use Rattle.hg_core.specs.declared.phase.Phase.TheVariants.{Live}
 use Rattle.hg_core.specs.declared.log.LogEntry.TheVariants.{Began}
 use Rattle.hg_core.specs.Logs.{UpTo}
@@ -54,17 +56,35 @@ abbrev pub samples_of : ℕ → List (ℕ × Loaded) → List Event
 samples_of p [] = []
 samples_of p (e ∷ loaded) = samples_of p loaded ++ sample_of p e.0 e.1
 
+-- the journal's entry of a mask, where it was loaded
+abbrev pub mask_note : ℕ → Option ℕ → List PassEntry
+mask_note j None = []
+mask_note j (Some mask) = Masked j mask ∷ []
+
+-- the journal's entries of a session's register, and of its mask directly after it
+abbrev pub note_of : ℕ → Loaded → List PassEntry
+note_of j loaded = Sampled j loaded.register ∷ mask_note j loaded.mask
+
+-- those of all that a record loaded, in the order in which it was loaded
+abbrev pub notes_of : List (ℕ × Loaded) → List PassEntry
+notes_of [] = []
+notes_of (e ∷ loaded) = notes_of loaded ++ note_of e.0 e.1
+
 -- a pass loaded a session's register, and its mask where that is live and declared, and nothing else
 abbrev pub Loads : View → ℕ → Loaded → View → Type 0
-Loads v j loaded w = w ≡ seeing (OfPass (number v) (record (pass v) { loaded = (j, loaded) ∷ (pass v).loaded }) ∷ others v) v.sights (v.events ++ sample_of (number v) j loaded)
+Loads v j loaded w = w ≡ seeing (OfPass (number v) (record (pass v) { loaded = (j, loaded) ∷ (pass v).loaded; journal = (pass v).journal ++ note_of j loaded }) ∷ others v) v.sights (v.events ++ sample_of (number v) j loaded)
 
--- the record that a pass begins at a mark, with what it loaded of these sessions
-abbrev pub gathering : ℕ → List (ℕ × Loaded) → View → PassPart
-gathering mark loaded v = record (pass v) { mark = mark; seen = v.sights; loaded = loaded }
+-- the record of a pass's next round, which begins at a mark, with what it loaded of these sessions, and this journal
+abbrev pub gathering : ℕ → List (ℕ × Loaded) → List PassEntry → View → PassPart
+gathering mark loaded journal v = record (pass v) { mark = mark; round = suc (pass v).round; seen = v.sights; loaded = loaded; journal = journal }
+
+-- the journal after a gather: its mark, and what was loaded
+abbrev pub gathered_notes : ℕ → List (ℕ × Loaded) → View → List PassEntry
+gathered_notes mark loaded v = ((pass v).journal ++ Marked mark ∷ []) ++ notes_of loaded
 
 -- a pass began a record at a mark, of which it saw the history, and loaded the words of the first sessions in order
 pub record HasLoaded (v : View) (mark sessions : ℕ) (loaded : List (ℕ × Loaded)) (w : View) : Type 0 where
-  pub parts : w.parts ≡ OfPass (number v) (gathering mark loaded v) ∷ others v
+  pub parts : w.parts ≡ OfPass (number v) (gathering mark loaded (gathered_notes mark loaded v) v) ∷ others v
   pub keys : map (λ e. e.0) loaded ≡ down_from sessions
   pub registers : Each (λ e. IsFull e.1) loaded
   pub most : Each (AtMost mark) v.sights

@@ -3,6 +3,8 @@ use Rattle.std.specs.Prelude.{◌≡◌, ℕ, suc, ◌-◌, ◌&&◌, not, nat_l
 use Rattle.hg_base.specs.declared.report.Entry.{Entry}
 use Rattle.hg_base.specs.Freshness.{is_declared}
 use Rattle.hg_core.specs.declared.loaded.Loaded.{Loaded}
+use Rattle.hg_core.specs.declared.journal.PassEntry.{PassEntry}
+use Rattle.hg_core.specs.declared.journal.PassEntry.TheVariants.{Tried}
 use Rattle.hg_core.specs.Events.{moved_in}
 use Rattle.hg_rule.specs.declared.view.Part.TheVariants.{OfPass}
 use Rattle.hg_rule.specs.declared.view.Event.{Event}
@@ -21,6 +23,12 @@ tries_of p [] outcomes = []
 tries_of p (e ∷ entries) [] = []
 tries_of p (e ∷ entries) (moved ∷ outcomes) = Move p e.session e.number moved ∷ tries_of p entries outcomes
 
+-- the journal's entry of each try, with its outcome
+abbrev pub try_notes : List Entry → List Bool → List PassEntry
+try_notes [] outcomes = []
+try_notes (e ∷ entries) [] = []
+try_notes (e ∷ entries) (moved ∷ outcomes) = Tried e.session e.number moved ∷ try_notes entries outcomes
+
 -- what a record has loaded after the tries
 abbrev pub moved_by : List Entry → List Bool → List (ℕ × Loaded) → List (ℕ × Loaded)
 moved_by [] outcomes loaded = loaded
@@ -37,7 +45,7 @@ pub record HasTried (v : View) (entries : List Entry) (count : ℕ) (w : View) :
   pub outcomes : List Bool
   pub each : length outcomes ≡ length entries
   pub count_is : count ≡ successes outcomes
-  pub parts : w.parts ≡ OfPass (number v) (record (pass v) { loaded = moved_by entries outcomes (pass v).loaded }) ∷ others v
+  pub parts : w.parts ≡ OfPass (number v) (record (pass v) { loaded = moved_by entries outcomes (pass v).loaded; journal = (pass v).journal ++ try_notes entries outcomes }) ∷ others v
   pub sights : w.sights ≡ v.sights
   pub events : w.events ≡ v.events ++ tries_of (number v) entries outcomes
 

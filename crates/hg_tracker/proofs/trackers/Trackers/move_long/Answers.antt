@@ -1,7 +1,8 @@
-use Rattle.std.proofs.Common.{rules, ◌≡◌, ℕ, ◌<◌, List, [], length, take, filter, get_or, true, false, refl, sym, ap, ◌∙◌, subst, arith, append-nil}
+use Rattle.std.proofs.Common.{rules, ◌≡◌, ℕ, ◌<◌, List, [], ◌∷◌, length, take, filter, get_or, true, false, refl, sym, ap, ◌∙◌, subst, arith, append-nil}
 use Rattle.std.proofs.Math.Seq.{take-length}
 use Rattle.hg_base.specs.declared.report.Entry.{Entry}
-use Rattle.hg_rule.specs.Views.{pass}
+use Rattle.hg_rule.specs.declared.view.Part.TheVariants.{OfPass}
+use Rattle.hg_rule.specs.Views.{number, pass, others}
 use Rattle.hg_rule.specs.Seats.{pass_view}
 use Rattle.hg_rule.specs.Steps.{Moves}
 use Rattle.hg_rule.specs.Rounds.{entries_of}
@@ -79,16 +80,17 @@ loop-position-preserved c =
     ]
 
 pub loop-position-init : goal.loop-position-init
-loop-position-init c = (
-  record { outcomes = []; each = refl; count_is = refl; parts = c.requires.own.1; sights = refl; events = sym (append-nil (pass_view c.args.pass.now).events) },
-  c.requires.shown.noted,
-  c.requires.shown.loaded,
-  refl,
-  refl,
-  c.requires.made,
-  c.requires.own,
-  omega arith,
-)
+loop-position-init c = let v = pass_view c.args.pass.now in
+    let same = ap (λ l. OfPass (number v) (record (pass v) { journal = l }) ∷ others v) (sym (append-nil (pass v).journal)) in (
+      record { outcomes = []; each = refl; count_is = refl; parts = c.requires.own.1 ∙ same; sights = refl; events = sym (append-nil v.events) },
+      c.requires.shown.noted,
+      c.requires.shown.loaded,
+      refl,
+      refl,
+      c.requires.made,
+      c.requires.own,
+      omega arith,
+    )
 
 pub try_move-moved-requires-clause-own : goal.try_move-moved-requires-clause-own
 try_move-moved-requires-clause-own c = c.loop-position.invariant.6
