@@ -5,6 +5,8 @@ use Rattle.std.specs.Prelude.{option_to_list}
 use Rattle.hg_base.specs.declared.rid.Rid.{Rid}
 use Rattle.hg_base.specs.Lists.{Each}
 use Rattle.hg_base.specs.History.{Group, History}
+use Rattle.hg_core.specs.declared.journal.PassEntry.{PassEntry}
+use Rattle.hg_core.specs.declared.journal.PassEntry.TheVariants as entries
 use Rattle.hg_core.specs.State.{CoreState}
 use Rattle.hg_rule.specs.declared.view.CommitPart.{CommitPart}
 use Rattle.hg_rule.specs.declared.view.Part.{Part}
@@ -28,7 +30,7 @@ use Rattle.hg_rule.proofs.Rounds.{taken_append}
 use Rattle.hg_queue.specs.Rids.{Rids}
 use Rattle.hg_group.specs.declared.contexts.GroupContext.{GroupContext}
 use Rattle.hg_group.specs.Contexts.{IsContextOf, context_of, EachContextOf, AreContexts}
-use Rattle.hg_group.specs.Oldest.{IsNext, AreNext, records_of, takes_by, TakesNext, TakesOldest, TakesSome, PopsBelow, PopsNext, PopsSome}
+use Rattle.hg_group.specs.Oldest.{IsNext, AreNext, records_of, takes_by, took_next, TakesNext, TakesOldest, TakesSome, PopsBelow, PopsNext, PopsSome}
 use Rattle.hg_group.proofs.ContextFacts.{drop_length}
 
 -- ---- contexts
@@ -70,9 +72,15 @@ next_more : (n : ℕ) (h : History) (cs : List GroupContext) (c : GroupContext) 
 next_more n h [] c are next = let e : n + 0 ≡ n = omega arith in (subst (λ m. IsNext m h c) e next, tt)
 next_more n h (d ∷ cs) c are next = let e : n + suc (length cs) ≡ suc n + length cs = omega arith in (are.0, next_more (suc n) h cs c are.1 (subst (λ m. IsNext m h c) e next))
 
--- the view once so many were taken, when it has seen and done this besides
-abbrev after : View → ℕ → List Sight → List Event → View
-after v n sights events = seeing (OfPass (number v) (pass v) ∷ OfCommit (record (commit v) { taken = n }) ∷ beyond v) (v.sights ++ sights) (v.events ++ events)
+-- a group more is noted last
+took_more : (n : ℕ) (cs : List GroupContext) (c : GroupContext) → took_next n cs ++ entries.Took (suc (n + length cs)) ∷ [] ≡ took_next n (cs ++ c ∷ [])
+took_more n [] c = let e : n + 0 ≡ n = omega arith in ap (λ m. entries.Took (suc m) ∷ []) e
+took_more n (d ∷ cs) c = let e : n + suc (length cs) ≡ suc n + length cs = omega arith in
+    ap (λ (l : List PassEntry). entries.Took (suc n) ∷ l) (ap (λ m. took_next (suc n) cs ++ entries.Took (suc m) ∷ []) e ∙ took_more (suc n) cs c)
+
+-- the view once so many were taken, when it has noted, seen and done this besides
+abbrev after : View → ℕ → List PassEntry → List Sight → List Event → View
+after v n notes sights events = seeing (OfPass (number v) (record (pass v) { journal = (pass v).journal ++ notes }) ∷ OfCommit (record (commit v) { taken = n }) ∷ beyond v) (v.sights ++ sights) (v.events ++ events)
 
 pub pops_none : (v : View) (bound : ℕ) → HasPass v → HasCommit v → PopsNext v bound [] v
 pops_none v bound own held = record {
@@ -80,7 +88,7 @@ pops_none v bound own held = record {
   marks = [];
   count = refl;
   is = let e : (commit v).taken ≡ (commit v).taken + 0 = omega arith in
-      λ i. seeing ((own ∙ ap (λ l. OfPass (number v) (pass v) ∷ l) held ∙ (λ j. OfPass (number v) (pass v) ∷ OfCommit (record (commit v) { taken = e j }) ∷ beyond v)) i)
+      λ i. seeing ((own ∙ ap (λ l. OfPass (number v) (pass v) ∷ l) held ∙ (λ j. OfPass (number v) (record (pass v) { journal = sym (append-nil (pass v).journal) j }) ∷ OfCommit (record (commit v) { taken = e j }) ∷ beyond v)) i)
       (sym (append-nil v.sights) i) (sym (append-nil v.events) i);
   most = omega arith;
   below = omega arith;
@@ -90,17 +98,20 @@ pops_none v bound own held = record {
 pub pops_more : (v u w : View) (bound : ℕ) (cs : List GroupContext) (c : GroupContext) → PopsNext v bound cs u → PopsBelow u bound (Some c) w → PopsNext v bound (cs ++ c ∷ []) w
 pops_more v u w bound cs c p t =
     let n = (commit v).taken + length cs in
-    let x = after v n p.sights (takes_by (number v) p.marks) in
+    let notes = took_next (commit v).taken cs in
+    let x = after v n notes p.sights (takes_by (number v) p.marks) in
     let s : PopsBelow x bound (Some c) w = subst (λ y. PopsBelow y bound (Some c) w) p.is t in
     let seen = Saw (commit v).history ∷ Took (suc n) ∷ [] in
     let long : length (cs ++ c ∷ []) ≡ length cs + 1 = length-append cs (c ∷ []) in
     let many : length (p.marks ++ s.1.1.0 ∷ []) ≡ length p.marks + 1 = length-append p.marks (s.1.1.0 ∷ []) in
     let now : suc n ≡ (commit v).taken + length (cs ++ c ∷ []) = omega (arith, long) in
+    let noted : ((pass v).journal ++ notes) ++ entries.Took (suc n) ∷ [] ≡ (pass v).journal ++ took_next (commit v).taken (cs ++ c ∷ []) =
+    append_assoc (pass v).journal notes (entries.Took (suc n) ∷ []) ∙ ap (λ (l : List PassEntry). (pass v).journal ++ l) (took_more (commit v).taken cs c) in
     record {
       sights = p.sights ++ seen;
       marks = p.marks ++ s.1.1.0 ∷ [];
       count = omega (arith, long, many, p.count);
-      is = s.1.1.1.1 ∙ (λ i. seeing (OfPass (number v) (pass v) ∷ OfCommit (record (commit v) { taken = now i }) ∷ beyond v) (append_assoc v.sights p.sights seen i)
+      is = s.1.1.1.1 ∙ (λ i. seeing (OfPass (number v) (record (pass v) { journal = noted i }) ∷ OfCommit (record (commit v) { taken = now i }) ∷ beyond v) (append_assoc v.sights p.sights seen i)
           ((append_assoc v.events (takes_by (number v) p.marks) (takes_by (number v) (s.1.1.0 ∷ [])) ∙
           ap (λ l. v.events ++ l) (sym (map-append (λ mark. Take (number v) mark) p.marks (s.1.1.0 ∷ [])))) i));
       most = omega (arith, taken_append p.sights seen, p.most, long);
@@ -168,7 +179,7 @@ module _ (z : Sizes) (mark : ℕ) (v seat : View) (part : CommitPart) where
           next = p.next;
           marks = p.marks;
           count = p.count;
-          parts = sym own;
+          parts = refl;
           kept = (seat.sights ++ (p.sights ++ last), append_assoc (v.sights ++ seat.sights) p.sights last ∙ append_assoc v.sights seat.sights (p.sights ++ last));
           events = refl;
         }

@@ -2,6 +2,8 @@
 use Rattle.std.specs.Prelude.{◌≡◌, ℕ, suc, ◌+◌, ◌-◌, ◌<◌, ◌≤◌, List, [], ◌∷◌, ◌++◌, length, map, drop, Option, Some, None, option_to_list, ⊤}
 use Rattle.hg_base.specs.declared.rid.Rid.{Rid}
 use Rattle.hg_base.specs.History.{Group, History}
+use Rattle.hg_core.specs.declared.journal.PassEntry.{PassEntry}
+use Rattle.hg_core.specs.declared.journal.PassEntry.TheVariants as entries
 use Rattle.hg_rule.specs.declared.view.Part.TheVariants.{OfPass, OfCommit}
 use Rattle.hg_rule.specs.declared.view.Sight.{Sight}
 use Rattle.hg_rule.specs.declared.view.Sight.TheVariants.{Saw}
@@ -9,7 +11,7 @@ use Rattle.hg_rule.specs.declared.view.Event.{Event}
 use Rattle.hg_rule.specs.declared.view.Event.TheVariants.{Take}
 use Rattle.hg_rule.specs.declared.view.View.{View}
 use Rattle.hg_rule.specs.Facts.{StartsWith, IsAmong, groups}
-use Rattle.hg_rule.specs.Views.{number, pass, seeing}
+use Rattle.hg_rule.specs.Views.{number, pass, others, seeing}
 use Rattle.hg_rule.specs.Holding.{commit, beyond}
 use Rattle.hg_rule.specs.Removes.{Takes}
 use Rattle.hg_rule.specs.Rounds.{seen_taken}
@@ -38,7 +40,12 @@ records_of (c ∷ contexts) = c.records.list ++ records_of contexts
 abbrev pub takes_by : ℕ → List ℕ → List Event
 takes_by p marks = map (λ mark. Take p mark) marks
 
--- The pass took the next groups, each with one step, and did nothing else. At least as many were taken before as it had seen, and
+-- what a pass notes that takes the groups of these contexts, once so many were taken
+abbrev pub took_next : ℕ → List GroupContext → List PassEntry
+took_next taken [] = []
+took_next taken (c ∷ contexts) = entries.Took (suc taken) ∷ took_next (suc taken) contexts
+
+-- The pass took the next groups, each with one step, noted each, and did nothing else. At least as many were taken before as it had seen, and
 -- at most as many as the bound with these. The contexts are those of the groups, in the history that it has seen then.
 pub record TakesNext (v : View) (bound : ℕ) (contexts : List GroupContext) (w : View) : Type 0 where
   pub before : ℕ
@@ -50,7 +57,7 @@ pub record TakesNext (v : View) (bound : ℕ) (contexts : List GroupContext) (w 
   pub next : AreNext before history contexts
   pub marks : List ℕ
   pub count : length marks ≡ length contexts
-  pub parts : w.parts ≡ v.parts
+  pub parts : w.parts ≡ OfPass (number v) (record (pass v) { journal = (pass v).journal ++ took_next before contexts }) ∷ others v
   pub kept : StartsWith w.sights v.sights
   pub events : w.events ≡ v.events ++ takes_by (number v) marks
 
@@ -74,12 +81,13 @@ abbrev pub PopsBelow : View → ℕ → Option GroupContext → View → Type 0
 PopsBelow v bound None w = (bound ≤ (commit v).taken) × (w ≡ v)
 PopsBelow v bound (Some context) w = ((commit v).taken < bound) × (IsNext (commit v).taken (commit v).history.list context × ((mark : ℕ) × Takes v mark w))
 
--- the next groups' contexts were popped, each with one step
+-- the next groups' contexts were popped, each with one step, and each is noted
 pub record PopsNext (v : View) (bound : ℕ) (contexts : List GroupContext) (w : View) : Type 0 where
   pub sights : List Sight
   pub marks : List ℕ
   pub count : length marks ≡ length contexts
-  pub is : w ≡ seeing (OfPass (number v) (pass v) ∷ OfCommit (record (commit v) { taken = (commit v).taken + length contexts }) ∷ beyond v) (v.sights ++ sights) (v.events ++ takes_by (number v) marks)
+  pub is : w ≡ seeing (OfPass (number v) (record (pass v) { journal = (pass v).journal ++ took_next (commit v).taken contexts }) ∷
+      OfCommit (record (commit v) { taken = (commit v).taken + length contexts }) ∷ beyond v) (v.sights ++ sights) (v.events ++ takes_by (number v) marks)
   pub most : seen_taken sights ≤ (commit v).taken + length contexts
   pub below : length contexts ≤ bound - (commit v).taken
   pub next : AreNext (commit v).taken (commit v).history.list contexts
