@@ -1,5 +1,5 @@
 -- One stretch of visits and steps after another.
-use Rattle.std.proofs.Common.{◌≡◌, ℕ, ◌+◌, Bool, true, false, List, [], ◌∷◌, ◌++◌, refl, sym, ap, ◌∙◌, arith, append_assoc, append-nil}
+use Rattle.std.proofs.Common.{◌≡◌, ℕ, ◌+◌, Bool, true, false, List, [], ◌∷◌, ◌++◌, refl, sym, ap, ◌∙◌, subst, arith, append_assoc, append-nil}
 use Rattle.std.specs.Prelude.{if◌then◌else◌}
 use Rattle.hg_base.specs.declared.report.Kind.{Kind}
 use Rattle.hg_base.specs.declared.report.Kind.TheVariants.{Group, Table, Interval}
@@ -18,7 +18,7 @@ use Rattle.hg_rule.specs.Facts.{record_of}
 use Rattle.hg_rule.specs.Views.{number, part_number, pass, pass_there, first_in, after_first, others, seeing, HasPass}
 use Rattle.hg_rule.specs.Rounds.{IsWork}
 use Rattle.hg_rule.proofs.Rounds.{gone_on}
-use Rattle.hg_rounds.specs.Visits.{closed_visit, IsOnlyFor, GoesOn}
+use Rattle.hg_rounds.specs.Visits.{closed_visit, IsOnlyFor, IsIn, GoesOn}
 
 pub works : (xs ys : List Event) → Each IsWork xs → Each IsWork ys → Each IsWork (xs ++ ys)
 works [] ys a b = b
@@ -50,8 +50,8 @@ same_self Interval = refl
 pub more_is : (kind : Kind) (n : ℕ) → removed_by kind (removed_more kind n none_removed) ≡ n
 more_is kind n = by_more kind kind n ∙ ap (λ b. if b then n else 0) (same_self kind)
 
-pub more_only : (kind : Kind) (mark b n : ℕ) (given : Content) → IsOnlyFor kind (closed_visit kind mark b n given)
-more_only kind mark b n given = ap (λ m. removed_more kind m none_removed) (sym (more_is kind n))
+pub more_only : (kind : Kind) (mark round b n : ℕ) (given : Content) → IsOnlyFor kind (closed_visit kind mark round b n given)
+more_only kind mark round b n given = ap (λ m. removed_more kind m none_removed) (sym (more_is kind n))
 
 -- visits for one kind removed nothing for another
 pub removed_for : (kind k : Kind) (visits : List Visit) → Each (IsOnlyFor kind) visits → removed_all k visits ≡ (if same_kind kind k then removed_all kind visits else 0)
@@ -74,6 +74,7 @@ pub record IsSame (v w : View) : Type 0 where
   pub own : HasPass w
   pub number_is : number w ≡ number v
   pub mark_is : (pass w).mark ≡ (pass v).mark
+  pub round_is : (pass w).round ≡ (pass v).round
   pub loaded_is : (pass w).loaded ≡ (pass v).loaded
   pub record_is : record_of (pass w) ≡ record_of (pass v)
 
@@ -85,6 +86,7 @@ same_pass kind v w g =
       own = g.parts ∙ (λ i. OfPass (sym a i) (sym p i) ∷ sym o i);
       number_is = a;
       mark_is = ap (λ (x : PassPart). x.mark) p;
+      round_is = ap (λ (x : PassPart). x.round) p;
       loaded_is = ap (λ (x : PassPart). x.loaded) p;
       record_is = ap record_of p;
     }
@@ -95,7 +97,7 @@ visits_after kind v w g = ap (λ ps. (pass_there (first_in ps)).visits) g.parts
 -- ---- stretches
 
 abbrev pub goes_none : (kind : Kind) (v : View) → HasPass v → GoesOn kind v v
-goes_none kind v own = record { visits = []; steps = []; work = tt; only = tt; sum = refl; parts = own; kept = ([], sym (append-nil v.sights)); events = sym (append-nil v.events) }
+goes_none kind v own = record { visits = []; steps = []; work = tt; only = tt; now = tt; sum = refl; parts = own; kept = ([], sym (append-nil v.sights)); events = sym (append-nil v.events) }
 
 abbrev pub goes_on : (kind : Kind) (u v w : View) → GoesOn kind u v → GoesOn kind v w → GoesOn kind u w
 goes_on kind u v w a b = record {
@@ -103,6 +105,7 @@ goes_on kind u v w a b = record {
   steps = a.steps ++ b.steps;
   work = works a.steps b.steps a.work b.work;
   only = each_append (IsOnlyFor kind) b.visits a.visits b.only a.only;
+  now = each_append (IsIn (pass u).round) b.visits a.visits (subst (λ n. Each (IsIn n) b.visits) (same_pass kind u v a).round_is b.now) a.now;
   sum = let l = gone_on a.steps b.steps in let r = removed_append kind b.visits a.visits in omega (arith, l, r, a.sum, b.sum);
   parts = b.parts ∙ ap F a.parts ∙ ap (λ vs. OfPass (number u) (record (pass u) { visits = vs }) ∷ others u) (sym (append_assoc b.visits a.visits (pass u).visits));
   kept = (a.kept.0 ++ b.kept.0, b.kept.1 ∙ (ap (λ l. l ++ b.kept.0) a.kept.1 ∙ append_assoc u.sights a.kept.0 b.kept.0));

@@ -31,14 +31,14 @@ module _ (Q : Rid → List Version → Type 0) (buckets : ℕ) where
   pub helps_more : (u v w : View) (b m k : ℕ) (numbers : List ℕ) → Helps Q buckets u numbers m v → Visits Interval Q b k v w → b < buckets → Helps Q buckets u (b ∷ numbers) (m + k) w
   helps_more u v w b m k numbers a one low =
       let same = same_pass Interval u v a.on in
-      let is : IsVisitOf Interval Q (pass u).mark b one.visit = subst (λ mark. IsVisitOf Interval Q mark b one.visit) same.mark_is one.is in
+      let is : IsVisitOf Interval Q (pass u).mark (pass u).round b one.visit = subst (λ (k : ℕ × ℕ). IsVisitOf Interval Q k.0 k.1 b one.visit) (λ i. (same.mark_is i, same.round_is i)) one.is in
       let at : one.visit.bucket ≡ b = ap (λ (x : Visit). x.bucket) is.is in record {
         on = goes_on Interval u v w a.on one.on;
         gone_is = (let s : removed_all Interval (one.on.visits ++ a.on.visits) ≡ removed_all Interval one.on.visits + removed_all Interval a.on.visits = removed_append Interval
             one.on.visits a.on.visits in omega (arith, s, a.gone_is, one.gone_is, one.on.sum));
         numbers_are = (λ i. sym at i ∷ a.numbers_are i) ∙ ap (λ vs. visited (vs ++ a.on.visits)) (sym one.only);
-        each = subst (λ vs. AreVisits Q (pass u).mark buckets (vs ++ a.on.visits)) (sym one.only)
-            ((subst (λ n. n < buckets) (sym at) low, subst (λ n. IsVisitOf Interval Q (pass u).mark n one.visit) (sym at) is), a.each);
+        each = subst (λ vs. AreVisits Q (pass u).mark (pass u).round buckets (vs ++ a.on.visits)) (sym one.only)
+            ((subst (λ n. n < buckets) (sym at) low, subst (λ n. IsVisitOf Interval Q (pass u).mark (pass u).round n one.visit) (sym at) is), a.each);
       }
 
   -- no more went than the pass ever removed

@@ -94,7 +94,7 @@ module _ (t : BoardId) (d : TableId) (x : View) where
           record {
             own = own;
             ready = record { few = few; fresh = mine; none = nothing };
-            view_is = view_is ∙ (λ i. seeing (OfPass (number (pass_view h.pass)) (record (pass_same i) { visits = []; share = sym given i }) ∷ []) (sights_same i) []);
+            view_is = view_is ∙ (λ i. seeing (OfPass (number (pass_view h.pass)) (record (pass_same i) { visits = []; journal = []; share = sym given i }) ∷ []) (sights_same i) []);
           },
           tt,
         );

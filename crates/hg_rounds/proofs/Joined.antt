@@ -7,6 +7,7 @@ use native.Mathlib.Decide.{dec_le}
 use Rattle.atomic_table.specs.Seated.{TableId}
 use Rattle.hg_base.specs.declared.report.Kind.TheVariants.{Interval}
 use Rattle.hg_base.specs.Lists.{Each}
+use Rattle.hg_base.proofs.ListFacts.{each_keeps}
 use Rattle.hg_core.specs.declared.visit.Visit.{Visit}
 use Rattle.hg_core.specs.Counters.{removed_all}
 use Rattle.hg_core.specs.Passes.{PassRecord}
@@ -101,12 +102,13 @@ module _ (t : BoardId) (d : TableId) (buckets n : ℕ) (x : View) where
     abbrev more : List Visit
     more = b.helped.helps.on.visits
 
-    pub back_parts : w.parts ≡ OfPass (number v0) (record (pass x) { visits = more; share = share_of b.hired }) ∷ []
+    pub back_parts : w.parts ≡ OfPass (number v0) (record (pass x) { visits = more; journal = []; share = share_of b.hired }) ∷ []
     back_parts = b.helped.helps.on.parts ∙ ((λ i. OfPass (number v0) (record (pass (b.hired_is.view_is i)) {
       visits = more ++ (pass (b.hired_is.view_is i)).visits;
+      journal = (pass (b.hired_is.view_is i)).journal;
       share = share_of b.hired;
     }) ∷ others (b.hired_is.view_is i))
-        ∙ ap (λ (vs : List Visit). OfPass (number v0) (record (pass x) { visits = vs; share = share_of b.hired }) ∷ []) (append-nil more))
+        ∙ ap (λ (vs : List Visit). OfPass (number v0) (record (pass x) { visits = vs; journal = []; share = share_of b.hired }) ∷ []) (append-nil more))
 
     pub back_alone : HasOnlyPass w
     back_alone = back_parts ∙ (λ i. OfPass (sym (ap part_number back_parts) i) (sym (ap (λ ps. pass_there (first_in ps)) back_parts) i) ∷ [])
@@ -117,11 +119,14 @@ module _ (t : BoardId) (d : TableId) (buckets n : ℕ) (x : View) where
     back_visits : (pass w).visits ≡ more
     back_visits = ap (λ ps. (pass_there (first_in ps)).visits) back_parts
 
-    back_record : record_of (pass v0) ≡ record_of (pass x)
+    back_journal : (pass w).journal ≡ []
+    back_journal = ap (λ ps. (pass_there (first_in ps)).journal) back_parts
+
+    back_record : record_of (pass v0) ≡ record (record_of (pass x)) { journal = [] }
     back_record = ap (λ (v : View). record_of (pass v)) b.hired_is.view_is
 
-    back_each : AreVisits (IsCleanBy (record_of (pass x))) (pass x).mark buckets more
-    back_each = subst (λ (p : PassRecord). AreVisits (IsCleanBy p) p.mark buckets more) back_record b.helped.helps.each
+    back_each : AreVisits (IsCleanBy (record_of (pass x))) (pass x).mark (pass x).round buckets more
+    back_each = subst (λ (p : PassRecord). AreVisits (IsCleanBy p) p.mark p.round buckets more) back_record b.helped.helps.each
 
     -- a helper more is united
     module _ (hs : List Helper) (y : View) (drawn : Drawn) (m : ℕ) (a : Unites t d buckets n x (hs ++ h ∷ []) y drawn m) (z : View) (z_is : z ≡ united y w) (later : Drawn)
@@ -176,9 +181,14 @@ module _ (t : BoardId) (d : TableId) (buckets n : ℕ) (x : View) where
         visits = more ++ a.visits;
         parts = ap (λ (v : View). v.parts) z_is ∙ ((λ i. OfPass (united_number_same i) (record (united_pass_same i) {
           visits = back_visits i ++ (united_pass_same i).visits;
+          journal = (united_pass_same i).journal ++ back_journal i;
           share = (united_pass_same i).share + share_of h;
         }) ∷ united_others_same i)
-            ∙ ap (λ (vs : List Visit). OfPass (number x) (record (pass x) { visits = vs; share = a.share + share_of h }) ∷ others x) (sym (append_assoc more a.visits (pass x).visits)));
+            ∙ (λ i. OfPass (number x) (record (pass x) {
+              visits = sym (append_assoc more a.visits (pass x).visits) i;
+              journal = append-nil (pass x).journal i;
+              share = a.share + share_of h;
+            }) ∷ others x));
         shared = (let a1 : ℕ = a.share in let a2 : ℕ = share_of h in let a3 : ℕ = shares hs in let a4 : ℕ = shares (hs ++ h ∷ []) in let a5 : ℕ = (pass x).share in
             let h1 : a4 ≡ a3 + a2 = sums in let h2 : a1 + a4 ≡ a5 = a.shared in omega arith);
         steps = a.steps ++ b.helped.helps.on.steps;
@@ -189,7 +199,7 @@ module _ (t : BoardId) (d : TableId) (buckets n : ℕ) (x : View) where
         sum_is = (let s : removed_all Interval (more ++ a.visits) ≡ removed_all Interval more + removed_all Interval a.visits = removed_append Interval more a.visits in
             let l = gone_on a.steps b.helped.helps.on.steps in let g1 = a.sum_is in let g2 = b.helped.helps.on.sum in omega (arith, s, l, g1, g2));
         gone_is = (let l = gone_on a.steps b.helped.helps.on.steps in let g1 = a.gone_is in let g2 = b.helped.helps.gone_is in let g3 = b.helped.helps.on.sum in omega (arith, l, g1, g2, g3));
-        each = each_append (λ (v : Visit). (v.bucket < buckets) × IsVisitOf Interval (IsCleanBy (record_of (pass x))) (pass x).mark v.bucket v) more a.visits back_each a.each;
+        each = each_append (λ (v : Visit). (v.bucket < buckets) × IsVisitOf Interval (IsCleanBy (record_of (pass x))) (pass x).mark (pass x).round v.bucket v) more a.visits back_each a.each;
         numbers = counted;
         quota_is = (let l1 : ℕ = later.left in let l2 : ℕ = drawn.left in let l3 : ℕ = (drawn_by h.drawer).left in let l4 : ℕ = length later.numbers in
             let l5 : ℕ = length drawn.numbers in let l6 : ℕ = length nh in let l7 : ℕ = length hs in let l8 : ℕ = length (hs ++ h ∷ []) in
@@ -224,7 +234,7 @@ module _ (t : BoardId) (d : TableId) (buckets n : ℕ) (x : View) where
         go (inr p) = let l : p.0 < all.0 = ltb_less p.0 all.0 (let c1 : ℕ = times p.0 drawn.numbers in let c2 : ℕ = one (ltb p.0 all.0) in let e : c1 ≡ c2 = all.1 p.0 in
             let l : 0 < c1 = p.2 in omega arith) in let o = p.1 in omega arith
 
-    none_over : (b : ℕ) (visits : List Visit) → buckets ≤ b → AreVisits (IsCleanBy (record_of (pass x))) (pass x).mark buckets visits → times b (visited visits) ≡ 0
+    none_over : (b : ℕ) (visits : List Visit) → buckets ≤ b → AreVisits (IsCleanBy (record_of (pass x))) (pass x).mark (pass x).round buckets visits → times b (visited visits) ≡ 0
     none_over b [] l h = refl
     none_over b (v ∷ visits) l h = let c1 : ℕ = one (eqb v.bucket b) in let c2 : ℕ = times b (visited visits) in
         let e1 : c1 ≡ 0 = ap one (ne_eqb v.bucket b (λ (e : v.bucket ≡ b). let o = h.0.0 in omega arith)) in let e2 : c2 ≡ 0 = none_over b visits l h.1 in omega arith
@@ -245,7 +255,7 @@ module _ (t : BoardId) (d : TableId) (buckets n : ℕ) (x : View) where
 
     -- the round's visits and steps
     abbrev pub goes : GoesOn Interval x y
-    goes = record { visits = a.visits; steps = a.steps; work = a.work; only = a.only; sum = a.sum_is; parts = united_parts; kept = a.kept; events = a.events }
+    goes = record { visits = a.visits; steps = a.steps; work = a.work; only = a.only; now = each_keeps _ _ (λ v i. ap (λ (y : Visit). y.round) i.1.is) a.visits a.each; sum = a.sum_is; parts = united_parts; kept = a.kept; events = a.events }
 
 -- ---- the last helper of a list
 

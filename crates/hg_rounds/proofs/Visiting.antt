@@ -91,17 +91,18 @@ module _ (kind : Kind) (v x : View) (b : ℕ) (own : HasPass v) (takes : Takes v
       pub visit_is : Visits kind (Q (record_of (pass v))) b gone v w
       visit_is = record {
         on = record {
-          visits = closed_visit kind (pass v).mark b gone content ∷ [];
+          visits = closed_visit kind (pass v).mark (pass v).round b gone content ∷ [];
           steps = c.removes.steps;
           work = c.removes.work;
-          only = (more_only kind (pass v).mark b gone content, tt);
+          only = (more_only kind (pass v).mark (pass v).round b gone content, tt);
+          now = (refl, tt);
           sum = omega (arith, c.removes.removed, more_is kind gone);
           parts = pass_departs y w owns left ∙ (λ i. OfPass (numbers i) (departing content (visited i)) ∷ behind i);
           kept = (takes.seen, ap (λ (t : View). t.sights) left ∙ c.removes.counts.sights ∙ ap (λ (t : View). t.sights) takes.after);
           events = ap (λ (t : View). t.events) left ∙ c.removes.events ∙ ap (λ (t : View). t.events ++ c.removes.steps) takes.after;
         };
         gone_is = sym c.removes.removed;
-        visit = closed_visit kind (pass v).mark b gone content;
+        visit = closed_visit kind (pass v).mark (pass v).round b gone content;
         only = refl;
         is = record { gone = gone; given = content; is = refl; left = λ r. as_given r (dec_le (suc r.table.0) z.tables) };
       }
@@ -113,7 +114,7 @@ module _ (kind : Kind) (v x : View) (b : ℕ) (own : HasPass v) (takes : Takes v
           let before = few kind z mark x room backed own_taken in
           let arrived : removed_all kind (pass x).visits ≡ removed_all kind (arriving b (pass v)).visits = ap (λ (p : PassPart). removed_all kind p.visits) pass_taken in
           let most = total_at z mark b x backed holds in
-          let all : removed_all kind (pass w).visits ≡ removed_all kind (closed_visit kind (pass v).mark b gone content ∷ (pass v).visits) = ap (removed_all kind)
+          let all : removed_all kind (pass w).visits ≡ removed_all kind (closed_visit kind (pass v).mark (pass v).round b gone content ∷ (pass v).visits) = ap (removed_all kind)
           (visits_after kind v w visit_is.on) in
           omega (arith, before, arrived, most, all, more_is kind gone, c.removes.counts.versions, room.begins)
 
@@ -127,8 +128,8 @@ pub visits_more : (kind : Kind) (Q : PassRecord → Rid → List Version → Typ
     Visits kind (Q (record_of (pass v))) n k v w → VisitsAll kind (Q (record_of (pass u))) (n + 1) (m + k) u w
 visits_more kind Q u v w n m k a b =
     let s = same_pass kind u v a.on in
-    let P : ℕ → Visit → Type 0 = IsVisitOf kind (Q (record_of (pass u))) (pass u).mark in
-    let is : P n b.visit = subst (λ (t : PassRecord × ℕ). IsVisitOf kind (Q t.0) t.1 n b.visit) (λ i. (s.record_is i, s.mark_is i)) b.is in
+    let P : ℕ → Visit → Type 0 = IsVisitOf kind (Q (record_of (pass u))) (pass u).mark (pass u).round in
+    let is : P n b.visit = subst (λ (t : PassRecord). IsVisitOf kind (Q t) t.mark t.round n b.visit) s.record_is b.is in
     let next : suc n ≡ n + 1 = omega arith in
     let all : VisitsAll kind (Q (record_of (pass u))) (suc n) (m + k) u w = record {
       on = goes_on kind u v w a.on b.on;

@@ -34,7 +34,7 @@ shares hs = sum share_of hs
 
 -- the part of a pass that was split off from the one of x, with this share
 abbrev pub branched : View → ℕ → PassPart
-branched x share = record (pass x) { visits = []; share = share }
+branched x share = record (pass x) { visits = []; journal = []; share = share }
 
 -- a helper was hired by the pass of x: it has that record, and has seen the same
 pub record IsHiredBy (t : BoardId) (d : TableId) (x : View) (h : Helper) : Type 0 where
@@ -83,7 +83,7 @@ pub record Unites (t : BoardId) (d : TableId) (buckets n : ℕ) (x : View) (hs :
   pub only : Each (IsOnlyFor Interval) visits
   pub sum_is : gone_in steps ≡ removed_all Interval visits
   pub gone_is : removed ≡ gone_in steps
-  pub each : AreVisits (IsCleanBy (record_of (pass x))) (pass x).mark buckets visits
+  pub each : AreVisits (IsCleanBy (record_of (pass x))) (pass x).mark (pass x).round buckets visits
   pub numbers : (b : ℕ) → b < buckets → times b drawn.numbers ≡ times b (visited visits)
   pub quota_is : drawn.left + length drawn.numbers + length hs * helper_quota ≡ whole_quota
   pub past : HasPast buckets n hs drawn.numbers

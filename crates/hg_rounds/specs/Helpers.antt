@@ -42,15 +42,15 @@ own_buckets [] = []
 own_buckets (past ∷ numbers) = numbers
 
 -- each visit is of a bucket that is there, and gave each of its records back as Q has it
-abbrev pub AreVisits : (Rid → List Version → Type 0) → ℕ → ℕ → List Visit → Type 0
-AreVisits Q mark buckets visits = Each (λ (x : Visit). (x.bucket < buckets) × IsVisitOf Interval Q mark x.bucket x) visits
+abbrev pub AreVisits : (Rid → List Version → Type 0) → ℕ → ℕ → ℕ → List Visit → Type 0
+AreVisits Q mark round buckets visits = Each (λ (x : Visit). (x.bucket < buckets) × IsVisitOf Interval Q mark round x.bucket x) visits
 
 -- The pass of v visited the buckets of these numbers, the last one first, and so many versions went.
 pub record Helps (Q : Rid → List Version → Type 0) (buckets : ℕ) (v : View) (numbers : List ℕ) (removed : ℕ) (w : View) : Type 0 where
   pub on : GoesOn Interval v w
   pub gone_is : removed ≡ removed_all Interval on.visits
   pub numbers_are : numbers ≡ visited on.visits
-  pub each : AreVisits Q (pass v).mark buckets on.visits
+  pub each : AreVisits Q (pass v).mark (pass v).round buckets on.visits
 
 -- The helper visited each bucket whose number it drew, and drew one number more, which no bucket has.
 pub record HasHelped (buckets : ℕ) (old new : Helper) : Type 0 where

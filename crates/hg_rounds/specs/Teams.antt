@@ -63,7 +63,7 @@ pub record IsTeamOf (t : BoardId) (z : Sizes) (c : SweepTeam) : Type 0 where
 -- Visits of buckets, each of the first n once and no other, which gave it back clean for what the pass of x gathered.
 pub record VisitOnce (n : ℕ) (x : View) (visits : List Visit) : Type 0 where
   pub once : (b : ℕ) → times b (visited visits) ≡ one (ltb b n)
-  pub each : AreVisits (IsCleanBy (record_of (pass x))) (pass x).mark n visits
+  pub each : AreVisits (IsCleanBy (record_of (pass x))) (pass x).mark (pass x).round n visits
 
 -- One round: a gather, and then one visit of each bucket by some helper. The visits, and the steps that they made, are the pass's
 -- own at the end. The report is that of the round.
