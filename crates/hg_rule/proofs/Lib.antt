@@ -27,6 +27,7 @@ pub mod Publication
 -- A seat that is lent, and each move of a seat keeps the rule.
 pub mod Lent
 pub mod Shifts
+pub mod Three
 pub mod Turning
 pub mod Handing
 -- A pass is split, and two are united.

@@ -61,6 +61,7 @@ mod moves;
 mod passes;
 mod session;
 mod steps;
+mod trio;
 mod view;
 mod words;
 
