@@ -23,13 +23,13 @@ use Rattle.hg_rule.proofs.Rounds.{gone_on, takes_on}
 use Rattle.hg_rounds.proofs.Going.{same_pass, goes_none, goes_on}
 use Rattle.hg_collectors.specs.Cutting.{WasCut, CutsAll}
 
-module _ (buckets p mark bound : ℕ) (r : Rid) (visits more : List Visit) (steps later : List Event) where
+module _ (buckets p mark round bound : ℕ) (r : Rid) (visits more : List Visit) (steps later : List Event) where
   -- what was cut earlier
-  pub cut_before : WasCut buckets p mark bound visits steps r → WasCut buckets p mark bound (more ++ visits) (steps ++ later) r
+  pub cut_before : WasCut buckets p mark round bound visits steps r → WasCut buckets p mark round bound (more ++ visits) (steps ++ later) r
   cut_before c = record { gone = c.gone; step = among_left _ steps later c.step; all = c.all; given = c.given; visit = among_later _ more visits c.visit; cut = c.cut }
 
   -- and what is cut then
-  pub cut_after : WasCut buckets p mark bound more later r → WasCut buckets p mark bound (more ++ visits) (steps ++ later) r
+  pub cut_after : WasCut buckets p mark round bound more later r → WasCut buckets p mark round bound (more ++ visits) (steps ++ later) r
   cut_after c = record { gone = c.gone; step = among_later _ steps later c.step; all = c.all; given = c.given; visit = among_left _ more visits c.visit; cut = c.cut }
 
 each_append : (P : Rid → Type 0) (xs ys : List Rid) → Each P xs → Each P ys → Each P (xs ++ ys)
@@ -42,15 +42,15 @@ cuts_none buckets bound v own = record { on = goes_none Group v own; gone_is = r
 pub cuts_more : (buckets bound : ℕ) (u v w : View) (xs ys : List Rid) (m n : ℕ) → CutsAll buckets bound u xs m v → CutsAll buckets bound v ys n w → CutsAll buckets bound u (xs ++ ys) (m + n) w
 cuts_more buckets bound u v w xs ys m n a b =
     let s = same_pass Group u v a.on in
-    let C : Rid → Type 0 = λ r. WasCut buckets (number u) (pass u).mark bound (b.on.visits ++ a.on.visits) (a.on.steps ++ b.on.steps) r in
-    let there : Each (WasCut buckets (number u) (pass u).mark bound b.on.visits b.on.steps) ys = subst
-    (λ (k : ℕ × ℕ). Each (WasCut buckets k.0 k.1 bound b.on.visits b.on.steps) ys) (λ i. (s.number_is i, s.mark_is i)) b.cut in record {
+    let C : Rid → Type 0 = λ r. WasCut buckets (number u) (pass u).mark (pass u).round bound (b.on.visits ++ a.on.visits) (a.on.steps ++ b.on.steps) r in
+    let there : Each (WasCut buckets (number u) (pass u).mark (pass u).round bound b.on.visits b.on.steps) ys = subst
+    (λ (k : ℕ × (ℕ × ℕ)). Each (WasCut buckets k.0 k.1.0 k.1.1 bound b.on.visits b.on.steps) ys) (λ i. (s.number_is i, (s.mark_is i, s.round_is i))) b.cut in record {
       on = goes_on Group u v w a.on b.on;
       gone_is = let l = gone_on a.on.steps b.on.steps in omega (arith, l, a.gone_is, b.gone_is);
       takes_none = let l = takes_on a.on.steps b.on.steps in omega (arith, l, a.takes_none, b.takes_none);
       cut = each_append C xs ys
-          (each_map _ C (λ r c. cut_before buckets (number u) (pass u).mark bound r a.on.visits b.on.visits a.on.steps b.on.steps c) xs a.cut)
-          (each_map _ C (λ r c. cut_after buckets (number u) (pass u).mark bound r a.on.visits b.on.visits a.on.steps b.on.steps c) ys there);
+          (each_map _ C (λ r c. cut_before buckets (number u) (pass u).mark (pass u).round bound r a.on.visits b.on.visits a.on.steps b.on.steps c) xs a.cut)
+          (each_map _ C (λ r c. cut_after buckets (number u) (pass u).mark (pass u).round bound r a.on.visits b.on.visits a.on.steps b.on.steps c) ys there);
     }
 
 -- ---- in another order, and each once
@@ -75,7 +75,7 @@ cuts_listed buckets bound v w old sorted left n moved is c = record {
 }
   where
     P : Rid → Type 0
-    P r = WasCut buckets (number v) (pass v).mark bound c.on.visits c.on.steps r
+    P r = WasCut buckets (number v) (pass v).mark (pass v).round bound c.on.visits c.on.steps r
 
 -- ---- one run more
 

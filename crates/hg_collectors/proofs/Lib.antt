@@ -10,11 +10,18 @@ pub mod GroupRounds
 pub mod Among
 -- The interval collector, one or a team.
 pub mod Teams
+-- What rounds note.
+pub mod Notes
 -- A round of a collector, and what meetings with its pass leave.
 pub mod Rounds
 pub mod Meetings
 -- Rounds one after the other, and beside each other.
 pub mod Driving
 pub mod Concurrent
+-- What each reports is what it noted.
+pub mod Told
+pub mod Gave
+pub mod OneNoted
+pub mod AllNoted
 -- What is printed of them.
 pub mod Reported

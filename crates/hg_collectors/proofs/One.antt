@@ -1,5 +1,5 @@
 -- A bucket is taken, some of its records are cut, and it is given back.
-use Rattle.std.proofs.Common.{◌≡◌, inl, ℕ, ◌≤◌, ◌^◌, List, [], ◌∷◌, ◌++◌, map, sym, ap, ◌∙◌, subst, arith}
+use Rattle.std.proofs.Common.{refl, ◌≡◌, inl, ℕ, ◌≤◌, ◌^◌, List, [], ◌∷◌, ◌++◌, map, sym, ap, ◌∙◌, subst, arith}
 use Rattle.hg_base.specs.declared.rid.Rid.{Rid}
 use Rattle.hg_base.specs.declared.report.Kind.TheVariants.{Group}
 use Rattle.hg_base.specs.Lists.{Each}
@@ -45,23 +45,24 @@ module _ (buckets b bound gone : ℕ) (v x y w : View) (rids : List Rid) (own : 
   behind = c.removes.counts.rest ∙ ap (λ ps. after_first (after_first ps)) (parts_taken Group v x b own takes)
 
   was_cut : (r : Rid) → bucket_of buckets r ≡ b → IsCutIn bound (number x) c.removes.steps y r →
-      WasCut buckets (number v) (pass v).mark bound (closed_visit Group (pass v).mark b gone content ∷ []) c.removes.steps r
+      WasCut buckets (number v) (pass v).mark (pass v).round bound (closed_visit Group (pass v).mark (pass v).round b gone content ∷ []) c.removes.steps r
   was_cut r at cut = record {
     gone = cut.0;
     step = subst (λ p. IsAmong (Reclaim p Group r cut.0) c.removes.steps) (number_taken Group v x b own takes) cut.1.0;
     all = gone;
     given = content;
-    visit = inl (ap (λ k. closed_visit Group (pass v).mark k gone content) (sym at));
+    visit = inl (ap (λ k. closed_visit Group (pass v).mark (pass v).round k gone content) (sym at));
     cut = cut.1.1;
   }
 
   pub cuts_run : CutsAll buckets bound v rids gone w
   cuts_run = record {
     on = record {
-      visits = closed_visit Group (pass v).mark b gone content ∷ [];
+      visits = closed_visit Group (pass v).mark (pass v).round b gone content ∷ [];
       steps = c.removes.steps;
       work = c.removes.work;
-      only = (more_only Group (pass v).mark b gone content, tt);
+      only = (more_only Group (pass v).mark (pass v).round b gone content, tt);
+      now = (refl, tt);
       sum = omega (arith, c.removes.removed, more_is Group gone);
       parts = pass_departs y w owns left ∙ (λ i. OfPass (numbers i) (departing content (visited i)) ∷ behind i);
       kept = (takes.seen, ap (λ (t : View). t.sights) left ∙ c.removes.counts.sights ∙ ap (λ (t : View). t.sights) takes.after);
@@ -70,7 +71,7 @@ module _ (buckets b bound gone : ℕ) (v x y w : View) (rids : List Rid) (own : 
     gone_is = sym c.removes.removed;
     takes_none = c.takes_none;
     cut = each_both (λ r. bucket_of buckets r ≡ b) (IsCutIn bound (number x) c.removes.steps y)
-        (WasCut buckets (number v) (pass v).mark bound (closed_visit Group (pass v).mark b gone content ∷ []) c.removes.steps) was_cut rids placed c.cut;
+        (WasCut buckets (number v) (pass v).mark (pass v).round bound (closed_visit Group (pass v).mark (pass v).round b gone content ∷ []) c.removes.steps) was_cut rids placed c.cut;
   }
 
   -- the bucket was visited, and no other
@@ -85,6 +86,6 @@ module _ (buckets b bound gone : ℕ) (v x y w : View) (rids : List Rid) (own : 
       let before = few Group z mark x room backed (own_taken Group v x b own takes) in
       let arrived : removed_all Group (pass x).visits ≡ removed_all Group (arriving b (pass v)).visits = ap (λ (p : PassPart). removed_all Group p.visits) (pass_taken Group v x b own takes) in
       let most = total_at z mark b x backed holds in
-      let all : removed_all Group (pass w).visits ≡ removed_all Group (closed_visit Group (pass v).mark b gone content ∷ (pass v).visits) = ap (removed_all Group)
+      let all : removed_all Group (pass w).visits ≡ removed_all Group (closed_visit Group (pass v).mark (pass v).round b gone content ∷ (pass v).visits) = ap (removed_all Group)
       (visits_after Group v w cuts_run.on) in
       omega (arith, before, arrived, most, all, more_is Group gone, c.removes.counts.versions, room.begins)

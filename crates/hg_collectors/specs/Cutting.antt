@@ -23,12 +23,12 @@ abbrev pub AreIn : ℕ → ℕ → List Rid → Type 0
 AreIn buckets b rids = Each (λ r. bucket_of buckets r ≡ b) rids
 
 -- One of these steps cut the record, and one of these visits gave its bucket back with the record cut at the bound.
-pub record WasCut (buckets p mark bound : ℕ) (visits : List Visit) (steps : List Event) (rid : Rid) : Type 0 where
+pub record WasCut (buckets p mark round bound : ℕ) (visits : List Visit) (steps : List Event) (rid : Rid) : Type 0 where
   pub gone : ℕ
   pub step : IsAmong (Reclaim p Group rid gone) steps
   pub all : ℕ
   pub given : Content
-  pub visit : IsAmong (closed_visit Group mark (bucket_of buckets rid) all given) visits
+  pub visit : IsAmong (closed_visit Group mark round (bucket_of buckets rid) all given) visits
   pub cut : IsCutAt bound (look rid given)
 
 -- it cut each of these records, removed so many versions, and took no group
@@ -36,7 +36,7 @@ pub record CutsAll (buckets bound : ℕ) (v : View) (rids : List Rid) (gone : �
   pub on : GoesOn Group v w
   pub gone_is : gone ≡ gone_in on.steps
   pub takes_none : takes_in on.steps ≡ 0
-  pub cut : Each (WasCut buckets (number v) (pass v).mark bound on.visits on.steps) rids
+  pub cut : Each (WasCut buckets (number v) (pass v).mark (pass v).round bound on.visits on.steps) rids
 
 -- ---- which buckets were visited
 

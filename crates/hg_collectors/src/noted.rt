@@ -1,0 +1,17 @@
+//! What is reported of rounds can be read from what their pass noted.
+
+ghost use Rattle.std.specs.Prelude.{ℕ, List};
+ghost use Rattle.hg_base.specs.declared.report.Kind.{Kind};
+ghost use Rattle.hg_base.specs.declared.report.Sweep.{Sweep};
+ghost use Rattle.hg_rule.specs.declared.view.Sizes.{Sizes};
+ghost use Rattle.hg_rule.specs.declared.view.View.{View};
+ghost use Rattle.hg_collectors.specs.Noted.{AreNoted};
+ghost use Rattle.hg_collectors.specs.Rounding.{IsRoundBy, AreRounds};
+
+/// Rounds are noted. The journal of a collector's pass has a round for each report, and no other. From what it notes of a round, and
+/// from the visits of that round, come the report and the tries to move snapshots, each bucket that the round had to leave cut or
+/// clean was left so, and each record of a group that it took was cut.
+pub fn rounds_are_noted()
+    ensures { (kind : Kind) (z : Sizes) (long : ℕ) (v w : View) (sweeps : List Sweep) →
+        AreRounds (IsRoundBy kind z long) v sweeps w → AreNoted kind long z.buckets v sweeps w }
+{}
