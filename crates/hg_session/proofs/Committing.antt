@@ -17,6 +17,7 @@ use Rattle.hg_rule.proofs.Lists.{starts_on}
 use Rattle.hg_headline.specs.Logged.{Logged}
 use Rattle.hg_headline.specs.Totalled.{TotalsTell}
 use Rattle.hg_session.specs.Ended.{logs_in, visits_in, IsEnded}
+use Rattle.hg_session.specs.OneRun.{journals_in, EndsOneRun}
 use Rattle.hg_session.specs.Visited.{empty_visits, HasVisited, TellOf}
 
 module _ (v w u : View) (part : CommitPart) (own : HasPass v) (only : w.parts ≡ OfCommit part ∷ []) (is : u ≡ joined v w) where
@@ -55,7 +56,7 @@ module _ (v w u : View) (part : CommitPart) (own : HasPass v) (only : w.parts �
     each = h.each;
     parts = ap (λ (t : View). t.parts) left ∙ (λ i. first_in (h.parts i) ∷ after_first (after_first (h.parts i)))
         ∙ (λ i. OfPass (part_number (now i)) (record (pass_there (first_in (now i))) {
-          visits = empty_visits (pass_there (first_in (now i))).mark h.contents ++
+          visits = empty_visits (pass_there (first_in (now i))).mark (pass_there (first_in (now i))).round h.contents ++
               (pass_there (first_in (now i))).visits;
         }) ∷ after_first (after_first (now i)));
     kept = starts_on _ x.sights v.sights (starts_on x.sights u.sights v.sights (w.sights, ap (λ (t : View). t.sights) is) h.kept) (_, ap (λ (t : View). t.sights) left);
@@ -77,5 +78,18 @@ module _ (v w u : View) (part : CommitPart) (own : HasPass v) (only : w.parts �
   newest_before : (sessions : ℕ) → length (commit u).history.list ≡ newest_of sessions (logs_in u) → length part.history.list ≡ newest_of sessions (logs_in v)
   newest_before sessions h = subst (λ f. length part.history.list ≡ newest_of sessions f) logs_come (subst (λ (c : CommitPart). length c.history.list ≡ newest_of sessions (logs_in u)) commit_comes h)
 
+  journals_come : (p : ℕ) → journals_in u p ≡ journals_in v p
+  journals_come p = (λ i. (pass_there (seek (pass_key p) (now i))).journal) ∙ sym (λ i. (pass_there (seek (pass_key p) (own i))).journal)
+
+  run_before : (z : Sizes) → EndsOneRun z u (commit u).history.list → EndsOneRun z v part.history.list
+  run_before z r = record {
+    state = r.state;
+    reached = r.reached;
+    logs = r.logs ∙ logs_come;
+    history_is = r.history_is ∙ ap (λ (c : CommitPart). c.history.list) commit_comes;
+    visits = r.visits ∙ visits_come;
+    journals = λ p. r.journals p ∙ journals_come p;
+  }
+
   pub told_before : (z : Sizes) (totals : Totals) → TellOf z u (commit u).history.list totals → TellOf z v part.history.list totals
-  told_before z totals t = (totals_before z totals t.0, logged_before z.buckets t.1, newest_before z.sessions t.2)
+  told_before z totals t = (totals_before z totals t.0, logged_before z.buckets t.1, newest_before z.sessions t.2, run_before z t.3)

@@ -29,6 +29,7 @@ use Rattle.hg_headline.specs.Totalled.{AreCounts, BucketTells}
 use Rattle.hg_headline.proofs.OverBuckets.{state_logged}
 use Rattle.hg_headline.proofs.Totalling.{state_tells, history_is_newest}
 use Rattle.hg_session.specs.Ended.{logs_in, visits_in, history_in, IsEnded}
+use Rattle.hg_session.specs.OneRun.{journals_in, EndsOneRun}
 
 -- ---- the buckets that a list lacks
 
@@ -187,8 +188,16 @@ module _ (z : Sizes) (n : ℕ) (v : View) (k : IsBacked z n v) (ended : IsEnded 
   pub visits_are : s.visits ≡ visits_in v
   visits_are = ap (λ (c : CoreState). c.visits) state_read ∙ (λ i p. (pass_there (seek_same (pass_key p) v.parts more (buckets.passes p).1 i)).visits)
 
+  -- the journal of each pass
+  journals_are : (p : ℕ) → (s.pass p).journal ≡ journals_in v p
+  journals_are p = ap (λ (c : CoreState). (c.pass p).journal) state_read ∙ (λ i. (pass_there (seek_same (pass_key p) v.parts more (buckets.passes p).1 i)).journal)
+
   pub history_is : s.history ≡ history_in v
   history_is = ap (λ (c : CoreState). c.history) state_read ∙ (λ i. (commit_there (seek_same commit_key v.parts more buckets.commit.1 i)).history.list)
+
+  -- one list of steps ends so
+  pub one_run : EndsOneRun z v (history_in v)
+  one_run = record { state = s; reached = k.reached; logs = logs_are; history_is = history_is; visits = visits_are; journals = journals_are }
 
   pub bucket_is : (b : ℕ) → 0 < count (bucket_key b) v.parts → (s.bucket b ≡ (bucket_there (seek (bucket_key b) v.parts)).content) ×
       (s.counters b ≡ (bucket_there (seek (bucket_key b) v.parts)).counters)

@@ -30,9 +30,9 @@ use Rattle.hg_rule.proofs.Counts.{key_self}
 use Rattle.hg_rule.proofs.Lists.{starts_on}
 use Rattle.hg_rule.specs.Rules.{IsBacked}
 use Rattle.hg_rule.specs.Rounds.{entries_of}
-use Rattle.hg_tracker.specs.Begun.{gathering}
+use Rattle.hg_tracker.specs.Begun.{gathering, gathered_notes}
 use Rattle.hg_tracker.specs.Entries.{down_from}
-use Rattle.hg_tracker.specs.Tries.{is_long, moved_by}
+use Rattle.hg_tracker.specs.Tries.{is_long, try_notes, moved_by}
 use Rattle.hg_tracker.proofs.Entries.{keys_moved}
 use Rattle.hg_rounds.specs.Visits.{OneEach, IsVisitOf}
 use Rattle.hg_rounds.specs.Cutting.{IsCutBy}
@@ -107,12 +107,12 @@ one_has buckets mark P leaves (suc n) (visit ∷ vs) more once b l = by_number (
 nothing_removed : (vs : List Visit) → RemovesForTables vs vs
 nothing_removed vs = record { group = refl; table = omega arith; interval = refl }
 
-removes : (Q : Rid → List Version → Type 0) (mark n : ℕ) (vs more : List Visit) → OneEach (IsVisitOf Table Q mark) n vs → RemovesForTables more (vs ++ more)
-removes Q mark zero [] more once = nothing_removed more
-removes Q mark zero (visit ∷ vs) more once = absurd once
-removes Q mark (suc n) [] more once = absurd once
-removes Q mark (suc n) (visit ∷ vs) more once =
-    let k = removes Q mark n vs more once.1 in
+removes : (Q : Rid → List Version → Type 0) (mark round n : ℕ) (vs more : List Visit) → OneEach (IsVisitOf Table Q mark round) n vs → RemovesForTables more (vs ++ more)
+removes Q mark round zero [] more once = nothing_removed more
+removes Q mark round zero (visit ∷ vs) more once = absurd once
+removes Q mark round (suc n) [] more once = absurd once
+removes Q mark round (suc n) (visit ∷ vs) more once =
+    let k = removes Q mark round n vs more once.1 in
     let group : visit.removed.group ≡ 0 = ap (λ (x : Visit). x.removed.group) once.0.is in
     let interval : visit.removed.interval ≡ 0 = ap (λ (x : Visit). x.removed.interval) once.0.is in
     record { group = omega (arith, group, k.group); table = omega (arith, k.table); interval = omega (arith, interval, k.interval) }
@@ -138,14 +138,18 @@ module _ (z : Sizes) (v w : View) (long : ℕ) (report : Report) (own : HasPass 
   tried = filter (is_long (pass c.gathered).mark long) (entries_of (pass c.gathered).loaded)
 
   abbrev moved : PassPart
-  moved = gathering (pass c.gathered).mark (moved_by tried outcomes (pass c.gathered).loaded) v
+  moved = gathering (pass c.gathered).mark (moved_by tried outcomes (pass c.gathered).loaded)
+      (gathered_notes (pass c.gathered).mark (pass c.gathered).loaded v ++ try_notes tried outcomes) v
 
   abbrev after : PassPart
   after = record moved { visits = c.visits.on.visits ++ (pass v).visits }
 
   parts_moved : c.moved.parts ≡ OfPass (number v) moved ∷ others v
   parts_moved = c.moves.parts ∙ (λ i. OfPass (part_number (c.gathers.parts i))
-      (record (pass_there (first_in (c.gathers.parts i))) { loaded = moved_by tried outcomes (pass_there (first_in (c.gathers.parts i))).loaded }) ∷ after_first (c.gathers.parts i))
+      (record (pass_there (first_in (c.gathers.parts i))) {
+        loaded = moved_by tried outcomes (pass_there (first_in (c.gathers.parts i))).loaded;
+        journal = (pass_there (first_in (c.gathers.parts i))).journal ++ try_notes tried outcomes;
+      }) ∷ after_first (c.gathers.parts i))
 
   parts_after : w.parts ≡ OfPass (number v) after ∷ others v
   parts_after = c.visits.on.parts ∙ (λ i. OfPass (part_number (parts_moved i))
@@ -172,7 +176,7 @@ module _ (z : Sizes) (v w : View) (long : ℕ) (report : Report) (own : HasPass 
       later (inr a) = inr (subst (λ xs. IsAmong (Heard j (logs_in v j)) xs) (sym kept.1) (among_before (Heard j (logs_in v j)) v.sights kept.0 a))
 
   pub removed_after : (p : ℕ) → RemovesForTables (visits_in v p) (visits_in w p)
-  removed_after p = visits_own v w after own parts_after RemovesForTables (removes (IsCutBy (record_of (pass c.moved))) (pass c.moved).mark z.buckets c.visits.on.visits
+  removed_after p = visits_own v w after own parts_after RemovesForTables (removes (IsCutBy (record_of (pass c.moved))) (pass c.moved).mark (pass c.moved).round z.buckets c.visits.on.visits
       (pass v).visits c.visits.once) (λ vs. nothing_removed vs) p
 
   module _ (mark : ℕ) (backed : IsBacked z mark w) (ended : IsEnded z v) (whole : HasHeardAll z v) where
@@ -195,7 +199,7 @@ module _ (z : Sizes) (v w : View) (long : ℕ) (report : Report) (own : HasPass 
     bound_is r = ap (λ ps. table_bound r.table (record_of (pass_there (first_in ps)))) parts_moved
         ∙ idle_table (record_of after) r.table (found_idle z mark w backed (ended_after ended) (number v) after (others v) parts_after keys known) ∙ mark_is
 
-    leaves : (b : ℕ) (visit : Visit) → IsVisitOf Table (IsCutBy (record_of (pass c.moved))) (pass c.moved).mark b visit → LeavesCut z.buckets newest b visit
+    leaves : (b : ℕ) (visit : Visit) → IsVisitOf Table (IsCutBy (record_of (pass c.moved))) (pass c.moved).mark (pass c.moved).round b visit → LeavesCut z.buckets newest b visit
     leaves b visit i = record {
       bucket = ap (λ (x : Visit). x.bucket) i.is;
       mark_is = ap (λ (x : Visit). x.mark) i.is ∙ (ap (λ ps. (pass_there (first_in ps)).mark) parts_moved ∙ mark_is);
@@ -206,4 +210,4 @@ module _ (z : Sizes) (v w : View) (long : ℕ) (report : Report) (own : HasPass 
 
     pub left_after : (b : ℕ) → b < z.buckets → WasLeftCut z.buckets newest (passes_in w.parts) (visits_in w) b
     left_after b l = left_own v w after own parts_after z.buckets newest b
-        (one_has z.buckets newest (IsVisitOf Table (IsCutBy (record_of (pass c.moved))) (pass c.moved).mark) leaves z.buckets c.visits.on.visits (pass v).visits c.visits.once b l)
+        (one_has z.buckets newest (IsVisitOf Table (IsCutBy (record_of (pass c.moved))) (pass c.moved).mark (pass c.moved).round) leaves z.buckets c.visits.on.visits (pass v).visits c.visits.once b l)

@@ -33,8 +33,9 @@ use Rattle.hg_headline.specs.Logged.{Logged}
 use Rattle.hg_headline.specs.Totalled.{HasCut, AreCounts, BucketTells, SumTells, TotalsTell, plus}
 use Rattle.hg_headline.proofs.Totalling.{tells_same, more_tells, totals_tell, made_few, Fits, fits}
 use Rattle.hg_session.specs.Ended.{logs_in, visits_in, history_in, IsEnded}
+use Rattle.hg_session.specs.OneRun.{EndsOneRun}
 use Rattle.hg_session.specs.Visited.{Counts, empty_visit, empty_visits, HasVisited}
-use Rattle.hg_session.proofs.Ending.{bucket_told, few, within, logged, newest_is}
+use Rattle.hg_session.proofs.Ending.{bucket_told, few, within, logged, newest_is, one_run}
 
 -- ---- a bucket comes behind the pass's own part, which has other visits
 
@@ -89,17 +90,17 @@ nothing_more : (kind : Kind) (t : Bool) (n : ℕ) → (if t then removed_by kind
 nothing_more kind true n = omega (arith, removed_none kind)
 nothing_more kind false n = omega arith
 
-empties_removed : (kind : Kind) (b mark : ℕ) (contents : List Content) (vs : List Visit) → removed_in kind b (empty_visits mark contents ++ vs) ≡ removed_in kind b vs
-empties_removed kind b mark [] vs = refl
-empties_removed kind b mark (content ∷ contents) vs = nothing_more kind (length contents == b) (removed_in kind b (empty_visits mark contents ++ vs)) ∙ empties_removed kind b mark contents vs
+empties_removed : (kind : Kind) (b mark round : ℕ) (contents : List Content) (vs : List Visit) → removed_in kind b (empty_visits mark round contents ++ vs) ≡ removed_in kind b vs
+empties_removed kind b mark round [] vs = refl
+empties_removed kind b mark round (content ∷ contents) vs = nothing_more kind (length contents == b) (removed_in kind b (empty_visits mark round contents ++ vs)) ∙ empties_removed kind b mark round contents vs
 
-none_of_all : (kind : Kind) (mark : ℕ) (contents : List Content) (vs : List Visit) → removed_all kind (empty_visits mark contents ++ vs) ≡ removed_all kind vs
-none_of_all kind mark [] vs = refl
-none_of_all kind mark (content ∷ contents) vs = omega (arith, removed_none kind, none_of_all kind mark contents vs)
+none_of_all : (kind : Kind) (mark round : ℕ) (contents : List Content) (vs : List Visit) → removed_all kind (empty_visits mark round contents ++ vs) ≡ removed_all kind vs
+none_of_all kind mark round [] vs = refl
+none_of_all kind mark round (content ∷ contents) vs = omega (arith, removed_none kind, none_of_all kind mark round contents vs)
 
-cut_before : (buckets n b mark : ℕ) (contents : List Content) (vs : List Visit) → HasCut buckets n b vs → HasCut buckets n b (empty_visits mark contents ++ vs)
-cut_before buckets n b mark [] vs c = c
-cut_before buckets n b mark (content ∷ contents) vs c = inr (cut_before buckets n b mark contents vs c)
+cut_before : (buckets n b mark round : ℕ) (contents : List Content) (vs : List Visit) → HasCut buckets n b vs → HasCut buckets n b (empty_visits mark round contents ++ vs)
+cut_before buckets n b mark round [] vs c = c
+cut_before buckets n b mark round (content ∷ contents) vs c = inr (cut_before buckets n b mark round contents vs c)
 
 -- ---- one bucket more
 
@@ -111,7 +112,7 @@ module _ (v u x : View) (n : ℕ) (own : HasPass v) (h : HasVisited v n u) (take
   part = takes.part
 
   abbrev visits : List Visit
-  visits = record { bucket = n; mark = (pass v).mark; removed = none_removed; given = None } ∷ (empty_visits (pass v).mark contents ++ (pass v).visits)
+  visits = record { bucket = n; mark = (pass v).mark; round = (pass v).round; removed = none_removed; given = None } ∷ (empty_visits (pass v).mark (pass v).round contents ++ (pass v).visits)
 
   parts_now : x.parts ≡ OfPass (number v) (record (pass v) { visits = visits }) ∷ OfBucket n part ∷ others v
   parts_now = ap (λ (y : View). y.parts) takes.after ∙ (λ i. put_in (arrive_first n (h.parts i)) (OfBucket n part ∷ []))
@@ -132,7 +133,7 @@ module _ (v u x : View) (n : ℕ) (own : HasPass v) (h : HasVisited v n u) (take
       }
 
   removed_now : (kind : Kind) → removed_in kind n visits ≡ removed_in kind n (pass v).visits
-  removed_now kind = nothing_more kind (n == n) _ ∙ empties_removed kind n (pass v).mark contents (pass v).visits
+  removed_now kind = nothing_more kind (n == n) _ ∙ empties_removed kind n (pass v).mark (pass v).round contents (pass v).visits
 
   -- the counts tell what they would with the visits from before
   pub taken_tells : (z : Sizes) (counts : Totals) (mark : ℕ) → IsEnded z v → 0 < count commit_key v.parts → IsBacked z mark x → AreCountsOf (bucket x).counters counts →
@@ -151,7 +152,7 @@ module _ (v u x : View) (n : ℕ) (own : HasPass v) (h : HasVisited v n u) (take
         (
           cut.1.0,
           each_visit v x (number v) n (pass v) visits part (others v) own parts_now (λ before now. HasCut z.buckets (length (history_in v)) n before → HasCut z.buckets (length (history_in v)) n now)
-              (λ c. inr (cut_before z.buckets (length (history_in v)) n (pass v).mark contents (pass v).visits c)) (λ vs c. c) cut.0 cut.1.1,
+              (λ c. inr (cut_before z.buckets (length (history_in v)) n (pass v).mark (pass v).round contents (pass v).visits c)) (λ vs c. c) cut.0 cut.1.1,
         ),
       ))
 
@@ -161,7 +162,7 @@ module _ (v u x : View) (n : ℕ) (own : HasPass v) (h : HasVisited v n u) (take
     contents = part.content ∷ contents;
     each = ap suc h.each;
     parts = ap (λ (y : View). y.parts) after ∙ (λ i. depart (bucket_there (first_in (after_first (parts_now i)))).content (first_in (parts_now i)) ∷ after_first (after_first (parts_now i)))
-        ∙ (λ i. OfPass (number v) (record (pass v) { visits = empty_visit (pass v).mark (sym h.each i) part.content ∷ (empty_visits (pass v).mark contents ++ (pass v).visits) }) ∷ others v);
+        ∙ (λ i. OfPass (number v) (record (pass v) { visits = empty_visit (pass v).mark (pass v).round (sym h.each i) part.content ∷ (empty_visits (pass v).mark (pass v).round contents ++ (pass v).visits) }) ∷ others v);
     kept = subst (λ l. StartsWith l v.sights) (sym (ap (λ (y : View). y.sights) after ∙ ap (λ (y : View). y.sights) takes.after)) (starts_on _ u.sights v.sights h.kept (takes.seen, refl));
     events = ap (λ (y : View). y.events) after ∙ ap (λ (y : View). y.events) takes.after ∙ h.events;
   }
@@ -186,13 +187,13 @@ module _ (v w : View) (n : ℕ) (own : HasPass v) (h : HasVisited v n w) where
   removed_still kind p =
       subst (λ ps. removed_all kind (pass_there (seek (pass_key p) ps)).visits ≡ removed_all kind (visits_in v p)) (sym h.parts)
       (subst (λ ps. removed_all kind (pass_there (seek (pass_key p)
-      (OfPass (number v) (record (pass v) { visits = empty_visits (pass v).mark h.contents ++ (pass v).visits }) ∷ others v))).visits ≡ removed_all kind
+      (OfPass (number v) (record (pass v) { visits = empty_visits (pass v).mark (pass v).round h.contents ++ (pass v).visits }) ∷ others v))).visits ≡ removed_all kind
       (pass_there (seek (pass_key p) ps)).visits) (sym own)
       (go (has (pass_key p) (OfPass (number v) (pass v)))))
     where
-      go : (t : Bool) → removed_all kind (pass_there (chosen t (OfPass (number v) (record (pass v) { visits = empty_visits (pass v).mark h.contents ++ (pass v).visits }))
+      go : (t : Bool) → removed_all kind (pass_there (chosen t (OfPass (number v) (record (pass v) { visits = empty_visits (pass v).mark (pass v).round h.contents ++ (pass v).visits }))
           (seek (pass_key p) (others v)))).visits ≡ removed_all kind (pass_there (chosen t (OfPass (number v) (pass v)) (seek (pass_key p) (others v)))).visits
-      go true = none_of_all kind (pass v).mark h.contents (pass v).visits
+      go true = none_of_all kind (pass v).mark (pass v).round h.contents (pass v).visits
       go false = refl
 
 -- ---- the loop
@@ -219,7 +220,7 @@ module _ (z : Sizes) (v : View) (own : HasPass v) (holds : HoldsCommit v) where
   commit_still n w h =
       let os : others w ≡ OfCommit (commit v) ∷ beyond v = ap after_first h.parts ∙ holds.1 in
       let c : commit w ≡ commit v = ap (λ ps. commit_there (first_in ps)) os in
-      let first : first_in w.parts ≡ OfPass (number v) (record (pass v) { visits = empty_visits (pass v).mark h.contents ++ (pass v).visits }) = ap first_in h.parts in
+      let first : first_in w.parts ≡ OfPass (number v) (record (pass v) { visits = empty_visits (pass v).mark (pass v).round h.contents ++ (pass v).visits }) = ap first_in h.parts in
       ((h.parts ∙ (λ i. sym first i ∷ sym (ap after_first h.parts) i), os ∙ (λ i. OfCommit (sym c i) ∷ sym (ap after_first os) i)), c)
 
   -- one bucket's counts more
@@ -247,3 +248,6 @@ module _ (z : Sizes) (v : View) (own : HasPass v) (holds : HoldsCommit v) where
 
   pub newest_told : (mark : ℕ) → IsEnded z v → IsBacked z mark v → length (commit v).history.list ≡ newest_of z.sessions (logs_in v)
   newest_told mark ended backed = sym (ap length history_there) ∙ newest_is z mark v backed ended committed
+
+  pub run_told : (mark : ℕ) → IsEnded z v → IsBacked z mark v → EndsOneRun z v (commit v).history.list
+  run_told mark ended backed = subst (EndsOneRun z v) history_there (one_run z mark v backed ended committed)

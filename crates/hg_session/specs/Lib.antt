@@ -19,6 +19,7 @@ pub mod Right
 pub mod Passing
 -- What a pass knows once all others are joined to it.
 pub mod Ended
+pub mod OneRun
 pub mod Finished
 -- What it counts then.
 pub mod Visited

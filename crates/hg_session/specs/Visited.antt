@@ -23,6 +23,7 @@ use Rattle.hg_store.specs.Stores.{store_board_id, store_buckets, Takes}
 use Rattle.hg_headline.specs.Logged.{Logged}
 use Rattle.hg_headline.specs.Totalled.{TotalsTell}
 use Rattle.hg_session.specs.Ended.{logs_in, visits_in}
+use Rattle.hg_session.specs.OneRun.{EndsOneRun}
 
 -- A pass took bucket b, read its counts and gave it back. While it had the bucket, a state that meets the rule backed what it
 -- knew.
@@ -35,20 +36,20 @@ pub record Counts (z : Sizes) (v : View) (b : ℕ) (counts : Totals) (w : View) 
   pub after : w ≡ without_bucket held
 
 -- a visit of bucket b that removed nothing, and gave this content back
-abbrev pub empty_visit : ℕ → ℕ → Content → Visit
-empty_visit mark b content = record { bucket = b; mark = mark; removed = none_removed; given = Some content }
+abbrev pub empty_visit : ℕ → ℕ → ℕ → Content → Visit
+empty_visit mark round b content = record { bucket = b; mark = mark; round = round; removed = none_removed; given = Some content }
 
 -- one such visit of each of the first buckets, by their contents; a list of visits has the newest first
-abbrev pub empty_visits : ℕ → List Content → List Visit
-empty_visits mark [] = []
-empty_visits mark (content ∷ contents) = empty_visit mark (length contents) content ∷ empty_visits mark contents
+abbrev pub empty_visits : ℕ → ℕ → List Content → List Visit
+empty_visits mark round [] = []
+empty_visits mark round (content ∷ contents) = empty_visit mark round (length contents) content ∷ empty_visits mark round contents
 
 -- The pass gained exactly one visit of each of the first n buckets, in order, none of which removed anything. All else that it has
 -- is as before.
 pub record HasVisited (v : View) (n : ℕ) (w : View) : Type 0 where
   pub contents : List Content
   pub each : length contents ≡ n
-  pub parts : w.parts ≡ OfPass (number v) (record (pass v) { visits = empty_visits (pass v).mark contents ++ (pass v).visits }) ∷ others v
+  pub parts : w.parts ≡ OfPass (number v) (record (pass v) { visits = empty_visits (pass v).mark (pass v).round contents ++ (pass v).visits }) ∷ others v
   pub kept : StartsWith w.sights v.sights
   pub events : w.events ≡ v.events
 
@@ -56,16 +57,17 @@ pub record HasVisited (v : View) (n : ℕ) (w : View) : Type 0 where
 abbrev pub AreBucketsOf : Board → Store → Type 0
 AreBucketsOf board store = (store_board_id store ≡ board_id board) × (store_buckets store ≡ (sizes_of board).buckets) × (0 < (sizes_of board).buckets)
 
--- The counts of all buckets, once all sessions and passes are joined to the view, tell of this history. The logs have it, and its
--- last number is the greatest that was published.
+-- The counts of all buckets, once all sessions and passes are joined to the view, tell of this history. The logs have it, its last
+-- number is the greatest that was published, and one list of steps ends so.
 abbrev pub TellOf : Sizes → View → History → Totals → Type 0
 TellOf z v history totals = TotalsTell z.sessions z.buckets (passes_in v.parts) (logs_in v) (visits_in v) history totals × Logged z.buckets history (logs_in v) ×
-    (length history ≡ newest_of z.sessions (logs_in v))
+    (length history ≡ newest_of z.sessions (logs_in v)) × EndsOneRun z v history
 
 -- The counts of all buckets, once all sessions and passes are joined to the view: there is a history of which they tell, which
--- the logs have, and whose last number is the greatest that was published.
+-- the logs have, whose last number is the greatest that was published, and with which one list of steps ends.
 pub record AreTotals (z : Sizes) (v : View) (totals : Totals) : Type 0 where
   pub history : History
   pub tells : TotalsTell z.sessions z.buckets (passes_in v.parts) (logs_in v) (visits_in v) history totals
   pub logged : Logged z.buckets history (logs_in v)
   pub newest : length history ≡ newest_of z.sessions (logs_in v)
+  pub run : EndsOneRun z v history

@@ -206,9 +206,10 @@ impl Engine {
         self.store().bucket_of(rid)
     }
 
-    /// The sums of all buckets' counts. They are those of some history that contains each group of the logs once (`totals`). All
-    /// sessions and all other passes were joined to the pass. Each bucket is taken once, in order, and nothing is removed
-    /// from it (`visited`). The call waits for the commit lock and for each bucket's lock, and allocates nothing.
+    /// The sums of all buckets' counts. They are those of some history that contains each group of the logs once, and one list of
+    /// steps from a new board ends with it and with what the pass has (`totals`). All sessions and all other passes were joined to
+    /// the pass. Each bucket is taken once, in order, and nothing is removed from it (`visited`). The call waits for the commit
+    /// lock and for each bucket's lock, and allocates nothing.
     pub fn totals<R: Wait>(&self, rt: &R, pass: &mut CollectorPass) -> Totals
         requires own { IsPassOf (engine_board_id self.now) pass.old }
         requires ended { IsEnded (engine_sizes self.now) (pass_view pass.old) }

@@ -2,7 +2,7 @@ use Rattle.std.proofs.Common.{◌≡◌, suc, ◌+◌, ◌^◌, [], refl, subst,
 use Rattle.hg_rule.specs.Seats.{sizes_of, pass_view}
 use Rattle.hg_headline.proofs.Totalling.{Fits}
 use Rattle.hg_session.specs.Visited.{HasVisited}
-use Rattle.hg_session.proofs.Visiting.{SumsTell, sums_more, sums_fit, sums_all, visited_next, logs_told, newest_told}
+use Rattle.hg_session.proofs.Visiting.{SumsTell, sums_more, sums_fit, sums_all, visited_next, logs_told, newest_told, run_told}
 use Rattle.hg_session.proofs.totals.counted.Goals as goal
 
 pub loop-bucket-init : goal.loop-bucket-init
@@ -57,4 +57,5 @@ returns-clause-totals g c =
           (subst (λ k. SumsTell z v k c.loop-bucket.sums) all c.loop-bucket.invariant.2),
       logs_told z v c.requires.own.1 c.requires.commit c.requires.backed.0 c.requires.store.2 c.requires.ended c.requires.backed.1,
       newest_told z v c.requires.own.1 c.requires.commit c.requires.backed.0 c.requires.ended c.requires.backed.1,
+      run_told z v c.requires.own.1 c.requires.commit c.requires.backed.0 c.requires.ended c.requires.backed.1,
     )
