@@ -57,6 +57,16 @@ class CheckRun(unittest.TestCase):
         self.assertEqual((status, said), (1, ""))
         self.assertRegex(out, r"\Aunsound,2,Reply\noutput record 2 \(1,3,at,1,row,21\)(, to .*)?: .+\n\Z")
 
+    def test_the_program_gets_the_words(self) -> None:
+        with tempfile.TemporaryDirectory() as folder:
+            teller, told = os.path.join(folder, "teller"), os.path.join(folder, "told")
+            with open(teller, "w") as file:
+                file.write(f'#!/bin/sh\necho "$@" >>"{told}"\nexec "{program()}" "$@"\n')
+            os.chmod(teller, 0o755)
+            self.assertEqual(run("-", "--", "run", "--rounds", "2", HYBRIDGC=teller), (0, "sound\n", ""))
+            with open(told) as file:
+                self.assertEqual(file.read(), "run --rounds 2\naudit\n")
+
     def test_a_refused_script_is_named(self) -> None:
         status, out, said = run("-", source=b"table,t,1\n1,put,t,5\n")
         self.assertEqual((status, out), (3, ""))
