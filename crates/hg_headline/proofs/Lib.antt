@@ -52,5 +52,7 @@ pub mod Following
 pub mod OpenWrites
 pub mod Before
 pub mod Closing
+-- One list of steps that printed a text.
+pub mod RunsEnd
 -- A replay and a run that meet all this.
 pub mod Worked

@@ -30,7 +30,7 @@ use Rattle.hg_core.specs.Events.{masked_in, moved_in}
 use Rattle.hg_core.specs.Passes.{PassRecord, least_entering, horizon, recorded, group_bound, table_bound}
 use Rattle.hg_core.specs.Reading.{Tells}
 use Rattle.hg_core.specs.State.{CoreState, opened}
-use Rattle.hg_core.specs.Steps.{Step, Run, run}
+use Rattle.hg_core.specs.Steps.{Step, Run, run, LeadsTo}
 use Rattle.hg_core.specs.Sums.{sum_below}
 use Rattle.hg_headline.specs.Counted.{Closes}
 
@@ -193,6 +193,15 @@ pub record AreTotalsAt (s : CoreState) (totals : Totals) : Type 0 where
   pub group : totals.group ≡ sum_below s.buckets (λ b. (s.counters b).removed.group)
   pub table : totals.table ≡ sum_below s.buckets (λ b. (s.counters b).removed.table)
   pub interval : totals.interval ≡ sum_below s.buckets (λ b. (s.counters b).removed.interval)
+
+-- What is known at the end of a run: a list of steps leads there, each log is as these lines leave it but for what is rolled back then,
+-- and the state has the lines' reports, and the totals.
+pub record HasEnded (sessions buckets quota long : ℕ) (script : Script) (logs : ℕ → List LogEntry) (lines : List Line) (totals : Totals) : Type 0 where
+  pub state : CoreState
+  pub reached : LeadsTo (opened sessions (length script.tables) buckets 3 quota) state
+  pub closed : (j : ℕ) → Closes (logs j) (state.log j)
+  pub reported : (kind : Kind) → HasReported kind long state (reports_in kind lines)
+  pub counted : AreTotalsAt state totals
 
 -- One list of steps of sessions, committers and collectors, each of which may happen in its turn, printed these lines and these totals.
 pub record IsOneRun (sessions buckets quota long : ℕ) (script : Script) (lines : List Line) (totals : Totals) : Type 0 where

@@ -24,7 +24,9 @@
 #![tactic(auto)]
 
 mod laws;
+mod one_run;
 mod totals;
 
 pub use laws::{premises_are_met, replay_is_sound, run_is_sound, states_are_logged};
+pub use one_run::one_run_is_printed;
 pub use totals::buckets_tell;

@@ -1,0 +1,43 @@
+//! Laws of the list of steps that printed a text, each the contract of a function with no body.
+
+ghost use Rattle.std.specs.Prelude.{ℕ, ◌≡◌, ◌<◌, ◌≤◌, ◌++◌, List, [], None, ⊤};
+ghost use Rattle.std.specs.List.{flat_map};
+ghost use Rattle.hg_base.specs.declared.line.Line.{Line};
+ghost use Rattle.hg_base.specs.declared.line.Totals.{Totals};
+ghost use Rattle.hg_base.specs.declared.statement.Record.{Record};
+ghost use Rattle.hg_base.specs.Lists.{Each, numbers_from};
+ghost use Rattle.hg_base.specs.Script.{Script};
+ghost use Rattle.hg_base.specs.Shape.{HasShape};
+ghost use Rattle.hg_base.specs.Transcript.{of_session};
+ghost use Rattle.hg_core.specs.declared.log.LogEntry.{LogEntry};
+ghost use Rattle.hg_core.specs.Reading.{Follows, Tells};
+ghost use Rattle.hg_core.specs.Steps.{Always};
+ghost use Rattle.hg_headline.specs.OneRun.{AreTotalsAt, HasEnded, IsOneRun};
+ghost use Rattle.hg_headline.specs.Ran.{LeavesGc};
+ghost use Rattle.hg_headline.specs.Totalled.{TotalsTell};
+
+/// What a driver knows at the end of a list of steps makes its lines and totals those of one run. On one thread the lines follow the
+/// logs record by record (`replay`). In threads each session's lines are the replies of its log, and other lines are of session 0
+/// (`run`). And totals that logs and visits of a state tell are those of its counters (`totals`).
+pub fn one_run_is_printed()
+    ensures replay { (sessions buckets quota long : ℕ) (script : Script) (logs : ℕ → List LogEntry)
+        (lines : List Line) (totals : Totals) →
+        HasEnded sessions buckets quota long script logs lines totals →
+        HasShape script.records lines →
+        Follows buckets (λ logs r line. ⊤) (λ j. []) (λ j. None) script.records lines logs →
+        IsOneRun sessions buckets quota long script lines totals }
+    ensures run { (sessions buckets quota long last : ℕ)
+        (script : Script) (logs : ℕ → List LogEntry) (lines : ℕ → List Line) (others : List Line)
+        (totals : Totals) →
+        let all = flat_map lines (numbers_from 1 last) ++ others in
+        HasEnded sessions buckets quota long script logs all totals →
+        Each (λ (r : Record). r.session ≤ last) script.records →
+        ((j : ℕ) → HasShape (of_session j script.records) (lines j)) →
+        ((j : ℕ) → Tells buckets (λ r line. LeavesGc r.statement line.reply.answer) [] None
+        (of_session j script.records) (lines j) (logs j)) →
+        Each (λ (line : Line). line.session ≡ 0) others →
+        IsOneRun sessions buckets quota long script all totals }
+    ensures totals { Always (λ s. (totals : Totals) → 0 < s.buckets →
+        TotalsTell s.sessions s.buckets s.passes s.log s.visits s.history totals →
+        AreTotalsAt s totals) }
+{}
