@@ -55,7 +55,7 @@ numbers_over n (Took group ∷ notes) = numbers_over n notes
 abbrev pick : Bool → Visit → List Visit → List Visit
 pick b x xs = if b then x ∷ xs else xs
 
-of_none : (round : Round) (visits : List Visit) → Each (λ (x : Visit). x.round ≡ round.number → ⊥) visits → visits_of round visits ≡ []
+pub of_none : (round : Round) (visits : List Visit) → Each (λ (x : Visit). x.round ≡ round.number → ⊥) visits → visits_of round visits ≡ []
 of_none round [] h = refl
 of_none round (x ∷ visits) h = let e : (x.round == round.number) ≡ false = (let away = h.0 in grind (arith, nat_tests, away)) in
     ap (λ b. pick b x (visits_of round visits)) e ∙ of_none round visits h.1
@@ -65,7 +65,7 @@ of_all round [] h = refl
 of_all round (x ∷ visits) h = let e : (x.round == round.number) ≡ true = (let same = h.0 in grind (arith, nat_tests, same)) in
     ap (λ b. pick b x (visits_of round visits)) e ∙ ap (λ l. x ∷ l) (of_all round visits h.1)
 
-of_both : (round : Round) (xs ys : List Visit) → visits_of round (xs ++ ys) ≡ visits_of round xs ++ visits_of round ys
+pub of_both : (round : Round) (xs ys : List Visit) → visits_of round (xs ++ ys) ≡ visits_of round xs ++ visits_of round ys
 of_both round xs ys = filter-append (λ (x : Visit). x.round == round.number) xs ys
 
 -- a round's visits are not among those of later rounds
@@ -81,11 +81,11 @@ of_later n round later visits l now = of_both round later visits ∙
 
 -- ---- lists of rounds
 
-map_same : (f g : Round → Sweep) (rounds : List Round) → Each (λ r. f r ≡ g r) rounds → map f rounds ≡ map g rounds
+pub map_same : (f g : Round → Sweep) (rounds : List Round) → Each (λ r. f r ≡ g r) rounds → map f rounds ≡ map g rounds
 map_same f g [] h = refl
 map_same f g (r ∷ rounds) h = λ i. h.0 i ∷ map_same f g rounds h.1 i
 
-each_both : (P Q S : Round → Type 0) → ((r : Round) → P r → Q r → S r) → (rounds : List Round) → Each P rounds → Each Q rounds → Each S rounds
+pub each_both : (P Q S : Round → Type 0) → ((r : Round) → P r → Q r → S r) → (rounds : List Round) → Each P rounds → Each Q rounds → Each S rounds
 each_both P Q S f [] a b = tt
 each_both P Q S f (r ∷ rounds) a b = (f r a.0 b.0, each_both P Q S f rounds a.1 b.1)
 

@@ -23,5 +23,6 @@ pub mod Told
 pub mod Gave
 pub mod OneNoted
 pub mod AllNoted
+pub mod OneRun
 -- What is printed of them.
 pub mod Reported

@@ -8,11 +8,12 @@ use Rattle.hg_base.specs.Lists.{Each}
 use Rattle.hg_core.specs.declared.journal.PassEntry.{PassEntry}
 use Rattle.hg_core.specs.declared.journal.PassEntry.TheVariants.{Marked}
 use Rattle.hg_core.specs.declared.visit.Visit.{Visit}
-use Rattle.hg_headline.specs.OneRun.{Round, up_to_mark, rounds_after, taken_in, visits_of, round_report, TriesBy, HasCutGroup, Cleans}
+use Rattle.hg_core.specs.State.{CoreState}
+use Rattle.hg_headline.specs.OneRun.{Round, up_to_mark, rounds_after, taken_in, visits_of, round_report, pass_of, TriesBy, HasCutGroup, Cleans}
 use Rattle.hg_rule.specs.declared.view.Sight.{Sight}
 use Rattle.hg_rule.specs.declared.view.Sight.TheVariants.{Saw}
 use Rattle.hg_rule.specs.declared.view.View.{View}
-use Rattle.hg_rule.specs.Facts.{IsAmong, groups}
+use Rattle.hg_rule.specs.Facts.{IsAmong, Known, groups}
 use Rattle.hg_rule.specs.Views.{pass}
 
 -- an entry of a journal that is no load of the mark
@@ -58,3 +59,14 @@ pub record AreNoted (kind : Kind) (long buckets : ℕ) (v : View) (sweeps : List
   pub reports : map (λ round. round_report kind (visits_of round visits) round) (rounds_after (pass v).round notes) ≡ sweeps
   pub rule : Each (TriesBy kind long) (rounds_after (pass v).round notes)
   pub clean : Each (λ round. SawCleans kind buckets w.sights round (visits_of round visits)) (rounds_after (pass v).round notes)
+
+-- A state has the journal and the visits of the pass of that collector, and perhaps those of later rounds besides. What the pass has seen
+-- is so there.
+pub record HasNoted (kind : Kind) (s : CoreState) (w : View) : Type 0 where
+  pub notes : List PassEntry
+  pub begins : up_to_mark notes ≡ []
+  pub journal : (s.pass (pass_of kind)).journal ≡ (pass w).journal ++ notes
+  pub visits : List Visit
+  pub later : Each (λ visit. (pass w).round < visit.round) visits
+  pub more : s.visits (pass_of kind) ≡ visits ++ (pass w).visits
+  pub seen : Each (Known s) w.sights

@@ -59,7 +59,7 @@ pub use collectors::{Collectors, Room};
 pub use group::GroupCollector;
 pub use interval::IntervalWorker;
 pub use lent::Lent;
-pub use noted::rounds_are_noted;
+pub use noted::{noted_rounds_are_reported, rounds_are_noted};
 pub use pace::{NoGate, Pace, READER};
 pub use round_list::{Plan, RoundList};
 pub use round_lists::{RoundLists, run_collectors};

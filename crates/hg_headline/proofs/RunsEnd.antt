@@ -100,8 +100,7 @@ told_each buckets P j logs left (r ∷ rs) (line ∷ lines) final shape f =
           tt,
           subst (λ i. (v : Unprinted) × Fits buckets v (logs i) r.statement line.reply
               × Tells buckets (λ r line. ⊤) (log_after buckets v r.statement line.reply (logs i)) (rest_after r.statement line.reply.answer (left i)) (of_session j rs) (lines_of j lines) (final j)
-              × HasRest r.statement v.rest (left i)) same
-              (
+              × HasRest r.statement v.rest (left i)) same (
                 u,
                 f.1.1,
                 subst (λ l. Tells buckets (λ r line. ⊤) l (rest r.session) (of_session j rs) (lines_of j lines) (final j)) (ap (put logs r.session (log r.session)) (sym same) ∙ put_here logs r.session (log r.session))

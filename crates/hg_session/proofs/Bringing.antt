@@ -26,6 +26,7 @@ use Rattle.hg_session.specs.Engines.{engine_sizes}
 use Rattle.hg_session.specs.Ties.{phase_at}
 use Rattle.hg_session.specs.Sessions.{view_of, number_of, log_of, seen_by}
 use Rattle.hg_session.specs.Ended.{logs_in, visits_in, HasAllPasses, IsEnded}
+use Rattle.hg_session.specs.OneRun.{journals_in}
 use Rattle.hg_session.specs.Finished.{logs_of, parts_of, IsClosed, HasNoSession, HaveGone, AreAmong}
 
 -- a session's part
@@ -197,6 +198,12 @@ module _ (e : Engine) (v w : View) (sessions : List Session) (own : HasPass v) (
       ∙ (ap (λ part. (pass_there (chosen (has (pass_key p) (OfPass (number v) (pass v))) (OfPass (number v) (pass v)) part)).visits)
       (passed e (seek (pass_key p)) (λ j part ps. refl) 1 sessions row (others v))
       ∙ sym (ap (λ ps. (pass_there (seek (pass_key p) ps)).visits) own))) i
+
+  pub journals_finished : journals_in w ≡ journals_in v
+  journals_finished = λ i p. (ap (λ ps. (pass_there (seek (pass_key p) ps)).journal) h.parts
+      ∙ (ap (λ part. (pass_there (chosen (has (pass_key p) (OfPass (number v) (pass v))) (OfPass (number v) (pass v)) part)).journal)
+      (passed e (seek (pass_key p)) (λ j part ps. refl) 1 sessions row (others v))
+      ∙ sym (ap (λ ps. (pass_there (seek (pass_key p) ps)).journal) own))) i
 
   pub passes_finished : passes_in w.parts ≡ passes_in v.parts
   passes_finished = ap passes_in h.parts ∙ (ap (max (suc (number v))) (passed e passes_in (λ j part ps. refl) 1 sessions row (others v)) ∙ sym (ap passes_in own))

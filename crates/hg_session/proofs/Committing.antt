@@ -1,6 +1,7 @@
 -- The committer's part comes to a pass that all others were joined to, and leaves again.
 use Rattle.std.proofs.Common.{◌≡◌, ℕ, ◌+◌, ◌<◌, [], ◌∷◌, ◌++◌, length, sym, ap, ◌∙◌, subst, arith}
 use Rattle.hg_base.specs.declared.line.Totals.{Totals}
+use Rattle.hg_base.specs.Lists.{Each}
 use Rattle.hg_core.specs.Logs.{newest_of}
 use Rattle.hg_rule.specs.declared.view.CommitPart.{CommitPart}
 use Rattle.hg_rule.specs.declared.view.Part.TheVariants.{OfCommit, OfPass}
@@ -13,7 +14,8 @@ use Rattle.hg_rule.specs.Holding.{commit}
 use Rattle.hg_rule.specs.Places.{without_commit}
 use Rattle.hg_rule.specs.Reading.{seek, passes_in}
 use Rattle.hg_rule.proofs.Holders.{pass_joins}
-use Rattle.hg_rule.proofs.Lists.{starts_on}
+use Rattle.hg_rule.specs.Facts.{Known}
+use Rattle.hg_rule.proofs.Lists.{each_left, starts_on}
 use Rattle.hg_headline.specs.Logged.{Logged}
 use Rattle.hg_headline.specs.Totalled.{TotalsTell}
 use Rattle.hg_session.specs.Ended.{logs_in, visits_in, IsEnded}
@@ -81,15 +83,18 @@ module _ (v w u : View) (part : CommitPart) (own : HasPass v) (only : w.parts �
   journals_come : (p : ℕ) → journals_in u p ≡ journals_in v p
   journals_come p = (λ i. (pass_there (seek (pass_key p) (now i))).journal) ∙ sym (λ i. (pass_there (seek (pass_key p) (own i))).journal)
 
-  run_before : (z : Sizes) → EndsOneRun z u (commit u).history.list → EndsOneRun z v part.history.list
-  run_before z r = record {
+  run_before : (z : Sizes) (totals : Totals) → EndsOneRun z u (commit u).history.list totals → EndsOneRun z v part.history.list totals
+  run_before z totals r = record {
     state = r.state;
     reached = r.reached;
+    sized = r.sized;
     logs = r.logs ∙ logs_come;
     history_is = r.history_is ∙ ap (λ (c : CommitPart). c.history.list) commit_comes;
     visits = r.visits ∙ visits_come;
     journals = λ p. r.journals p ∙ journals_come p;
+    seen = each_left (Known r.state) v.sights w.sights (subst (Each (Known r.state)) (ap (λ (t : View). t.sights) is) r.seen);
+    counted = r.counted;
   }
 
   pub told_before : (z : Sizes) (totals : Totals) → TellOf z u (commit u).history.list totals → TellOf z v part.history.list totals
-  told_before z totals t = (totals_before z totals t.0, logged_before z.buckets t.1, newest_before z.sessions t.2, run_before z t.3)
+  told_before z totals t = (totals_before z totals t.0, logged_before z.buckets t.1, newest_before z.sessions t.2, run_before z totals t.3)

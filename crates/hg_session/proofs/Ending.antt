@@ -25,8 +25,9 @@ use Rattle.hg_rule.proofs.Found.{ltb_less, HasPart, state_is, full, inside_is as
 use Rattle.hg_rule.proofs.Lists.{each_append}
 use Rattle.hg_base.proofs.ListFacts.{each_keeps}
 use Rattle.hg_headline.specs.Logged.{Logged}
-use Rattle.hg_headline.specs.Totalled.{AreCounts, BucketTells}
+use Rattle.hg_headline.specs.Totalled.{AreCounts, BucketTells, TotalsTell}
 use Rattle.hg_headline.proofs.OverBuckets.{state_logged}
+use Rattle.hg_headline.proofs.RunsEnd.{totals_at}
 use Rattle.hg_headline.proofs.Totalling.{state_tells, history_is_newest}
 use Rattle.hg_session.specs.Ended.{logs_in, visits_in, history_in, IsEnded}
 use Rattle.hg_session.specs.OneRun.{journals_in, EndsOneRun}
@@ -195,10 +196,6 @@ module _ (z : Sizes) (n : ℕ) (v : View) (k : IsBacked z n v) (ended : IsEnded 
   pub history_is : s.history ≡ history_in v
   history_is = ap (λ (c : CoreState). c.history) state_read ∙ (λ i. (commit_there (seek_same commit_key v.parts more buckets.commit.1 i)).history.list)
 
-  -- one list of steps ends so
-  pub one_run : EndsOneRun z v (history_in v)
-  one_run = record { state = s; reached = k.reached; logs = logs_are; history_is = history_is; visits = visits_are; journals = journals_are }
-
   pub bucket_is : (b : ℕ) → 0 < count (bucket_key b) v.parts → (s.bucket b ≡ (bucket_there (seek (bucket_key b) v.parts)).content) ×
       (s.counters b ≡ (bucket_there (seek (bucket_key b) v.parts)).counters)
   bucket_is b l =
@@ -240,3 +237,29 @@ module _ (z : Sizes) (n : ℕ) (v : View) (k : IsBacked z n v) (ended : IsEnded 
       (subst (λ m. BucketTells z.sessions z.buckets m s.log s.visits s.history b counts) passes_are
       (subst (λ m. BucketTells z.sessions m s.passes s.log s.visits s.history b counts) k.sized.buckets
       (subst (λ m. BucketTells m s.buckets s.passes s.log s.visits s.history b counts) k.sized.sessions (state_tells s b counts k.steady none_open are))))))
+
+  -- totals that are told of the view are told of the state
+  told_there : (totals : Totals) → TotalsTell z.sessions z.buckets (passes_in v.parts) (logs_in v) (visits_in v) (history_in v) totals →
+      TotalsTell s.sessions s.buckets s.passes s.log s.visits s.history totals
+  told_there totals t =
+      subst (λ m. TotalsTell m s.buckets s.passes s.log s.visits s.history totals) (sym k.sized.sessions)
+      (subst (λ m. TotalsTell z.sessions m s.passes s.log s.visits s.history totals) (sym k.sized.buckets)
+      (subst (λ m. TotalsTell z.sessions z.buckets m s.log s.visits s.history totals) (sym passes_are)
+      (subst (λ f. TotalsTell z.sessions z.buckets (passes_in v.parts) f s.visits s.history totals) (sym logs_are)
+      (subst (λ f. TotalsTell z.sessions z.buckets (passes_in v.parts) (logs_in v) f s.history totals) (sym visits_are)
+      (subst (λ h. TotalsTell z.sessions z.buckets (passes_in v.parts) (logs_in v) (visits_in v) h totals) (sym history_is) t)))))
+
+  -- one list of steps ends so
+  pub one_run : (totals : Totals) → 0 < z.buckets → TotalsTell z.sessions z.buckets (passes_in v.parts) (logs_in v) (visits_in v) (history_in v) totals →
+      EndsOneRun z v (history_in v) totals
+  one_run totals some t = record {
+    state = s;
+    reached = k.reached;
+    sized = k.sized;
+    logs = logs_are;
+    history_is = history_is;
+    visits = visits_are;
+    journals = journals_are;
+    seen = k.true_of.sights;
+    counted = totals_at s totals k.steady (subst (λ b. 0 < b) (sym k.sized.buckets) some) (told_there totals t);
+  }

@@ -1,5 +1,6 @@
 -- A round of the table collector leaves each bucket cut at the mark, where all sessions rest.
 use Rattle.std.proofs.Common.{◌≡◌, ◌⊎◌, inl, inr, ℕ, zero, suc, ◌+◌, ◌<◌, ◌≤◌, Bool, true, false, List, [], ◌∷◌, ◌++◌, length, refl, sym, ap, ◌∙◌, subst, arith}
+use Rattle.std.proofs.Common.{eqb, ne_eqb}
 use Rattle.std.specs.Prelude.{max, map, filter}
 use Rattle.hg_base.specs.declared.rid.Rid.{Rid}
 use Rattle.hg_base.specs.declared.report.Entry.{Entry}
@@ -39,7 +40,7 @@ use Rattle.hg_rounds.specs.Cutting.{IsCutBy}
 use Rattle.hg_rounds.specs.TableCollectors.{Cuts}
 use Rattle.hg_headline.specs.Totalled.{LeavesCut, HasCut, WasLeftCut}
 use Rattle.hg_session.specs.Ended.{logs_in, visits_in, IsEnded}
-use Rattle.hg_session.specs.Settled.{HasHeardAll, RemovesForTables}
+use Rattle.hg_session.specs.Settled.{HasHeardAll, KeepsOthers, RemovesForTables}
 use Rattle.hg_session.proofs.Quiet.{heard_whole, up_to_whole, found_idle, mark_newest}
 
 -- ---- the pass's own part has changed, and no other
@@ -68,6 +69,26 @@ module _ (v w : View) (r : PassPart) (own : HasPass v) (now : w.parts ≡ OfPass
       go : (t : Bool) → P (pass_there (chosen t (OfPass (number v) (pass v)) (seek (pass_key p) (others v)))).visits (pass_there (chosen t (OfPass (number v) r) (seek (pass_key p) (others v)))).visits
       go true = changed
       go false = other _
+
+  pub others_own : KeepsOthers v w
+  others_own = record {
+    number_is = ap part_number now;
+    own_visits = ap (λ (t : PassPart). t.visits) here;
+    own_journal = ap (λ (t : PassPart). t.journal) here;
+    visits = λ p other. ap (λ part. (pass_there part).visits) (there p other);
+    journals = λ p other. ap (λ part. (pass_there part).journal) (there p other);
+  }
+    where
+      here : pass_there (seek (pass_key (number v)) w.parts) ≡ pass w
+      here = ap (λ ps. pass_there (seek (pass_key (number v)) ps)) now
+          ∙ (ap (λ b. pass_there (chosen b (OfPass (number v) r) (seek (pass_key (number v)) (others v)))) (key_self (pass_key (number v)))
+          ∙ sym (ap (λ ps. pass_there (first_in ps)) now))
+
+      there : (p : ℕ) → (p ≡ number v → ⊥) → seek (pass_key p) w.parts ≡ seek (pass_key p) v.parts
+      there p other =
+          let away : eqb (number v) p ≡ false = ne_eqb (number v) p (λ e. other (sym e)) in
+          ap (seek (pass_key p)) now ∙ (ap (λ b. chosen b (OfPass (number v) r) (seek (pass_key p) (others v))) away
+          ∙ sym (ap (seek (pass_key p)) own ∙ ap (λ b. chosen b (OfPass (number v) (pass v)) (seek (pass_key p) (others v))) away))
 
   pub left_own : (buckets mark b : ℕ) → HasCut buckets mark b r.visits → WasLeftCut buckets mark (passes_in w.parts) (visits_in w) b
   left_own buckets mark b cut = (
@@ -154,6 +175,9 @@ module _ (z : Sizes) (v w : View) (long : ℕ) (report : Report) (own : HasPass 
   parts_after : w.parts ≡ OfPass (number v) after ∷ others v
   parts_after = c.visits.on.parts ∙ (λ i. OfPass (part_number (parts_moved i))
       (record (pass_there (first_in (parts_moved i))) { visits = c.visits.on.visits ++ (pass_there (first_in (parts_moved i))).visits }) ∷ after_first (parts_moved i))
+
+  pub others_after : KeepsOthers v w
+  others_after = others_own v w after own parts_after
 
   pub logs_after : logs_in w ≡ logs_in v
   logs_after = logs_own v w after own parts_after

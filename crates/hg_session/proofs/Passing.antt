@@ -10,7 +10,7 @@ use Rattle.hg_rule.specs.declared.view.Event.{Event}
 use Rattle.hg_rule.specs.declared.view.View.{View}
 use Rattle.hg_rule.specs.Keys.{session_key, pass_key, count, shares}
 use Rattle.hg_rule.specs.Facts.{new_part, IsAmong}
-use Rattle.hg_rule.specs.Views.{pass, pass_there}
+use Rattle.hg_rule.specs.Views.{number, pass, pass_there, part_number, first_in}
 use Rattle.hg_rule.specs.Moves.{put_in, merged, did}
 use Rattle.hg_rule.specs.Reading.{chosen, seek, passes_in}
 use Rattle.hg_rule.specs.Seats.{pass_view}
@@ -18,8 +18,9 @@ use Rattle.hg_rule.proofs.Growing.{among_later}
 use Rattle.hg_session.specs.declared.engine.Engine.{Engine}
 use Rattle.hg_session.specs.declared.engine.Passes.{Passes}
 use Rattle.hg_session.specs.Ended.{visits_in, HasAllPasses}
+use Rattle.hg_session.specs.OneRun.{journals_in}
 use Rattle.hg_session.specs.Finished.{HasNoSession}
-use Rattle.hg_session.specs.Passing.{AreAlone, visits_of}
+use Rattle.hg_session.specs.Passing.{AreAlone, journals_of, visits_of}
 use Rattle.hg_rule.proofs.Lists.{among_left}
 
 -- ---- what is known to be done
@@ -70,6 +71,20 @@ module _ (e : Engine) (passes : Passes) (u w : View) (h : AreAlone e passes) (fi
       go p false true c = refl
       go p false false true = refl
       go p false false false = refl
+
+  pub all_journals : journals_in w ≡ journals_of passes
+  all_journals = λ i p. (ap (λ (ps : List Part). (pass_there (seek (pass_key p) ps)).journal) parts ∙ go p (eqb 1 p) (eqb 2 p) (eqb 0 p)) i
+    where
+      go : (p : ℕ) (a b c : Bool) → (pass_there (chosen a (OfPass 1 table) (chosen b (OfPass 2 interval) (chosen c (OfPass 0 group) (new_part (pass_key p)))))).journal
+          ≡ (if a then table.journal else (if b then interval.journal else (if c then group.journal else [])))
+      go p true b c = refl
+      go p false true c = refl
+      go p false false true = refl
+      go p false false false = refl
+
+  -- the table collector's part is the pass's own still
+  pub own_stays : (number w ≡ 1) × (pass w ≡ table)
+  own_stays = (ap part_number parts, ap (λ ps. pass_there (first_in ps)) parts)
 
   abbrev own_sights : List Sight
   own_sights = (pass_view passes.table).sights

@@ -249,5 +249,6 @@ module _ (z : Sizes) (v : View) (own : HasPass v) (holds : HoldsCommit v) where
   pub newest_told : (mark : ℕ) → IsEnded z v → IsBacked z mark v → length (commit v).history.list ≡ newest_of z.sessions (logs_in v)
   newest_told mark ended backed = sym (ap length history_there) ∙ newest_is z mark v backed ended committed
 
-  pub run_told : (mark : ℕ) → IsEnded z v → IsBacked z mark v → EndsOneRun z v (commit v).history.list
-  run_told mark ended backed = subst (EndsOneRun z v) history_there (one_run z mark v backed ended committed)
+  pub run_told : (mark : ℕ) (sums : Totals) → 0 < z.buckets → IsEnded z v → IsBacked z mark v → SumsTell z v z.buckets sums → EndsOneRun z v (commit v).history.list sums
+  run_told mark sums some ended backed s = subst (λ k. EndsOneRun z v k sums) history_there (one_run z mark v backed ended committed sums some
+      (totals_tell z.sessions z.buckets (passes_in v.parts) (logs_in v) (visits_in v) (history_in v) sums some (within z mark v backed ended committed) s))

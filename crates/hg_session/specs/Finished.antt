@@ -13,6 +13,7 @@ use Rattle.hg_rule.specs.Facts.{StartsWith, IsAmong}
 use Rattle.hg_rule.specs.Reading.{passes_in}
 use Rattle.hg_rule.specs.Views.{number, pass, others}
 use Rattle.hg_session.specs.Ended.{visits_in}
+use Rattle.hg_session.specs.OneRun.{journals_in}
 use Rattle.hg_session.specs.declared.engine.Engine.{Engine}
 use Rattle.hg_session.specs.declared.session.Session.{Session}
 use Rattle.hg_session.specs.Sessions.{IsOf, view_of, number_of, log_of, open_of, seen_by}
@@ -32,9 +33,11 @@ pub record IsClosed (e : Engine) (j : ℕ) (s : Session) : Type 0 where
 abbrev pub HasNoSession : View → Type 0
 HasNoSession v = (j : ℕ) → count (session_key j) v.parts ≡ 0
 
--- A pass that sessions go to keeps what it has seen, its steps, its visits, and how many passes are joined to it.
+-- A pass that sessions go to keeps what it has seen, its steps, and of all passes that are joined to it how many they are, their visits and
+-- their journals.
 abbrev pub KeepsPass : View → View → Type 0
-KeepsPass v w = StartsWith w.sights v.sights × (w.events ≡ v.events) × (visits_in w ≡ visits_in v) × (passes_in w.parts ≡ passes_in v.parts)
+KeepsPass v w = StartsWith w.sights v.sights × (w.events ≡ v.events) × (visits_in w ≡ visits_in v) × (passes_in w.parts ≡ passes_in v.parts) ×
+    (journals_in w ≡ journals_in v)
 
 -- all of the first sights are among the others
 abbrev pub AreAmong : List Sight → List Sight → Type 0

@@ -1,5 +1,6 @@
 -- The passes of an engine's collectors.
 use Rattle.std.specs.Prelude.{◌≡◌, ℕ, eqb, List, [], ◌∷◌, if◌then◌else◌}
+use Rattle.hg_core.specs.declared.journal.PassEntry.{PassEntry}
 use Rattle.hg_core.specs.declared.visit.Visit.{Visit}
 use Rattle.hg_rule.specs.declared.passes.CollectorPass.{CollectorPass}
 use Rattle.hg_rule.specs.declared.view.Part.TheVariants.{OfPass}
@@ -32,4 +33,12 @@ visits_of passes p =
     if eqb 1 p then (pass (pass_view passes.table)).visits
     else (if eqb 2 p then (pass (pass_view passes.interval)).visits
     else (if eqb 0 p then (pass (pass_view passes.group)).visits
+    else []))
+
+-- the journal of each, by its number
+abbrev pub journals_of : Passes → ℕ → List PassEntry
+journals_of passes p =
+    if eqb 1 p then (pass (pass_view passes.table)).journal
+    else (if eqb 2 p then (pass (pass_view passes.interval)).journal
+    else (if eqb 0 p then (pass (pass_view passes.group)).journal
     else []))

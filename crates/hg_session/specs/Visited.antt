@@ -61,13 +61,13 @@ AreBucketsOf board store = (store_board_id store ≡ board_id board) × (store_b
 -- number is the greatest that was published, and one list of steps ends so.
 abbrev pub TellOf : Sizes → View → History → Totals → Type 0
 TellOf z v history totals = TotalsTell z.sessions z.buckets (passes_in v.parts) (logs_in v) (visits_in v) history totals × Logged z.buckets history (logs_in v) ×
-    (length history ≡ newest_of z.sessions (logs_in v)) × EndsOneRun z v history
+    (length history ≡ newest_of z.sessions (logs_in v)) × EndsOneRun z v history totals
 
 -- The counts of all buckets, once all sessions and passes are joined to the view: there is a history of which they tell, which
--- the logs have, whose last number is the greatest that was published, and with which one list of steps ends.
+-- the logs have, whose last number is the greatest that was published, and with which, and with the totals, one list of steps ends.
 pub record AreTotals (z : Sizes) (v : View) (totals : Totals) : Type 0 where
   pub history : History
   pub tells : TotalsTell z.sessions z.buckets (passes_in v.parts) (logs_in v) (visits_in v) history totals
   pub logged : Logged z.buckets history (logs_in v)
   pub newest : length history ≡ newest_of z.sessions (logs_in v)
-  pub run : EndsOneRun z v history
+  pub run : EndsOneRun z v history totals

@@ -5,11 +5,13 @@ ghost use Rattle.hg_base.specs.Lists.{Each};
 ghost use Rattle.hg_rule.specs.New.{EachFrom};
 ghost use Rattle.hg_rule.specs.Reading.{passes_in};
 ghost use Rattle.hg_rule.specs.Seats.{pass_view, IsPassOf};
+ghost use Rattle.hg_rule.specs.Views.{number, pass as part};
 ghost use Rattle.hg_session.specs.Engines.{engine_board_id, engine_sizes};
-ghost use Rattle.hg_session.specs.Passing.{AreAlone, passes_with, visits_of};
+ghost use Rattle.hg_session.specs.Passing.{AreAlone, passes_with, journals_of, visits_of};
 ghost use Rattle.hg_rule.specs.Facts.{IsHeard};
 ghost use Rattle.hg_session.specs.Sessions.{seen_by};
 ghost use Rattle.hg_session.specs.Ended.{logs_in, visits_in, HasAllPasses, IsEnded};
+ghost use Rattle.hg_session.specs.OneRun.{journals_in};
 ghost use Rattle.hg_session.specs.Finished.{logs_of, IsClosed, HasNoSession, HaveGone, AreAmong, AreDone, KeepsPass};
 
 use crate::engine::Engine;
@@ -29,6 +31,11 @@ pub fn join_all(
     ensures none { HasNoSession (pass_view pass.new) }
     ensures visits { visits_in (pass_view pass.new) ≡
         visits_of (passes_with group pass.old interval) }
+    ensures journals { journals_in (pass_view pass.new) ≡
+        journals_of (passes_with group pass.old interval) }
+    // its own part stays
+    ensures stays { (number (pass_view pass.new) ≡ 1) ×
+        (part (pass_view pass.new) ≡ part (pass_view pass.old)) }
     ensures seen { AreAmong (pass_view group).sights (pass_view pass.new).sights ×
         AreAmong (pass_view pass.old).sights (pass_view pass.new).sights ×
         AreAmong (pass_view interval).sights (pass_view pass.new).sights }

@@ -12,7 +12,7 @@ ghost use Rattle.hg_headline.specs.Totalled.{WasLeftCut};
 ghost use Rattle.hg_rounds.specs.TableCollectors.{view_of, report_in, IsCollectorOf, Cuts};
 ghost use Rattle.hg_session.specs.Engines.{engine_board_id, engine_sizes};
 ghost use Rattle.hg_session.specs.Ended.{logs_in, visits_in, IsEnded};
-ghost use Rattle.hg_session.specs.Settled.{HasHeardAll, RemovesForTables};
+ghost use Rattle.hg_session.specs.Settled.{HasHeardAll, KeepsOthers, RemovesForTables};
 
 use crate::engine::Engine;
 use hg_rounds::TableCollector;
@@ -35,6 +35,8 @@ pub fn settle<R: Wait>(rt: &R, engine: &Engine, collector: &mut TableCollector)
     ensures removed { (p : ℕ) →
         RemovesForTables (visits_in (view_of collector.old) p)
         (visits_in (view_of collector.new) p) }
+    // no other pass has visits or a journal that it had not
+    ensures others { KeepsOthers (view_of collector.old) (view_of collector.new) }
     ensures logs { logs_in (view_of collector.new) ≡ logs_in (view_of collector.old) }
     ensures passes { passes_in (view_of collector.new).parts ≡
         passes_in (view_of collector.old).parts }

@@ -1,5 +1,5 @@
 use Rattle.hg_rule.specs.Seats.{pass_view}
-use Rattle.hg_session.proofs.Bringing.{logs_finished, ended_finished, visits_finished, passes_finished, heard_finished}
+use Rattle.hg_session.proofs.Bringing.{logs_finished, ended_finished, visits_finished, passes_finished, journals_finished, heard_finished}
 use Rattle.hg_session.proofs.finish.finish_all.Goals as goal
 
 pub returns-clause-ended : goal.returns-clause-ended
@@ -21,4 +21,5 @@ returns-clause-kept c =
       went.events,
       visits_finished c.args.engine.now (pass_view c.args.pass.now) (pass_view c.finish_some.new.pass) c.args.sessions.items c.requires.own.1 c.requires.sessions c.requires.joined.1 went,
       passes_finished c.args.engine.now (pass_view c.args.pass.now) (pass_view c.finish_some.new.pass) c.args.sessions.items c.requires.own.1 c.requires.sessions c.requires.joined.1 went,
+      journals_finished c.args.engine.now (pass_view c.args.pass.now) (pass_view c.finish_some.new.pass) c.args.sessions.items c.requires.own.1 c.requires.sessions c.requires.joined.1 went,
     )

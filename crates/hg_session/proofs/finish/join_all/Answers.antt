@@ -1,6 +1,6 @@
 use Rattle.std.proofs.Common.{inl, inr}
 use Rattle.hg_session.specs.Passing.{passes_with}
-use Rattle.hg_session.proofs.Passing.{all_passes, three_passes, no_session, all_visits, all_seen, all_done, events_stay}
+use Rattle.hg_session.proofs.Passing.{all_passes, three_passes, no_session, all_visits, all_journals, own_stays, all_seen, all_done, events_stay}
 use Rattle.hg_session.proofs.finish.join_all.Goals as goal
 
 pub returns-clause-passes : goal.returns-clause-passes
@@ -11,6 +11,12 @@ returns-clause-none c = no_session c.args.engine.now (passes_with c.args.group c
 
 pub returns-clause-visits : goal.returns-clause-visits
 returns-clause-visits c = all_visits c.args.engine.now (passes_with c.args.group c.args.pass.now c.args.interval) _ _ c.requires.alone c.join.ensures.view c.join-2.ensures.view
+
+pub returns-clause-journals : goal.returns-clause-journals
+returns-clause-journals c = all_journals c.args.engine.now (passes_with c.args.group c.args.pass.now c.args.interval) _ _ c.requires.alone c.join.ensures.view c.join-2.ensures.view
+
+pub returns-clause-stays : goal.returns-clause-stays
+returns-clause-stays c = own_stays c.args.engine.now (passes_with c.args.group c.args.pass.now c.args.interval) _ _ c.requires.alone c.join.ensures.view c.join-2.ensures.view
 
 pub returns-clause-seen : goal.returns-clause-seen
 returns-clause-seen c =

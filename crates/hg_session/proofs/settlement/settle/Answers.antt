@@ -6,7 +6,7 @@ use Rattle.hg_rule.specs.Seats.{sizes_of}
 use Rattle.hg_base.specs.declared.report.Report.{Report}
 use Rattle.hg_rounds.specs.TableCollectors.{view_of, report_in, Cuts}
 use Rattle.hg_session.specs.Engines.{engine_sizes}
-use Rattle.hg_session.proofs.Leaving.{left_after, removed_after, logs_after, passes_after, ended_after, heard_after}
+use Rattle.hg_session.proofs.Leaving.{left_after, others_after, removed_after, logs_after, passes_after, ended_after, heard_after}
 use Rattle.hg_session.proofs.settlement.settle.Goals as goal
 
 -- a round at the board of the trackers is one at the engine's
@@ -29,6 +29,10 @@ returns-clause-settled g c =
 
 pub returns-clause-removed : goal.returns-clause-removed
 returns-clause-removed g c = removed_after (engine_sizes c.args.engine.now) (view_of c.args.collector.now) (view_of c.collect.new.self) _
+    (report_in c.collect.new.self) c.requires.own.0.1 (cuts_at _ _ _ _ _ _ c.trackers.ensures c.collect.ensures.cuts)
+
+pub returns-clause-others : goal.returns-clause-others
+returns-clause-others g c = others_after (engine_sizes c.args.engine.now) (view_of c.args.collector.now) (view_of c.collect.new.self) _
     (report_in c.collect.new.self) c.requires.own.0.1 (cuts_at _ _ _ _ _ _ c.trackers.ensures c.collect.ensures.cuts)
 
 pub returns-clause-logs : goal.returns-clause-logs

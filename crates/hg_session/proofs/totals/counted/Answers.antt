@@ -57,5 +57,6 @@ returns-clause-totals g c =
           (subst (λ k. SumsTell z v k c.loop-bucket.sums) all c.loop-bucket.invariant.2),
       logs_told z v c.requires.own.1 c.requires.commit c.requires.backed.0 c.requires.store.2 c.requires.ended c.requires.backed.1,
       newest_told z v c.requires.own.1 c.requires.commit c.requires.backed.0 c.requires.ended c.requires.backed.1,
-      run_told z v c.requires.own.1 c.requires.commit c.requires.backed.0 c.requires.ended c.requires.backed.1,
+      run_told z v c.requires.own.1 c.requires.commit c.requires.backed.0 c.loop-bucket.sums c.requires.store.2 c.requires.ended c.requires.backed.1
+          (subst (λ k. SumsTell z v k c.loop-bucket.sums) all c.loop-bucket.invariant.2),
     )
