@@ -17,6 +17,7 @@ use Rattle.hg_base.proofs.ListFacts.{cases, each_keeps}
 use Rattle.hg_core.specs.declared.log.LogEntry.{LogEntry}
 use Rattle.hg_core.specs.Events.{put}
 use Rattle.hg_core.specs.Invariant.{IsSteady}
+use Rattle.hg_core.specs.Phases.{IsSession}
 use Rattle.hg_core.specs.Reading.{Unprinted, Fits, HasRest, Tells, Follows, log_after}
 use Rattle.hg_core.specs.State.{CoreState, opened}
 use Rattle.hg_core.specs.Steps.{Always}
@@ -163,56 +164,43 @@ module _ (lines : ℕ → List Line) (own : (k : ℕ) → Each (λ (line : Line)
 
 -- ---- the whole
 
--- no record is of a session over the last one
-none_after : (j last : ℕ) (rs : List Record) → last < j → Each (λ (r : Record). r.session ≤ last) rs → of_session j rs ≡ []
-none_after j last [] over h = refl
-none_after j last (r ∷ rs) over h = let e : (r.session == j) ≡ false = (let le = h.0 in grind (arith, nat_tests)) in
-    ap (λ b. cond b (r ∷ of_session j rs) (of_session j rs)) e ∙ none_after j last rs over h.1
-
-no_line : (rs : List Record) (lines : List Line) → rs ≡ [] → HasShape rs lines → lines ≡ []
-no_line rs lines e h = go lines (subst (λ rs. HasShape rs lines) e h)
-  where
-    go : (lines : List Line) → HasShape [] lines → lines ≡ []
-    go [] h = refl
-    go (line ∷ lines) h = absurd h
-
-module _ (sessions buckets quota long : ℕ) (script : Script) (logs : ℕ → List LogEntry) (lines : List Line) (totals : Totals)
-    (h : HasEnded sessions buckets quota long script logs lines totals) where
+module _ (sessions more buckets quota long : ℕ) (script : Script) (logs : ℕ → List LogEntry) (lines : List Line) (totals : Totals)
+    (h : HasEnded sessions more buckets quota long script logs lines totals) where
   abbrev start : CoreState
-  start = opened sessions (length script.tables) buckets 3 quota
+  start = opened (more + sessions) (length script.tables) buckets 3 quota
 
-  pub one_run : ((j : ℕ) → 0 < j → Tells buckets (λ r line. ⊤) [] None (of_session j script.records) (lines_of j lines) (logs j)) →
-      IsOneRun sessions buckets quota long script lines totals
+  pub one_run : ((j : ℕ) → IsSession sessions j → Tells buckets (λ r line. ⊤) [] None (of_session j script.records) (lines_of j lines) (logs j)) →
+      IsOneRun sessions more buckets quota long script lines totals
   one_run told = record {
     steps = h.reached.steps;
     may = h.reached.may;
     logs = logs;
     told = told;
-    closed = subst (λ (s : CoreState). (j : ℕ) → Closes (logs j) (s.log j)) (sym h.reached.leads) h.closed;
+    closed = subst (λ (s : CoreState). (j : ℕ) → IsSession sessions j → Closes (logs j) (s.log j)) (sym h.reached.leads) h.closed;
     reported = subst (λ (s : CoreState). (kind : Kind) → HasReported kind long s (reports_in kind lines)) (sym h.reached.leads) h.reported;
     counted = subst (λ (s : CoreState). AreTotalsAt s totals) (sym h.reached.leads) h.counted;
   }
 
-pub replay_run : (P : (ℕ → List LogEntry) → Record → Line → Type 0) (sessions buckets quota long : ℕ) (script : Script) (logs : ℕ → List LogEntry) (lines : List Line) (totals : Totals) →
-    HasEnded sessions buckets quota long script logs lines totals → HasShape script.records lines → Follows buckets P (λ j. []) (λ j. None) script.records lines logs →
-    IsOneRun sessions buckets quota long script lines totals
-replay_run P sessions buckets quota long script logs lines totals h shape f = one_run sessions buckets quota long script logs lines totals h
-    (λ j some. told_each buckets P j (λ j. []) (λ j. None) script.records lines logs shape f)
+pub replay_run : (P : (ℕ → List LogEntry) → Record → Line → Type 0) (sessions more buckets quota long : ℕ) (script : Script) (logs : ℕ → List LogEntry) (lines : List Line) (totals : Totals) →
+    HasEnded sessions more buckets quota long script logs lines totals → HasShape script.records lines → Follows buckets P (λ j. []) (λ j. None) script.records lines logs →
+    IsOneRun sessions more buckets quota long script lines totals
+replay_run P sessions more buckets quota long script logs lines totals h shape f = one_run sessions more buckets quota long script logs lines totals h
+    (λ j is. told_each buckets P j (λ j. []) (λ j. None) script.records lines logs shape f)
 
-pub run_run : (P : Record → Line → Type 0) (sessions buckets quota long last : ℕ) (script : Script) (logs : ℕ → List LogEntry) (lines : ℕ → List Line) (others : List Line) (totals : Totals) →
-    HasEnded sessions buckets quota long script logs (flat_map lines (numbers_from 1 last) ++ others) totals → Each (λ (r : Record). r.session ≤ last) script.records →
+pub run_run : (P : Record → Line → Type 0) (sessions more buckets quota long : ℕ) (script : Script) (logs : ℕ → List LogEntry) (lines : ℕ → List Line) (others : List Line) (totals : Totals) →
+    HasEnded sessions more buckets quota long script logs (flat_map lines (numbers_from 1 sessions) ++ others) totals →
     ((j : ℕ) → HasShape (of_session j script.records) (lines j)) → ((j : ℕ) → Tells buckets P [] None (of_session j script.records) (lines j) (logs j)) →
-    Each (λ (line : Line). line.session ≡ 0) others → IsOneRun sessions buckets quota long script (flat_map lines (numbers_from 1 last) ++ others) totals
-run_run P sessions buckets quota long last script logs lines others totals h within shape tells outside =
-    one_run sessions buckets quota long script logs (flat_map lines (numbers_from 1 last) ++ others) totals h
-    (λ j some. subst (λ ls. Tells buckets (λ r line. ⊤) [] None (of_session j script.records) ls (logs j)) (sym (mine j some))
+    Each (λ (line : Line). line.session ≡ 0) others → IsOneRun sessions more buckets quota long script (flat_map lines (numbers_from 1 sessions) ++ others) totals
+run_run P sessions more buckets quota long script logs lines others totals h shape tells outside =
+    one_run sessions more buckets quota long script logs (flat_map lines (numbers_from 1 sessions) ++ others) totals h
+    (λ j is. subst (λ ls. Tells buckets (λ r line. ⊤) [] None (of_session j script.records) ls (logs j)) (sym (mine j is.first is.last))
     (told_alone buckets P [] None (of_session j script.records) (lines j) (logs j) (tells j)))
   where
     own : (k : ℕ) → Each (λ (line : Line). line.session ≡ k) (lines k)
     own k = are_of k (of_session k script.records) (lines k) (of_session_is k script.records) (shape k)
 
-    mine : (j : ℕ) → 0 < j → lines_of j (flat_map lines (numbers_from 1 last) ++ others) ≡ lines j
-    mine j some = of_both j (flat_map lines (numbers_from 1 last)) others ∙
-        ((λ k. one_of lines own j 1 last (omega (arith, some)) (λ le. no_line (of_session j script.records) (lines j) (none_after j last script.records (omega (arith, le)) within) (shape j)) k
+    mine : (j : ℕ) → 0 < j → j ≤ sessions → lines_of j (flat_map lines (numbers_from 1 sessions) ++ others) ≡ lines j
+    mine j some last = of_both j (flat_map lines (numbers_from 1 sessions)) others ∙
+        ((λ k. one_of lines own j 1 sessions (omega (arith, some)) (λ le. absurd (omega (arith, le, last))) k
         ++ none_of j others (each_keeps (λ (line : Line). line.session ≡ 0) (λ (line : Line). line.session ≡ j → ⊥) (λ line is e. absurd (omega (arith, is, e, some))) others outside) k)
         ∙ append-nil (lines j))

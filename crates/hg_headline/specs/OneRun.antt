@@ -1,5 +1,5 @@
 -- One run of the state machine that prints a text: one list of steps, whose logs give the replies and whose journals give the reports.
-use Rattle.std.specs.Prelude.{◌≡◌, ◌⊎◌, ℕ, suc, ◌-◌, ◌<◌, ◌==◌, ◌&&◌, not, nat_le, Bool, true, Option, Some, None, List, [], ◌∷◌, ◌++◌, length, map, filter, filter_map, IsSome, ⊤}
+use Rattle.std.specs.Prelude.{◌≡◌, ◌⊎◌, ℕ, suc, ◌+◌, ◌-◌, ◌<◌, ◌==◌, ◌&&◌, not, nat_le, Bool, true, Option, Some, None, List, [], ◌∷◌, ◌++◌, length, map, filter, filter_map, IsSome, ⊤}
 use Rattle.hg_base.specs.declared.rid.Rid.{Rid}
 use Rattle.hg_base.specs.declared.report.Kind.{Kind}
 use Rattle.hg_base.specs.declared.report.Kind.TheVariants as kinds
@@ -28,6 +28,7 @@ use Rattle.hg_core.specs.Contents.{Content, bucket_of, look}
 use Rattle.hg_core.specs.Counters.{removed_all}
 use Rattle.hg_core.specs.Events.{masked_in, moved_in}
 use Rattle.hg_core.specs.Passes.{PassRecord, least_entering, horizon, recorded, group_bound, table_bound}
+use Rattle.hg_core.specs.Phases.{IsSession}
 use Rattle.hg_core.specs.Reading.{Tells}
 use Rattle.hg_core.specs.State.{CoreState, opened}
 use Rattle.hg_core.specs.Steps.{Step, Run, run, LeadsTo}
@@ -194,25 +195,26 @@ pub record AreTotalsAt (s : CoreState) (totals : Totals) : Type 0 where
   pub table : totals.table ≡ sum_below s.buckets (λ b. (s.counters b).removed.table)
   pub interval : totals.interval ≡ sum_below s.buckets (λ b. (s.counters b).removed.interval)
 
--- What is known at the end of a run: a list of steps leads there, each log is as these lines leave it but for what is rolled back then,
--- and the state has the lines' reports, and the totals.
-pub record HasEnded (sessions buckets quota long : ℕ) (script : Script) (logs : ℕ → List LogEntry) (lines : List Line) (totals : Totals) : Type 0 where
+-- What is known at the end of a run: a list of steps leads there, the log of each session is as these lines leave it but for what is rolled
+-- back then, and the state has the lines' reports, and the totals.
+pub record HasEnded (sessions more buckets quota long : ℕ) (script : Script) (logs : ℕ → List LogEntry) (lines : List Line) (totals : Totals) : Type 0 where
   pub state : CoreState
-  pub reached : LeadsTo (opened sessions (length script.tables) buckets 3 quota) state
-  pub closed : (j : ℕ) → Closes (logs j) (state.log j)
+  pub reached : LeadsTo (opened (more + sessions) (length script.tables) buckets 3 quota) state
+  pub closed : (j : ℕ) → IsSession sessions j → Closes (logs j) (state.log j)
   pub reported : (kind : Kind) → HasReported kind long state (reports_in kind lines)
   pub counted : AreTotalsAt state totals
 
 -- One list of steps of sessions, committers and collectors, each of which may happen in its turn, printed these lines and these totals.
-pub record IsOneRun (sessions buckets quota long : ℕ) (script : Script) (lines : List Line) (totals : Totals) : Type 0 where
+-- Besides the sessions of the script there are so many more that print no line: a dump has one, which reads.
+pub record IsOneRun (sessions more buckets quota long : ℕ) (script : Script) (lines : List Line) (totals : Totals) : Type 0 where
   pub steps : List Step
-  pub may : Run (opened sessions (length script.tables) buckets 3 quota) steps
+  pub may : Run (opened (more + sessions) (length script.tables) buckets 3 quota) steps
   -- the log of each session as its lines leave it
   pub logs : ℕ → List LogEntry
   -- each session's lines are the replies that its log gives
-  pub told : (j : ℕ) → 0 < j → Tells buckets (λ r line. ⊤) [] None (of_session j script.records) (lines_of j lines) (logs j)
+  pub told : (j : ℕ) → IsSession sessions j → Tells buckets (λ r line. ⊤) [] None (of_session j script.records) (lines_of j lines) (logs j)
   -- and what is open then is rolled back without a line
-  pub closed : (j : ℕ) → Closes (logs j) ((run (opened sessions (length script.tables) buckets 3 quota) steps).log j)
+  pub closed : (j : ℕ) → IsSession sessions j → Closes (logs j) ((run (opened (more + sessions) (length script.tables) buckets 3 quota) steps).log j)
   -- the reports of each kind are those of the rounds of its collector's pass
-  pub reported : (kind : Kind) → HasReported kind long (run (opened sessions (length script.tables) buckets 3 quota) steps) (reports_in kind lines)
-  pub counted : AreTotalsAt (run (opened sessions (length script.tables) buckets 3 quota) steps) totals
+  pub reported : (kind : Kind) → HasReported kind long (run (opened (more + sessions) (length script.tables) buckets 3 quota) steps) (reports_in kind lines)
+  pub counted : AreTotalsAt (run (opened (more + sessions) (length script.tables) buckets 3 quota) steps) totals

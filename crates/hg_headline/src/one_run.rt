@@ -20,23 +20,22 @@ ghost use Rattle.hg_headline.specs.Totalled.{TotalsTell};
 /// logs record by record (`replay`). In threads each session's lines are the replies of its log, and other lines are of session 0
 /// (`run`). And totals that logs and visits of a state tell are those of its counters (`totals`).
 pub fn one_run_is_printed()
-    ensures replay { (sessions buckets quota long : ℕ) (script : Script) (logs : ℕ → List LogEntry)
+    ensures replay { (sessions more buckets quota long : ℕ) (script : Script) (logs : ℕ → List LogEntry)
         (lines : List Line) (totals : Totals) →
-        HasEnded sessions buckets quota long script logs lines totals →
+        HasEnded sessions more buckets quota long script logs lines totals →
         HasShape script.records lines →
         Follows buckets (λ logs r line. ⊤) (λ j. []) (λ j. None) script.records lines logs →
-        IsOneRun sessions buckets quota long script lines totals }
-    ensures run { (sessions buckets quota long last : ℕ)
+        IsOneRun sessions more buckets quota long script lines totals }
+    ensures run { (sessions more buckets quota long : ℕ)
         (script : Script) (logs : ℕ → List LogEntry) (lines : ℕ → List Line) (others : List Line)
         (totals : Totals) →
-        let all = flat_map lines (numbers_from 1 last) ++ others in
-        HasEnded sessions buckets quota long script logs all totals →
-        Each (λ (r : Record). r.session ≤ last) script.records →
+        let all = flat_map lines (numbers_from 1 sessions) ++ others in
+        HasEnded sessions more buckets quota long script logs all totals →
         ((j : ℕ) → HasShape (of_session j script.records) (lines j)) →
         ((j : ℕ) → Tells buckets (λ r line. LeavesGc r.statement line.reply.answer) [] None
         (of_session j script.records) (lines j) (logs j)) →
         Each (λ (line : Line). line.session ≡ 0) others →
-        IsOneRun sessions buckets quota long script all totals }
+        IsOneRun sessions more buckets quota long script all totals }
     ensures totals { Always (λ s. (totals : Totals) → 0 < s.buckets →
         TotalsTell s.sessions s.buckets s.passes s.log s.visits s.history totals →
         AreTotalsAt s totals) }
