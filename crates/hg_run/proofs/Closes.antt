@@ -17,7 +17,7 @@ use Rattle.hg_rule.specs.declared.view.View.{View}
 use Rattle.hg_rule.specs.declared.view.Sizes.{Sizes}
 use Rattle.hg_rule.specs.declared.view.Sight.{Sight}
 use Rattle.hg_rule.specs.declared.view.Sight.TheVariants.{Saw}
-use Rattle.hg_rule.specs.Facts.{IsAmong, StartsWith, groups}
+use Rattle.hg_rule.specs.Facts.{IsAmong, StartsWith, groups, new_pass}
 use Rattle.hg_rule.specs.declared.passes.CollectorPass.{CollectorPass}
 use Rattle.hg_rule.specs.New.{EachFrom, IsNewPass}
 use Rattle.hg_rule.specs.Seats.{BoardId, pass_view}
@@ -101,6 +101,10 @@ new_removed e passes k h =
   where
     none : (t : BoardId) (p : ℕ) (c : CollectorPass) → IsNewPass t p c → removed_all k (pass (pass_view c)).visits ≡ 0
     none t p c n = ap (λ m. removed_all k (pass_there (first_in m.0.parts)).visits) n.1
+
+-- and their parts are new
+pub new_part_of : (t : BoardId) (p : ℕ) (c : CollectorPass) → IsNewPass t p c → pass (pass_view c) ≡ new_pass
+new_part_of t p c n = ap (λ m. pass_there (first_in m.0.parts)) n.1
 
 -- ---- rolling back
 

@@ -37,6 +37,7 @@ mod Final
 mod Begun
 mod Closes
 mod Brought
+mod StepsEnd
 mod Opened
 mod Dumps
 mod Readers
@@ -47,6 +48,8 @@ mod Hiring
 mod Exactly
 -- What is printed of a run, and of one that is read.
 mod WholeRun
+mod ToldRounds
+mod OneRun
 mod Closing
 mod WholeDump
 mod Dumped

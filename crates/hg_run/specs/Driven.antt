@@ -14,7 +14,9 @@ use Rattle.hg_base.specs.Transcript.{of_session}
 use Rattle.hg_core.specs.declared.log.LogEntry.{LogEntry}
 use Rattle.hg_core.specs.Reading.{Follows}
 use Rattle.hg_rule.specs.declared.view.Sizes.{Sizes}
+use Rattle.hg_rule.specs.Facts.{new_pass}
 use Rattle.hg_rule.specs.New.{EachFrom}
+use Rattle.hg_rule.specs.Views.{pass}
 use Rattle.hg_headline.specs.Counted.{Closes}
 use Rattle.hg_session.specs.declared.engine.Engine.{Engine}
 use Rattle.hg_session.specs.declared.session.Session.{Session}
@@ -53,6 +55,7 @@ pub record IsOpenedWith (sessions : ℕ) (script : Script) (buckets : ℕ) (e : 
   pub new : EachFrom (IsNewOf e (engine_sizes e).quota) 1 list
   pub collectors_are : AreCollectors e collectors
   pub none : (kind : Kind) → removed_of kind collectors ≡ 0
+  pub fresh : (kind : Kind) → pass (view_in kind collectors) ≡ new_pass
 
 -- an engine for the tables and the sessions of a script
 abbrev pub IsOpenedFor : Script → ℕ → Engine → List Session → Collectors → Type 0

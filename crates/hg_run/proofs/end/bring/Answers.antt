@@ -1,8 +1,9 @@
 use Rattle.std.proofs.Common.{◌∙◌, sym, ap, subst}
 use Rattle.hg_rule.specs.declared.passes.CollectorPass.{CollectorPass}
 use Rattle.hg_rule.specs.Seats.{pass_view}
+use Rattle.hg_rule.specs.Views.{pass}
 use Rattle.hg_session.specs.Finished.{AreAmong, AreDone, HaveGone}
-use Rattle.hg_session.specs.Passing.{AreAlone, passes_with, visits_of}
+use Rattle.hg_session.specs.Passing.{AreAlone, passes_with, journals_of, visits_of}
 use Rattle.hg_collectors.specs.Collecting.{view_in}
 use Rattle.hg_collectors.proofs.Among.{by_kind}
 use Rattle.hg_run.proofs.Alone.{all_alone}
@@ -26,6 +27,8 @@ returns-clause-brought c =
         three = h.count;
         none = h.none;
         visits = h.visits ∙ (λ i. visits_of (passes_with (c.into_pass.ensures i) (c.lend.ensures.pass i) (c.into_pass-2.ensures i)));
+        journals = h.journals ∙ (λ i. journals_of (passes_with (c.into_pass.ensures i) (c.lend.ensures.pass i) (c.into_pass-2.ensures i)));
+        stays = (h.stays.0, h.stays.1 ∙ ap (λ (p : CollectorPass). pass (pass_view p)) c.lend.ensures.pass);
         seen = by_kind (λ kind. AreAmong (view_in kind c.args.collectors).sights u.sights)
             (subst (λ (p : CollectorPass). AreAmong (pass_view p).sights u.sights) c.into_pass.ensures h.seen.0)
             (subst (λ (p : CollectorPass). AreAmong (pass_view p).sights u.sights) c.lend.ensures.pass h.seen.1)

@@ -7,7 +7,7 @@ use Rattle.hg_rule.specs.Reading.{passes_in}
 use Rattle.hg_rule.specs.Rules.{IsBacked}
 use Rattle.hg_rule.specs.Seats.{pass_view, sizes_of}
 use Rattle.hg_rule.specs.Views.{number, pass, others, HasPass}
-use Rattle.hg_rounds.specs.TableCollectors.{view_of}
+use Rattle.hg_rounds.specs.TableCollectors.{report_in, view_of}
 use Rattle.hg_headline.specs.Following.{AreTotalsBy}
 use Rattle.hg_headline.specs.Logged.{Logged}
 use Rattle.hg_headline.specs.Totalled.{WasLeftCut}
@@ -26,6 +26,7 @@ use Rattle.hg_run.proofs.Begun.{began}
 use Rattle.hg_run.proofs.Brought.{brought_come, there_ended, there_logs, there_three, there_visits}
 use Rattle.hg_run.proofs.Closes.{closed_totals, among_each, seen_within, some_in}
 use Rattle.hg_run.proofs.Hearing.{seen_among}
+use Rattle.hg_run.proofs.StepsEnd.{ends_with}
 use Rattle.hg_run.proofs.end.count.Goals as goal
 
 pub settle-requires-clause-ended : goal.settle-requires-clause-ended
@@ -66,5 +67,6 @@ returns g c list collectors all =
           began backed.state (logs_of list) (view_in kind collectors).events
           ((λ i j. logs_shown z c.look_at.result x backed ended (number x) (pass x) (others x) has j i) ∙ shown)
           ((brought_come e list collectors x there.brought kind).did backed.state backed.true_of);
+      run = ends_with e list collectors x v (report_in c.settle.new.collector) there has c.settle.ensures.others c.settle.ensures.round c.totals.result a;
       counted = subst (λ l. AreTotalsBy z.sessions a.history l (λ kind. removed_of kind collectors) c.totals.result) logs counted;
     }

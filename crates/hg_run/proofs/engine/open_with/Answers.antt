@@ -44,6 +44,7 @@ returns-clause-opened c =
       new = is.new;
       collectors_are = is.collectors_are;
       none = is.none;
+      fresh = is.fresh;
     }) c.open.ensures.opened
 
 pub returns-clause-helpers : goal.returns-clause-helpers
