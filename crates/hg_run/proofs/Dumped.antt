@@ -10,7 +10,7 @@ use Rattle.hg_base.specs.declared.fault.NoMemory.{NoMemory}
 use Rattle.hg_base.specs.declared.line.Line.{Line}
 use Rattle.hg_base.specs.declared.line.Totals.{Totals}
 use Rattle.hg_base.specs.declared.scope.Scope.TheVariants.{All}
-use Rattle.hg_base.specs.Script.{Mode, Script}
+use Rattle.hg_base.specs.Script.{Script}
 use Rattle.hg_base.specs.Text.{IsFit, text_of}
 use Rattle.hg_records.specs.Bytes.{record_bytes}
 use Rattle.hg_core.specs.declared.log.LogEntry.{LogEntry}
@@ -39,6 +39,7 @@ use Rattle.hg_store.proofs.Filling.{each_from_at}
 use Rattle.hg_collectors.specs.declared.collectors.Collectors.{Collectors}
 use Rattle.hg_run.specs.declared.dump_text.Dumps.{Dumps}
 use Rattle.hg_run.specs.Dumping.{HasReadBoth, IsDumpedFor, dump_at, part_text, printed_history}
+use Rattle.hg_run.specs.Words.{Settings}
 use Rattle.hg_run.specs.Reader.{HasDumped, IsOpenedBeside, IsReadAndClosed, list_with}
 use Rattle.hg_run.proofs.Readers.{began_within, log_in, looks_begans}
 use Rattle.hg_run.proofs.Opened.{log_last}
@@ -134,25 +135,26 @@ module _ (alloc : Global) (e : Engine) (script : Script) (list : List Session) (
 -- ---- the text
 
 -- each row of the printed history was put, so its dump at any snapshot is a backup
-backed_up : (mode : Mode) (script : Script) (lines : List Line) → IsLawful script → (at : ℕ) →
-    IsBackup script (printed_history mode script lines) at (dump_at script (printed_history mode script lines) at)
-backed_up mode script lines lawful at = backup script (printed_history mode script lines) at lawful (λ r row shown. shown_was_put mode script lines r at row shown)
+backed_up : (settings : Settings) (script : Script) (lines : List Line) → IsLawful script → (at : ℕ) →
+    IsBackup script (printed_history settings script lines) at (dump_at script (printed_history settings script lines) at)
+backed_up settings script lines lawful at = backup script (printed_history settings script lines) at lawful (λ r row shown. shown_was_put settings.mode script lines r at row shown)
 
-pub on_text : (mode : Mode) (script : Script) (lines : List Line) (totals : Totals) (dumps : Dumps) {T : Type 0} (r : Result T NoMemory) (items : T → List ℕ) → IsLawful script →
-    HasReadBoth mode script lines totals dumps
+pub on_text : (settings : Settings) (script : Script) (lines : List Line) (totals : Totals) (dumps : Dumps) {T : Type 0} (r : Result T NoMemory) (items : T → List ℕ) → IsLawful script →
+    HasReadBoth settings script lines totals dumps
     → IsFit script (record { lines = lines; totals = totals })
     → IfOk r (λ text. items text ≡ text_of record_bytes script (record { lines = lines; totals = totals }) ++ (part_text dumps.at dumps.first.items ++ part_text dumps.end dumps.last.items))
-    → IfOk r (λ text. IsDumpedFor mode script (items text))
-on_text mode script lines totals dumps (Err x) items lawful read fit told = tt
-on_text mode script lines totals dumps (Ok text) items lawful read fit told = record {
+    → IfOk r (λ text. IsDumpedFor settings script (items text))
+on_text settings script lines totals dumps (Err x) items lawful read fit told = tt
+on_text settings script lines totals dumps (Ok text) items lawful read fit told = record {
   printed = record { lines = lines; totals = totals };
   at = dumps.at;
   sound = read.sound;
   fit = fit;
   within = read.within;
+  rounds = read.rounds;
   same = told ∙ (λ i. text_of record_bytes script (record { lines = lines; totals = totals })
       ++ (part_text dumps.at (read.first i) ++ (ap (part_text dumps.end) read.last ∙
-      ap (λ n. part_text n (dump_text script (rows_at script.tables (printed_history mode script lines) n))) read.end_is) i));
-  first = backed_up mode script lines lawful dumps.at;
-  last = backed_up mode script lines lawful (length (printed_history mode script lines));
+      ap (λ n. part_text n (dump_text script (rows_at script.tables (printed_history settings script lines) n))) read.end_is) i));
+  first = backed_up settings script lines lawful dumps.at;
+  last = backed_up settings script lines lawful (length (printed_history settings script lines));
 }

@@ -56,7 +56,7 @@ pub exact : (words : List (List ℕ)) (source : Change Inflow) (sink : Change Ou
 exact words source sink status comes done = let all = sound words source sink status comes done in record { options = all.options; asked = all.asked; holds = go (task_of all.options) all.holds }
   where
     go : (task : Task) → WritesAll task source sink → WritesExactly task source sink
-    go (reads mode) w = λ is.
+    go (reads settings) w = λ is.
         let p = w.answers.text_for.printed in
         record {
           script = script_of (rows_of w.answers.bytes);
@@ -66,7 +66,7 @@ exact words source sink status comes done = let all = sound words source sink st
           exact = subst (λ m. AreExact m (script_of (rows_of w.answers.bytes)) p.printed.lines) is p.exact;
           taken = subst (Took sink) p.same w.taken;
         }
-    go (makes seed) w = record {
+    go (makes seed settings) w = record {
       script = w.answers.script;
       is = w.answers.made;
       printed = w.answers.printed;
@@ -75,7 +75,7 @@ exact words source sink status comes done = let all = sound words source sink st
       taken = subst (Took sink) w.answers.same w.taken;
     }
     go audits w = tt
-    go (dumps mode) w = tt
+    go (dumps settings) w = tt
 
 -- words that are refused ask for nothing
 pub usage : (words : List (List ℕ)) (source : Change Inflow) (sink : Change Outflow) (status : Status) → Comes words source sink status → status ≡ Usage → options_of words ≡ None
@@ -94,10 +94,10 @@ not_both : (words : List (List ℕ)) → AsksFor words IsReading → AsksFor wor
 not_both words reading making = clash (task_of making.options) (subst IsReading (same_task words IsReading IsMaking reading making) reading.holds) making.holds
   where
     clash : (task : Task) → IsReading task → IsMaking task → ⊥
-    clash (reads mode) r m = m
-    clash (makes seed) r m = r
+    clash (reads settings) r m = m
+    clash (makes seed settings) r m = r
     clash audits r m = m
-    clash (dumps mode) r m = m
+    clash (dumps settings) r m = m
 
 -- words that ask for something are not refused
 not_usage : (words : List (List ℕ)) (P : Task → Type 0) → AsksFor words P → options_of words ≡ None → ⊥
@@ -109,10 +109,10 @@ same_asked words P Q a b = subst P (same_task words P Q a b) a.holds
 
 -- a script that is made is not in the source
 refuses_read : (task : Task) (source : Change Inflow) (line : ℕ) (code : Code) → Refuses task source line code → IsReading task
-refuses_read (reads mode) source line code r = tt
-refuses_read (makes seed) source line code r = r.refused.within
+refuses_read (reads settings) source line code r = tt
+refuses_read (makes seed settings) source line code r = r.refused.within
 refuses_read audits source line code r = tt
-refuses_read (dumps mode) source line code r = tt
+refuses_read (dumps settings) source line code r = tt
 
 -- a script that is made wants no source
 pub loaded : (words : List (List ℕ)) (source : Change Inflow) (sink : Change Outflow) (status : Status) → Comes words source sink status → AsksFor words IsMaking → (WriteFailed sink → ⊥) → IsUnlessNoMemory status Done
@@ -134,10 +134,10 @@ loaded words source sink status comes making steady = go status comes
 -- ---- the script in the source is one
 
 one_within : (task : Task) (bytes s t : List ℕ) → IsScriptIn task bytes s → IsScriptIn task bytes t → s ≡ t
-one_within (reads mode) bytes s t a b = a ∙ sym b
-one_within (makes seed) bytes s t a b = absurd a
+one_within (reads settings) bytes s t a b = a ∙ sym b
+one_within (makes seed settings) bytes s t a b = absurd a
 one_within audits bytes s t a b = one_script bytes s a.0 t b.0 a.1 b.1
-one_within (dumps mode) bytes s t a b = a ∙ sym b
+one_within (dumps settings) bytes s t a b = a ∙ sym b
 
 -- what is answered of the source is answered of its bytes
 module _ (source : Change Inflow) (bytes : List ℕ) (gives : Gives source bytes) where
@@ -150,9 +150,9 @@ module _ (source : Change Inflow) (bytes : List ℕ) (gives : Gives source bytes
 
   -- where there is an answer, the script is valid
   valid_in : (task : Task) (script text : List ℕ) → IsScriptIn task bytes script → Answers task source text → refusal_of (rows_of script) ≡ None
-  valid_in (reads mode) script text within answers = ap (λ (s : List ℕ). refusal_of (rows_of s)) (within ∙ reads_all source bytes answers.bytes gives answers.all) ∙ answers.text_for.valid
-  valid_in (dumps mode) script text within answers = ap (λ (s : List ℕ). refusal_of (rows_of s)) (within ∙ reads_all source bytes answers.bytes gives answers.all) ∙ answers.text_for.valid
-  valid_in (makes seed) script text within answers = absurd within
+  valid_in (reads settings) script text within answers = ap (λ (s : List ℕ). refusal_of (rows_of s)) (within ∙ reads_all source bytes answers.bytes gives answers.all) ∙ answers.text_for.valid
+  valid_in (dumps settings) script text within answers = ap (λ (s : List ℕ). refusal_of (rows_of s)) (within ∙ reads_all source bytes answers.bytes gives answers.all) ∙ answers.text_for.valid
+  valid_in (makes seed settings) script text within answers = absurd within
   valid_in audits script text within answers =
       let judged = answers.text_for.on in
       let parts = subst (λ (b : List ℕ). AreParts b judged.script judged.text) (sym (reads_all source bytes answers.bytes gives answers.all)) judged.parts in
@@ -160,10 +160,10 @@ module _ (source : Change Inflow) (bytes : List ℕ) (gives : Gives source bytes
 
   -- and the source has no more than a script may have
   short_in : (task : Task) (text : List ℕ) → IsReading task → Answers task source text → length bytes ≤ MOST_SCRIPT_BYTES
-  short_in (reads mode) text reading answers = rw (reads_all source bytes answers.bytes gives answers.all) answers.all.short
-  short_in (makes seed) text reading answers = absurd reading
+  short_in (reads settings) text reading answers = rw (reads_all source bytes answers.bytes gives answers.all) answers.all.short
+  short_in (makes seed settings) text reading answers = absurd reading
   short_in audits text reading answers = rw (reads_all source bytes answers.bytes gives answers.all) answers.all.short
-  short_in (dumps mode) text reading answers = rw (reads_all source bytes answers.bytes gives answers.all) answers.all.short
+  short_in (dumps settings) text reading answers = rw (reads_all source bytes answers.bytes gives answers.all) answers.all.short
 
 module _ (words : List (List ℕ)) (source : Change Inflow) (sink : Change Outflow) (bytes : List ℕ) where
   -- a source with too many bytes is read no further

@@ -1,5 +1,5 @@
 -- What a run next to a reader printed and read, where both dumps were empty before.
-use Rattle.std.proofs.Common.{◌≡◌, ◌≤◌, ℕ, List, [], ◌∷◌, ◌++◌, length, suc, sym, ap, ◌∙◌, subst}
+use Rattle.std.proofs.Common.{◌≡◌, ◌≤◌, ℕ, ◌+◌, List, [], ◌∷◌, ◌++◌, length, suc, sym, ap, ◌∙◌, subst, arith}
 use Rattle.std.specs.declared.alloc.Global.{Global}
 use Rattle.hg_dump.proofs.Holding.{within_alone}
 use Rattle.hg_base.specs.declared.line.Line.{Line}
@@ -20,11 +20,14 @@ use Rattle.hg_session.specs.Opened.{seated}
 use Rattle.hg_dump.specs.Records.{dump_text}
 use Rattle.hg_dump.specs.Rows.{rows_at}
 use Rattle.hg_collectors.specs.declared.collectors.Collectors.{Collectors}
-use Rattle.hg_run.specs.Reader.{IsOpenedBeside}
+use Rattle.hg_headline.specs.OneRun.{IsOneRun}
+use Rattle.hg_run.specs.Driven.{sessions_in}
+use Rattle.hg_run.specs.Reader.{IsOpenedBeside, list_with}
 use Rattle.hg_run.proofs.Closes.{new_logs}
 use Rattle.hg_run.proofs.Readers.{read_is_closed}
 use Rattle.hg_run.specs.declared.dump_text.Dumps.{Dumps}
 use Rattle.hg_run.specs.Dumping.{HasReadBoth, HasRunAndRead}
+use Rattle.hg_run.proofs.OneRun.{read_logs, run_one_run}
 use Rattle.hg_run.proofs.Dumped.{all_read, first_text, last_closed, last_text, no_log, read_once, read_twice}
 use Rattle.hg_run.proofs.WholeDump.{groups_printed, rows_printed, sound_with_reader}
 
@@ -42,7 +45,7 @@ module _ (buckets long rounds : ℕ) (script : Script) (lawful : IsLawful script
   numbered : Each (λ (r : Record). 1 ≤ r.session) script.records
   numbered = each_keeps (IsStatement script.tables) (λ (r : Record). 1 ≤ r.session) (λ r s. s.some) script.records lawful.statements
 
-  pub has_read_both : HasReadBoth (run rounds) script lines totals dumps
+  pub has_read_both : HasReadBoth (record { mode = run rounds; buckets = buckets; long = long }) script lines totals dumps
   has_read_both =
       let at : ℕ = dumps.at in
       let n : ℕ = dumps.end in
@@ -55,6 +58,7 @@ module _ (buckets long rounds : ℕ) (script : Script) (lawful : IsLawful script
       let once = read_once at pass first (no_log script buckets e list before pass o) h.dumped.read in
       let twice = read_twice at n first last once read.dumped.read in
       let none = new_logs e (engine_sizes e).quota list o.new in
+      let sizes : (engine_sizes e).sessions ≡ 1 + sessions_in script = (let s : (engine_sizes e).sessions ≡ suc (sessions_in script) = o.opened.sessions_are in omega (arith, s)) in
       let sound = sound_with_reader e long rounds script list new before after lines totals alloc first last at n d read.closed read.began once twice none o.opened.none
       numbered o.more o.many h.many in
       let rows = rows_printed e long rounds script list new before after lines totals alloc first last at n d read.closed read.began once twice none o.opened.none numbered o.more o.many
@@ -68,6 +72,12 @@ module _ (buckets long rounds : ℕ) (script : Script) (lawful : IsLawful script
       record {
         sound = sound;
         within = (within_alone rounds script (at ∷ []) printed sound).0;
+        one_run = record {
+          quota = (engine_sizes e).quota;
+          run = subst (λ b. IsOneRun (sessions_in script) 1 b (engine_sizes e).quota long script lines totals) o.opened.buckets_are
+              (run_one_run 1 long rounds script e before after list new (list_with alloc new last) lines totals sizes o.many o.opened.tables none o.opened.fresh d read.closed.run
+              (λ j is. read_logs alloc new last j (let le = is.last in let m = h.many in let n = o.many in omega (arith, le, m, n))));
+        };
         first = one ∙ ap (λ (l : List ℕ). l ++ dump_text script (rows_at script.tables read.closed.history at)) empty.0 ∙ ap (dump_text script) (rows at);
         end_is = all_read alloc e script new after first was.last.items dumps.last.items totals n read closed ∙ groups;
         last = two ∙ ap (λ (l : List ℕ). l ++ dump_text script (rows_at script.tables read.closed.history n)) empty.1 ∙ ap (dump_text script) (rows n);

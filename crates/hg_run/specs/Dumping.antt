@@ -7,7 +7,7 @@ use Rattle.hg_base.specs.declared.line.Line.{Line}
 use Rattle.hg_base.specs.declared.line.Printed.{Printed}
 use Rattle.hg_base.specs.declared.line.Totals.{Totals}
 use Rattle.hg_base.specs.History.{History}
-use Rattle.hg_base.specs.Script.{Mode, Script}
+use Rattle.hg_base.specs.Script.{Script}
 use Rattle.hg_base.specs.Sound.{all_said}
 use Rattle.hg_base.specs.Text.{IsFit, text_of}
 use Rattle.hg_base.specs.Transcript.{history_of}
@@ -23,11 +23,13 @@ use Rattle.hg_collectors.specs.declared.collectors.Collectors.{Collectors}
 use Rattle.hg_run.specs.Driven.{HasDrivenAll}
 use Rattle.hg_run.specs.Reader.{HasDumped, IsReadAndClosed}
 use Rattle.hg_run.specs.declared.dump_text.Dumps.{Dumps}
+use Rattle.hg_run.specs.Printing.{PrintsOneRun}
 use Rattle.hg_exact.specs.Modes.{rounds_beside}
+use Rattle.hg_run.specs.Words.{Settings}
 
 -- the history that lines print
-abbrev pub printed_history : Mode → Script → List Line → History
-printed_history mode script lines = history_of (all_said mode script lines)
+abbrev pub printed_history : Settings → Script → List Line → History
+printed_history settings script lines = history_of (all_said settings.mode script lines)
 
 -- a dump under the number of its snapshot
 abbrev pub part_text : ℕ → List ℕ → List ℕ
@@ -41,21 +43,22 @@ dump_at script h at = dump_text script (rows_at script.tables h at)
 abbrev pub dump_part : Script → History → ℕ → List ℕ
 dump_part script h at = part_text at (dump_at script h at)
 
--- A text that a dump may print in this mode: that of a printed value which is sound for the script concurrently with a reader of all tables
--- at a snapshot, and fits it. Then the dump of its history at that snapshot follows, and the dump of its history at its end. Both are
+-- A text that a dump may print under these settings: that of a printed value which is sound for the script concurrently with a reader of
+-- all tables at a snapshot, fits it, and is what one list of steps printed. Then the dump of its history at that snapshot follows, and the dump of its history at its end. Both are
 -- backups.
-pub record IsDumpedFor (mode : Mode) (script : Script) (text : List ℕ) : Type 0 where
+pub record IsDumpedFor (settings : Settings) (script : Script) (text : List ℕ) : Type 0 where
   pub printed : Printed
   pub at : ℕ
-  pub sound : IsSoundWith (rounds_beside mode) script (at ∷ []) printed
+  pub sound : IsSoundWith (rounds_beside settings.mode) script (at ∷ []) printed
   pub fit : IsFit script printed
-  pub within : at ≤ length (printed_history mode script printed.lines)
+  pub within : at ≤ length (printed_history settings script printed.lines)
+  pub one_run : PrintsOneRun 1 settings script printed.lines printed.totals
   pub same : text ≡ text_of record_bytes script printed
-      ++ (dump_part script (printed_history mode script printed.lines) at
-      ++ dump_part script (printed_history mode script printed.lines) (length (printed_history mode script printed.lines)))
-  pub first : IsBackup script (printed_history mode script printed.lines) at (dump_at script (printed_history mode script printed.lines) at)
-  pub last : IsBackup script (printed_history mode script printed.lines) (length (printed_history mode script printed.lines))
-      (dump_at script (printed_history mode script printed.lines) (length (printed_history mode script printed.lines)))
+      ++ (dump_part script (printed_history settings script printed.lines) at
+      ++ dump_part script (printed_history settings script printed.lines) (length (printed_history settings script printed.lines)))
+  pub first : IsBackup script (printed_history settings script printed.lines) at (dump_at script (printed_history settings script printed.lines) at)
+  pub last : IsBackup script (printed_history settings script printed.lines) (length (printed_history settings script printed.lines))
+      (dump_at script (printed_history settings script printed.lines) (length (printed_history settings script printed.lines)))
 
 -- A run next to a reader printed these lines of the sessions and the collectors that an engine had before. The reader appended a dump while
 -- they ran, and one more after they had ended, and the totals are those of what they and the reader left.
@@ -72,9 +75,10 @@ pub record HasRunAndRead (alloc : Global) (e : Engine) (long rounds : ℕ) (scri
 
 -- The lines and the totals of a run with a reader, and what it read: the first dump at a snapshot, and the last one at the end of the
 -- history that the lines print.
-pub record HasReadBoth (mode : Mode) (script : Script) (lines : List Line) (totals : Totals) (dumps : Dumps) : Type 0 where
-  pub sound : IsSoundWith (rounds_beside mode) script (dumps.at ∷ []) (record { lines = lines; totals = totals })
-  pub within : dumps.at ≤ length (printed_history mode script lines)
-  pub first : dumps.first.items ≡ dump_text script (rows_at script.tables (printed_history mode script lines) dumps.at)
-  pub end_is : dumps.end ≡ length (printed_history mode script lines)
-  pub last : dumps.last.items ≡ dump_text script (rows_at script.tables (printed_history mode script lines) dumps.end)
+pub record HasReadBoth (settings : Settings) (script : Script) (lines : List Line) (totals : Totals) (dumps : Dumps) : Type 0 where
+  pub sound : IsSoundWith (rounds_beside settings.mode) script (dumps.at ∷ []) (record { lines = lines; totals = totals })
+  pub within : dumps.at ≤ length (printed_history settings script lines)
+  pub one_run : PrintsOneRun 1 settings script lines totals
+  pub first : dumps.first.items ≡ dump_text script (rows_at script.tables (printed_history settings script lines) dumps.at)
+  pub end_is : dumps.end ≡ length (printed_history settings script lines)
+  pub last : dumps.last.items ≡ dump_text script (rows_at script.tables (printed_history settings script lines) dumps.end)

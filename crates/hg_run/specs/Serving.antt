@@ -3,7 +3,7 @@ use Rattle.std.specs.Prelude.{◌≡◌, ℕ, ◌<◌, ◌≤◌, ◌⊎◌, Lis
 use Rattle.std.specs.List.{flat_map}
 use Rattle.hg_base.specs.declared.limits.TheConstants.{MOST_SCRIPT_BYTES}
 use Rattle.hg_base.specs.declared.line.Printed.{Printed}
-use Rattle.hg_base.specs.Script.{Mode, Script, replay}
+use Rattle.hg_base.specs.Script.{Script, replay}
 use Rattle.hg_base.specs.Flows.{Inflow, Outflow}
 use Rattle.hg_base.specs.Sound.{IsSound}
 use Rattle.hg_base.specs.Text.{text_of, totals_records}
@@ -18,22 +18,22 @@ use Rattle.hg_seed.specs.Generator.{IsMade}
 use Rattle.hg_streams.specs.Parting.{AreParts}
 use Rattle.hg_streams.specs.Streams.{Change, FailsToRead, Gives, IsTooLong, ReadsAll, Took, WriteFailed}
 use Rattle.hg_words.specs.Options.{options_of}
-use Rattle.hg_run.specs.Words.{AsksFor, IsMaking, IsReading, Task, audits, dumps, makes, reads}
+use Rattle.hg_run.specs.Words.{AsksFor, IsMaking, IsReading, Settings, Task, audits, dumps, makes, reads}
 use Rattle.hg_run.specs.Dumping.{IsDumpedFor}
 use Rattle.hg_run.specs.Printing.{AreTotalsOf, IsPrintedFor}
 use Rattle.hg_run.specs.Judging.{IsJudgedBy}
 
 -- ---- what the bytes of a script mean
 
--- a text that the script which the bytes mean may print in this mode
-pub record IsTextFor (mode : Mode) (bytes text : List ℕ) : Type 0 where
+-- a text that the script which the bytes mean may print under these settings
+pub record IsTextFor (settings : Settings) (bytes text : List ℕ) : Type 0 where
   pub valid : refusal_of (rows_of bytes) ≡ None
-  pub printed : IsPrintedFor mode (script_of (rows_of bytes)) text
+  pub printed : IsPrintedFor settings (script_of (rows_of bytes)) text
 
 -- the same with dumps of its tables
-pub record IsDumpFor (mode : Mode) (bytes text : List ℕ) : Type 0 where
+pub record IsDumpFor (settings : Settings) (bytes text : List ℕ) : Type 0 where
   pub valid : refusal_of (rows_of bytes) ≡ None
-  pub dumped : IsDumpedFor mode (script_of (rows_of bytes)) text
+  pub dumped : IsDumpedFor settings (script_of (rows_of bytes)) text
 
 -- a text of which P holds with all the bytes of the source
 pub record AnswersSource (P : List ℕ → List ℕ → Type 0) (source : Change Inflow) (text : List ℕ) : Type 0 where
@@ -43,19 +43,19 @@ pub record AnswersSource (P : List ℕ → List ℕ → Type 0) (source : Change
 
 -- a text that does what is asked
 abbrev pub Answers : Task → Change Inflow → List ℕ → Type 0
-Answers (reads mode) source text = AnswersSource (IsTextFor mode) source text
-Answers (makes seed) source text = AreTotalsOf seed text
+Answers (reads settings) source text = AnswersSource (IsTextFor settings) source text
+Answers (makes seed settings) source text = AreTotalsOf seed settings text
 Answers audits source text = AnswersSource IsJudgedBy source text
-Answers (dumps mode) source text = AnswersSource (IsDumpFor mode) source text
+Answers (dumps settings) source text = AnswersSource (IsDumpFor settings) source text
 
 -- ---- what was done with them
 
 -- which of the bytes of a source are the script's: all of them, or those before the line that parts it; one that is made has none there
 abbrev pub IsScriptIn : Task → List ℕ → List ℕ → Type 0
-IsScriptIn (reads mode) bytes script = script ≡ bytes
-IsScriptIn (makes seed) bytes script = ⊥
+IsScriptIn (reads settings) bytes script = script ≡ bytes
+IsScriptIn (makes seed settings) bytes script = ⊥
 IsScriptIn audits bytes script = (text : List ℕ) × AreParts bytes script text
-IsScriptIn (dumps mode) bytes script = script ≡ bytes
+IsScriptIn (dumps settings) bytes script = script ≡ bytes
 
 -- the first record of the script that breaks a rule, and its first code
 pub record RefusesScript (task : Task) (bytes : List ℕ) (line : ℕ) (code : Code) : Type 0 where
@@ -94,10 +94,10 @@ pub record TakesExactly (P : Script → Type 0) (text : Script → Printed → L
 
 -- the same of a replay: that of the script in the source, or that of a seed's script, of which the totals are written
 abbrev pub WritesExactly : Task → Change Inflow → Change Outflow → Type 0
-WritesExactly (reads mode) source sink = mode ≡ replay → TakesExactly (IsReadFrom source) (text_of record_bytes) sink
-WritesExactly (makes seed) source sink = TakesExactly (IsMade seed) (λ script printed. flat_map record_bytes (totals_records printed.totals)) sink
+WritesExactly (reads settings) source sink = settings.mode ≡ replay → TakesExactly (IsReadFrom source) (text_of record_bytes) sink
+WritesExactly (makes seed settings) source sink = TakesExactly (IsMade seed) (λ script printed. flat_map record_bytes (totals_records printed.totals)) sink
 WritesExactly audits source sink = ⊤
-WritesExactly (dumps mode) source sink = ⊤
+WritesExactly (dumps settings) source sink = ⊤
 
 -- the sink failed, and took no more than a prefix of the text
 pub record WritesPart (task : Task) (source : Change Inflow) (sink : Change Outflow) : Type 0 where
@@ -158,5 +158,5 @@ RefusesSource task source _ = ⊥
 
 -- why what is asked has no text: a script that is made wants memory alone
 abbrev pub RefusesTask : Task → Change Inflow → Status → Type 0
-RefusesTask (makes seed) source status = status ≡ NoMemory
+RefusesTask (makes seed settings) source status = status ≡ NoMemory
 RefusesTask task source status = RefusesSource task source status

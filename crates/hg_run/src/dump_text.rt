@@ -15,6 +15,7 @@ ghost use Rattle.hg_words.specs.Options.{AreWithin};
 ghost use Rattle.hg_run.specs.Driven.{MayDrive};
 ghost use Rattle.hg_run.specs.Reader.{IsOpenedBeside, alloc_in, engine_in, script_in};
 ghost use Rattle.hg_run.specs.Dumping.{HasReadBoth, HasRunAndRead, IsDumpedFor, part_text};
+ghost use Rattle.hg_run.specs.Words.{settings_in};
 
 use crate::crew::Crew;
 use crate::dump::dump_on;
@@ -116,7 +117,7 @@ fn run_and_read<'a, R: Threads + Wait + Sync, G: Gate + Sync>(
     requires within { AreWithin options.now }
     requires empty { (dumps.old.first.items ≡ []) × (dumps.old.last.items ≡ []) }
     ensures read { IfOk result (λ o.
-        HasReadBoth (run options.now.rounds) script.now
+        HasReadBoth (settings_in (run options.now.rounds) options.now) script.now
         o.transcript.lines o.totals dumps.new) }
     ensures tables { IfOk result (λ o. o.transcript.tables ≡ script.now.tables) }
 {
@@ -162,7 +163,7 @@ pub(crate) fn dump_all<R: Threads + Wait + Sync, G: Gate + Sync>(
     requires lawful { IsLawful script.now }
     requires within { AreWithin options.now }
     ensures { IfOk result (λ text.
-        IsDumpedFor (run options.now.rounds) script.now text.items) }
+        IsDumpedFor (settings_in (run options.now.rounds) options.now) script.now text.items) }
 {
     let records = script.record_count() as u64;
     let pace = Pace::new(alloc, script.sessions(), records, options.rounds, gate)?;

@@ -2,7 +2,7 @@
 
 ghost use Rattle.std.specs.Prelude.{◌≡◌, ◌<◌, ◌^◌, ℕ, List, map};
 ghost use Rattle.hg_base.specs.declared.line.Printed.{Printed};
-ghost use Rattle.hg_base.specs.Script.{Mode, Script, replay};
+ghost use Rattle.hg_base.specs.Script.{Script, replay};
 ghost use Rattle.hg_base.specs.Text.{IsFit};
 ghost use Rattle.hg_exact.specs.Replayed.{plain};
 ghost use Rattle.hg_script.specs.Lawful.{IsLawful};
@@ -10,6 +10,7 @@ ghost use Rattle.hg_report.specs.Readable.{IsTextOf};
 ghost use Rattle.hg_dump.specs.Reader.{IsSoundWith};
 ghost use Rattle.hg_run.specs.Printing.{AreTotalsOf, IsPrintedFor};
 ghost use Rattle.hg_run.specs.Serving.{IsTextFor};
+ghost use Rattle.hg_run.specs.Words.{Settings};
 
 /// What is sound for a script with a session that reads all tables at some snapshots also fits it (`what_is_sound_fits`).
 pub fn what_is_sound_with_a_reader_fits()
@@ -18,25 +19,27 @@ pub fn what_is_sound_with_a_reader_fits()
         IsFit script printed }
 {}
 
-/// The bytes of a text determine what was printed, in whichever mode: whatever fits the script and has these bytes is the value that was
-/// printed. So the bytes of a script and those that a sink took for it leave no choice.
+/// The bytes of a text determine what was printed, under whichever settings: whatever fits the script and has these bytes is
+/// the value that was printed. So the bytes of a script and those that a sink took for it leave no choice.
 pub fn text_determines_what_was_printed()
-    ensures only { (mode : Mode) (script : Script) (text : List ℕ) (other : Printed) →
-        IsLawful script → (p : IsPrintedFor mode script text) → IsTextOf script text other →
+    ensures only { (settings : Settings) (script : Script) (text : List ℕ) (other : Printed) →
+        IsLawful script → (p : IsPrintedFor settings script text) → IsTextOf script text other →
         other ≡ p.printed }
-    ensures served { (mode other : Mode) (bytes text : List ℕ) →
-        (a : IsTextFor mode bytes text) → (b : IsTextFor other bytes text) →
+    ensures served { (settings other : Settings) (bytes text : List ℕ) →
+        (a : IsTextFor settings bytes text) → (b : IsTextFor other bytes text) →
         a.printed.printed ≡ b.printed.printed }
 {}
 
-/// Two replays of one script print the same, with whatever options: all lines but for what their reports say was removed and moved, and of
-/// the totals `made`, `undone` and `left`.
+/// Two replays of one script print the same, whatever the settings: all lines but for what their reports say was removed and moved, and
+/// of the totals `made`, `undone` and `left`.
 pub fn replays_print_the_same()
-    ensures lines { (script : Script) (text other : List ℕ) →
-        (p : IsPrintedFor replay script text) → (q : IsPrintedFor replay script other) →
+    ensures lines { (a b : Settings) (script : Script) (text other : List ℕ) →
+        a.mode ≡ replay → b.mode ≡ replay →
+        (p : IsPrintedFor a script text) → (q : IsPrintedFor b script other) →
         map plain p.printed.lines ≡ map plain q.printed.lines }
-    ensures totals { (script : Script) (text other : List ℕ) →
-        (p : IsPrintedFor replay script text) → (q : IsPrintedFor replay script other) →
+    ensures totals { (a b : Settings) (script : Script) (text other : List ℕ) →
+        a.mode ≡ replay → b.mode ≡ replay →
+        (p : IsPrintedFor a script text) → (q : IsPrintedFor b script other) →
         (p.printed.totals.made ≡ q.printed.totals.made) ×
         (p.printed.totals.undone ≡ q.printed.totals.undone) ×
         (p.printed.totals.left ≡ q.printed.totals.left) }

@@ -8,6 +8,7 @@ ghost use Rattle.hg_records.specs.Bytes.{record_bytes};
 ghost use Rattle.hg_script.specs.Lawful.{IsLawful};
 ghost use Rattle.hg_words.specs.Options.{AreWithin};
 ghost use Rattle.hg_run.specs.Printing.{AreTotalsOf, HasTotals, HasTotalsBy};
+ghost use Rattle.hg_run.specs.Words.{settings_in};
 
 use crate::replay_text::replay_lines;
 use hg_base::{NoMemory, Totals};
@@ -28,7 +29,7 @@ fn totals_of_script<R: Threads + Wait + Sync>(
 ) -> Result<Totals, NoMemory>
     requires lawful { IsLawful script.now }
     requires within { AreWithin options.now }
-    ensures { IfOk result (HasTotals script.now) }
+    ensures { IfOk result (HasTotals (settings_in replay options.now) script.now) }
 {
     let ended = replay_lines(rt, alloc, script, options)?;
     Ok(ended.totals)
@@ -42,7 +43,7 @@ fn totals_of<R: Threads + Wait + Sync>(
     options: &Options,
 ) -> Result<Totals, NoMemory>
     requires { AreWithin options.now }
-    ensures { IfOk result (HasTotalsBy seed) }
+    ensures { IfOk result (HasTotalsBy seed (settings_in replay options.now)) }
 {
     let script = make_script(alloc, seed)?;
     totals_of_script(rt, alloc, &script, options)
@@ -65,7 +66,7 @@ pub(crate) fn load<R: Threads + Wait + Sync>(
     options: &Options,
 ) -> Result<Vec<u8>, NoMemory>
     requires { AreWithin options.now }
-    ensures { IfOk result (λ text. AreTotalsOf seed text.items) }
+    ensures { IfOk result (λ text. AreTotalsOf seed (settings_in replay options.now) text.items) }
 {
     let totals = totals_of(rt, alloc, seed, options)?;
     text_of_totals(alloc, &totals)

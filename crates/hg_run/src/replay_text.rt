@@ -9,7 +9,8 @@ ghost use Rattle.hg_session.specs.Engines.{engine_sizes};
 ghost use Rattle.hg_words.specs.Options.{AreWithin};
 ghost use Rattle.hg_run.specs.Driven.{MayDrive};
 ghost use Rattle.hg_run.specs.Ended.{HasReplayedToEnd};
-ghost use Rattle.hg_run.specs.Printing.{AreExact, IsPrintedFor};
+ghost use Rattle.hg_run.specs.Printing.{AreExact, IsPrintedFor, PrintsOneRun};
+ghost use Rattle.hg_run.specs.Words.{settings_in};
 
 use crate::crew::Crew;
 use crate::ended::{Ended, close_crew};
@@ -58,6 +59,8 @@ pub(crate) fn replay_lines<'a, R: Threads + Wait + Sync>(
     ensures exact { IfOk result (λ o. AreExact replay script.now o.transcript.lines) }
     ensures fit { IfOk result (λ o.
         IsFit script.now (record { lines = o.transcript.lines; totals = o.totals })) }
+    ensures one_run { IfOk result (λ o.
+        PrintsOneRun 0 (settings_in replay options.now) script.now o.transcript.lines o.totals) }
     ensures tables { IfOk result (λ o. o.transcript.tables ≡ script.now.tables) }
 {
     let (engine, crew) = open_for(alloc, script, options)?;
@@ -76,7 +79,7 @@ pub(crate) fn replay<R: Threads + Wait + Sync>(
     requires lawful { IsLawful script.now }
     requires within { AreWithin options.now }
     ensures { IfOk result
-        (λ text. IsPrintedFor replay script.now text.items) }
+        (λ text. IsPrintedFor (settings_in replay options.now) script.now text.items) }
 {
     let ended = replay_lines(rt, alloc, script, options)?;
     ended.into_text()

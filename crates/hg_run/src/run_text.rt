@@ -9,7 +9,8 @@ ghost use Rattle.hg_session.specs.Engines.{engine_sizes};
 ghost use Rattle.hg_words.specs.Options.{AreWithin};
 ghost use Rattle.hg_run.specs.Driven.{MayDrive};
 ghost use Rattle.hg_run.specs.Ended.{HasRunToEnd};
-ghost use Rattle.hg_run.specs.Printing.{IsPrintedFor};
+ghost use Rattle.hg_run.specs.Printing.{IsPrintedFor, PrintsOneRun};
+ghost use Rattle.hg_run.specs.Words.{settings_in};
 
 use crate::crew::Crew;
 use crate::ended::{Ended, close_crew};
@@ -60,6 +61,9 @@ fn run_script<'a, R: Threads + Wait + Sync, G: Gate + Sync>(
         (record { lines = o.transcript.lines; totals = o.totals })) }
     ensures fit { IfOk result (λ o.
         IsFit script.now (record { lines = o.transcript.lines; totals = o.totals })) }
+    ensures one_run { IfOk result (λ o.
+        PrintsOneRun 0 (settings_in (run options.now.rounds) options.now) script.now
+        o.transcript.lines o.totals) }
     ensures tables { IfOk result (λ o. o.transcript.tables ≡ script.now.tables) }
 {
     let plan = Plan {
@@ -84,7 +88,7 @@ pub(crate) fn run_all<R: Threads + Wait + Sync, G: Gate + Sync>(
     requires lawful { IsLawful script.now }
     requires within { AreWithin options.now }
     ensures { IfOk result (λ text.
-        IsPrintedFor (run options.now.rounds) script.now text.items) }
+        IsPrintedFor (settings_in (run options.now.rounds) options.now) script.now text.items) }
 {
     let records = script.record_count() as u64;
     let pace = Pace::new(alloc, script.sessions(), records, options.rounds, gate)?;

@@ -1,11 +1,11 @@
 //! The steps in their order: of a script that is run, of one that is made, and of one whose text is audited.
 
 ghost use Rattle.std.specs.Prelude.{◌≡◌, ◌+◌, map, None, IfOk, IfErr, IsFalse, OnOk, string_bytes};
-ghost use Rattle.hg_base.specs.Script.{Mode, run};
+ghost use Rattle.hg_base.specs.Script.{run};
 ghost use Rattle.hg_script.specs.Lawful.{IsLawful};
 ghost use Rattle.hg_words.specs.Options.{AreWithin, options_of};
 ghost use Rattle.hg_run.specs.Printing.{IsPrintedFor};
-ghost use Rattle.hg_run.specs.Words.{AsksFor, IsMaking, audits, dumps, mode_of, reads, task_of};
+ghost use Rattle.hg_run.specs.Words.{AsksFor, IsMaking, Settings, audits, dumps, reads, settings_in, settings_of, task_of};
 ghost use Rattle.hg_run.specs.Serving.{Answers, Comes, IsDecided, IsReadFrom, IsUnlessNoMemory, RefusesTask, WritesAll, WritesExactly, may_write};
 ghost use Rattle.hg_streams.specs.Streams.{HasGiven, change_of};
 
@@ -27,10 +27,10 @@ use std::thread::Threads;
 fn script_of_source<S: Source>(alloc: Global, source: &mut S) -> Result<Script, Status>
     ensures read { IfOk result (IsReadFrom (change_of S.flow source.old source.new)) }
     ensures lawful { IfOk result IsLawful }
-    ensures refused { (mode : Mode) → IfErr result
-        (RefusesTask (reads mode) (change_of S.flow source.old source.new)) }
-    ensures refused_dump { (mode : Mode) → IfErr result
-        (RefusesTask (dumps mode) (change_of S.flow source.old source.new)) }
+    ensures refused { (settings : Settings) → IfErr result
+        (RefusesTask (reads settings) (change_of S.flow source.old source.new)) }
+    ensures refused_dump { (settings : Settings) → IfErr result
+        (RefusesTask (dumps settings) (change_of S.flow source.old source.new)) }
     ensures no_more { HasGiven (MOST_SCRIPT_BYTES + 1)
         (change_of S.flow source.old source.new) }
 {
@@ -67,7 +67,7 @@ fn text_of_script<R: Threads + Wait + Sync, G: Gate + Sync>(
     requires lawful { IsLawful script.now }
     requires within { AreWithin options.now }
     ensures { IfOk result (λ text.
-        IsPrintedFor (mode_of options.now) script.now text.items) }
+        IsPrintedFor (settings_of options.now) script.now text.items) }
 {
     match options.command {
         Command::Run | Command::Dump => run_all(rt, alloc, script, options, gate),
@@ -85,9 +85,9 @@ fn text_of_source<R: Threads + Wait + Sync, S: Source, G: Gate + Sync>(
 ) -> Result<Vec<u8>, Status>
     requires { AreWithin options.now }
     ensures text { IfOk result (λ text.
-        Answers (reads (mode_of options.now))
+        Answers (reads (settings_of options.now))
         (change_of S.flow source.old source.new) text.items) }
-    ensures refused { IfErr result (RefusesTask (reads (mode_of options.now))
+    ensures refused { IfErr result (RefusesTask (reads (settings_of options.now))
         (change_of S.flow source.old source.new)) }
     ensures no_more { HasGiven (MOST_SCRIPT_BYTES + 1)
         (change_of S.flow source.old source.new) }
@@ -106,10 +106,10 @@ fn dump_of_source<R: Threads + Wait + Sync, S: Source, G: Gate + Sync>(
 ) -> Result<Vec<u8>, Status>
     requires { AreWithin options.now }
     ensures text { IfOk result (λ text.
-        Answers (dumps (run options.now.rounds))
+        Answers (dumps (settings_in (run options.now.rounds) options.now))
         (change_of S.flow source.old source.new) text.items) }
     ensures refused { IfErr result
-        (RefusesTask (dumps (run options.now.rounds))
+        (RefusesTask (dumps (settings_in (run options.now.rounds) options.now))
         (change_of S.flow source.old source.new)) }
     ensures no_more { HasGiven (MOST_SCRIPT_BYTES + 1)
         (change_of S.flow source.old source.new) }
@@ -213,8 +213,8 @@ pub fn serve<R: Threads + Wait + Sync, So: Source, Si: Sink, G: Gate + Sync>(
     sink: &mut Si,
     gate: &G,
 ) -> Status
-    // The sink took the whole text of a printed value that is sound for the script in the source, in the mode that the words ask for; or
-    // the text of the totals of one that is sound for the script of the seed; or the verdict on the text that follows the script.
+    // The sink took the whole text of a printed value that is sound for the script in the source, with the settings that the words ask
+    // for; or the text of the totals of one that is sound for the script of the seed; or the verdict on the text that follows the script.
     ensures sound { result ≡ Status.Done → AsksFor (map string_bytes words.now) (λ task.
         WritesAll task (change_of So.flow source.old source.new)
         (change_of Si.flow sink.old sink.new)) }

@@ -11,5 +11,6 @@ returns g c =
       sound = o.sound;
       exact = o.exact;
       fit = o.fit;
+      one_run = o.one_run;
       same = same;
     }) (c.into_text.ensures c.args.script.now (sym o.tables))

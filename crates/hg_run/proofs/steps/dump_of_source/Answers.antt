@@ -3,15 +3,16 @@ use Rattle.std.specs.Prelude.{IfOk}
 use Rattle.std.proofs.lemmas.Result.{IfOk-weaker}
 use Rattle.hg_base.specs.Script.{Script, run}
 use Rattle.hg_run.specs.Dumping.{IsDumpedFor}
+use Rattle.hg_run.specs.Words.{settings_in}
 use Rattle.hg_run.proofs.steps.dump_of_source.Goals as goal
 
 pub returns-clause-text : goal.returns-clause-text
 returns-clause-text g c =
-    let mode = run c.args.options.now.rounds in
+    let settings = settings_in (run c.args.options.now.rounds) c.args.options.now in
     let read = c.in_ok-script.ensures.read in
-    let dumped : IfOk c.map_err.result (λ text. IsDumpedFor mode c.in_ok-script.script text.items) = search rules in
+    let dumped : IfOk c.map_err.result (λ text. IsDumpedFor settings c.in_ok-script.script text.items) = search rules in
     IfOk-weaker c.map_err.result _ _ (λ text p. record {
       bytes = read.bytes;
       all = read.all;
-      text_for = record { valid = read.valid; dumped = subst (λ (s : Script). IsDumpedFor mode s text.items) read.same p };
+      text_for = record { valid = read.valid; dumped = subst (λ (s : Script). IsDumpedFor settings s text.items) read.same p };
     }) dumped
