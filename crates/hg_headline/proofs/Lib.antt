@@ -54,5 +54,6 @@ pub mod Before
 pub mod Closing
 -- One list of steps that printed a text.
 pub mod RunsEnd
+pub mod WorkedLists
 -- A replay and a run that meet all this.
 pub mod Worked

@@ -18,5 +18,6 @@ pub mod Following
 pub mod Totalled
 -- One run that prints a text.
 pub mod OneRun
+pub mod WorkedSteps
 -- A replay and a run that meet all this.
 pub mod Worked

@@ -28,5 +28,5 @@ mod one_run;
 mod totals;
 
 pub use laws::{premises_are_met, replay_is_sound, run_is_sound, states_are_logged};
-pub use one_run::one_run_is_printed;
+pub use one_run::{one_run_is_printed, three_lists_are_worked};
 pub use totals::buckets_tell;

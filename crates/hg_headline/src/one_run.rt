@@ -15,6 +15,7 @@ ghost use Rattle.hg_core.specs.Steps.{Always};
 ghost use Rattle.hg_headline.specs.OneRun.{AreTotalsAt, HasEnded, IsOneRun};
 ghost use Rattle.hg_headline.specs.Ran.{LeavesGc};
 ghost use Rattle.hg_headline.specs.Totalled.{TotalsTell};
+ghost use Rattle.hg_headline.specs.WorkedSteps.{IsHeldBack, IsMoved, IsRefused};
 
 /// What a driver knows at the end of a list of steps makes its lines and totals those of one run. On one thread the lines follow the
 /// logs record by record (`replay`). In threads each session's lines are the replies of its log, and other lines are of session 0
@@ -39,4 +40,12 @@ pub fn one_run_is_printed()
     ensures totals { Always (λ s. (totals : Totals) → 0 < s.buckets →
         TotalsTell s.sessions s.buckets s.passes s.log s.visits s.history totals →
         AreTotalsAt s totals) }
+{}
+
+/// Three lists of steps, evaluated: a write that is refused for another's, a read that a collector held versions for, and a snapshot that
+/// is moved.
+pub fn three_lists_are_worked()
+    ensures refused { IsRefused }
+    ensures held_back { IsHeldBack }
+    ensures moved { IsMoved }
 {}

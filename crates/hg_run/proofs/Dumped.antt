@@ -151,7 +151,7 @@ on_text settings script lines totals dumps (Ok text) items lawful read fit told 
   sound = read.sound;
   fit = fit;
   within = read.within;
-  rounds = read.rounds;
+  one_run = read.one_run;
   same = told ∙ (λ i. text_of record_bytes script (record { lines = lines; totals = totals })
       ++ (part_text dumps.at (read.first i) ++ (ap (part_text dumps.end) read.last ∙
       ap (λ n. part_text n (dump_text script (rows_at script.tables (printed_history settings script lines) n))) read.end_is) i));

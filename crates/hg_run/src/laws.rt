@@ -47,8 +47,8 @@ pub fn replays_print_the_same()
 
 /// Two loads of one seed print the same `made`, `undone` and `left`, with whatever options.
 pub fn loads_print_the_same()
-    ensures { (seed : ℕ) (text other : List ℕ) →
-        (p : AreTotalsOf seed text) → (q : AreTotalsOf seed other) →
+    ensures { (seed : ℕ) (a b : Settings) (text other : List ℕ) →
+        (p : AreTotalsOf seed a text) → (q : AreTotalsOf seed b other) →
         (p.printed.totals.made ≡ q.printed.totals.made) ×
         (p.printed.totals.undone ≡ q.printed.totals.undone) ×
         (p.printed.totals.left ≡ q.printed.totals.left) }

@@ -26,7 +26,7 @@ one_script seed s t a b =
     λ i. record { version = version i; tables = tables i; records = records i }
 
 pub returns : goal.returns
-returns c = λ seed text other p q.
+returns c = λ seed a b text other p q.
     let same = one_script seed q.script p.script q.made p.made in
     totals_same p.script p.printed.lines q.printed.lines p.printed.totals q.printed.totals (p.exact ∙ ap replayed (sym same) ∙ sym q.exact)
     p.sound.totals (subst (λ s. IsSound replay s q.printed) same q.sound).totals
