@@ -36,3 +36,4 @@ pub mod Handovers
 pub mod SoFar
 pub mod AllBack
 pub mod OneHolder
+pub mod AtOnce

@@ -39,7 +39,7 @@ module _ (e : Engine) (list fs bs ms : List Session) (x : Session) (u : View) (f
   module _ (same : length ms ≡ length bs) (lent : (d : Session) (k : ℕ) → k < length bs → HasLent e (get_or bs k d) (get_or ms k d))
       (parts : u.parts ≡ (view_of (get_or fs 0 x)).parts ++ map lent_of bs) (kept : StartsWith u.sights (seen_by (get_or fs 0 x)))
       (heard : (d : Session) (k : ℕ) → k < length bs → AreAmong (seen_by (get_or bs k d)) u.sights) where
-    held_parts : u.parts ≡ OfSession (number_of (get_or fs 0 x)) (session (view_of (get_or fs 0 x))) ∷ map lent_of bs
+    pub held_parts : u.parts ≡ OfSession (number_of (get_or fs 0 x)) (session (view_of (get_or fs 0 x))) ∷ map lent_of bs
     held_parts = parts ∙ ap (λ ps. ps ++ map lent_of bs) first_own.only
 
     pub show_logs : ShowLogs (engine_sizes e) u.parts (logs_of list)

@@ -30,3 +30,4 @@ pub mod Resting
 -- Sessions whose parts are with one of them, and what it counts then.
 pub mod Lent
 pub mod SoFar
+pub mod Moment

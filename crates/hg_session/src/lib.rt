@@ -12,6 +12,7 @@
 //!     rollback   an undo for each record; end
 //!     cursor     begin; for each fetch, the buckets that can have the next rows, each once; end
 //!     count      all other sessions hand their parts to one; each bucket, once; each part goes back
+//!     look       the same with the collectors' passes, and one load of the mark instead of the buckets
 //!
 //! The session's log after a call is a function of the log before, the statement, the reply, and what no reply prints (`Answers`): the
 //! statement's entries are appended once, and nothing else. So a command that prints the replies has nothing to prove about contents or
@@ -31,6 +32,7 @@ mod finish;
 mod get;
 mod laws;
 mod lending;
+mod moment;
 mod put;
 mod rollback;
 mod scan;
@@ -46,6 +48,7 @@ pub use answers::{Deleted, Ended, GetRefusal, PutRefusal, Read, Scanned, Written
 pub use engine::{Engine, Passes, TableDecl};
 pub use finish::{finish_all, finish_some, join_all};
 pub use laws::{places_differ, replies_are_right};
+pub use moment::look_together;
 pub use session::Session;
 pub use session_list::SessionList;
 pub use settlement::settle;
