@@ -24,28 +24,22 @@ use Rattle.hg_headline.specs.Logged.{Logged}
 use Rattle.hg_headline.specs.Replayed.{HasReplayed}
 use Rattle.hg_headline.proofs.Before.{logged_before}
 use Rattle.hg_headline.proofs.Following.{following_ends}
-use Rattle.hg_rule.specs.declared.view.Part.{Part}
-use Rattle.hg_rule.specs.Facts.{EndsWith, IsAmong}
-use Rattle.hg_rule.specs.Views.{part_number, session_there, first_in}
-use Rattle.hg_rule.proofs.Lists.{among_left}
 use Rattle.hg_script.specs.Rules.{is_open, is_reading}
 use Rattle.hg_session.specs.declared.engine.Engine.{Engine}
 use Rattle.hg_session.specs.declared.session.Session.{Session}
 use Rattle.hg_session.specs.Engines.{engine_sizes}
 use Rattle.hg_session.specs.Finished.{logs_of}
 use Rattle.hg_session.specs.Lent.{HasSeenMore}
-use Rattle.hg_session.specs.Sessions.{view_of, left_of, cursor_of, seen_by}
+use Rattle.hg_session.specs.Sessions.{seen_by}
 use Rattle.hg_session.specs.SoFar.{AreSoFar}
-use Rattle.hg_run.specs.Caught.{HasCaughtUp}
-use Rattle.hg_run.specs.Listed.{AreReady, SawAt}
-use Rattle.hg_run.specs.Heard.{HasHeard, HasSeen}
+use Rattle.hg_run.specs.Listed.{SawAt}
+use Rattle.hg_run.specs.Heard.{HasSeen}
 use Rattle.hg_run.specs.Live.{IsLive, left_in}
 use Rattle.hg_run.specs.Untold.{HaveTold}
 use Rattle.hg_run.proofs.Cursors.{cursors_kept}
 use Rattle.hg_run.proofs.Final.{final_totals}
 use Rattle.hg_run.proofs.Going.{told_more}
-use Rattle.hg_run.proofs.Hearing.{seen_kept, heard_kept}
-use Rattle.hg_run.proofs.Listing.{logs_same}
+use Rattle.hg_run.proofs.LookedAt.{caught_back, cursors_back, logs_kept, ready_kept, saw_kept}
 use Rattle.hg_run.proofs.RolledBack.{made_said, undone_said}
 
 -- ---- in the midst
@@ -56,44 +50,20 @@ one_of (x ∷ xs) k h = x
 
 module _ (e : Engine) (old new : List Session) (many : length new ≡ length old)
     (same : (d : Session) (k : ℕ) → k < length old → HasSeenMore e (get_or old k d) (get_or new k d)) where
-  logs_kept : Session → logs_of new ≡ logs_of old
-  logs_kept d = logs_same d old new many (λ k within. ap (λ (ps : List Part). (session_there (first_in ps)).log) (same d k within).parts)
-
   -- all is known that was
   pub live_counted : (last : ℕ) (records : List Record) (lines : List Line) → IsLive e old last records lines → IsLive e new last records lines
   live_counted last records lines g =
       let z = engine_sizes e in
-      let logs : logs_of new ≡ logs_of old = logs_kept (one_of old last g.ready.within) in
+      let logs : logs_of new ≡ logs_of old = logs_kept e old new many same last g.ready.within in
       record {
         seen = g.seen;
         top = g.top;
         following = subst (λ l. IsFollowing z.buckets z.sessions l g.seen g.top records lines) (sym logs) g.following;
-        firsts = λ caught. subst (λ l. Follows z.buckets ShowsFirsts (λ j. []) (λ j. None) records lines l) (sym logs) (g.firsts (caught_up last g.ready.within logs caught));
+        firsts = λ caught. subst (λ l. Follows z.buckets ShowsFirsts (λ j. []) (λ j. None) records lines l) (sym logs) (g.firsts (caught_back e old new many same last g.ready.within caught));
         opened = λ j. subst (λ (l : ℕ → List LogEntry). AreOpen (is_open j records) (is_reading j records) (is_some (current (l j)))) (sym logs) (g.opened j);
-        cursors = cursors_kept (λ j. is_reading j records) (left_after (λ j. None) records lines) old new many
-            (λ d k within. ap cursor_of (same d k within).keeps.same) g.cursors;
-        ready = ready last records logs g.ready;
-        saw = λ d. seen_kept g.seen (seen_by (get_or old last d)) (seen_by (get_or new last d)) (same d last g.ready.within).keeps.kept (g.saw d);
-      }
-    where
-      caught_up : (last : ℕ) → last < length old → logs_of new ≡ logs_of old → HasCaughtUp last new → HasCaughtUp last old
-      caught_up last within logs caught d k below other l heard =
-          let kept = (same d last within).keeps.kept in
-          subst (λ (f : ℕ → List LogEntry). EndsWith (f (suc k)) l) logs
-          (caught d k (omega (arith, below, many)) other l (subst (IsAmong _) (sym kept.1) (among_left _ (seen_by (get_or old last d)) kept.0 heard)))
-
-      ready : (last : ℕ) (records : List Record) → logs_of new ≡ logs_of old → AreReady e last (left_in (engine_sizes e) records) old → AreReady e last (left_in (engine_sizes e) records) new
-      ready last records logs r = record {
-        many = many ∙ r.many;
-        within = (let a = r.within in omega (arith, a, many));
-        placed = λ d k within. (let below : k < length old = omega (arith, within, many) in record {
-          own = (same d k below).own;
-          number_is = ap part_number (same d k below).parts ∙ (r.placed d k below).number_is;
-        });
-        left_is = λ d k within. (let below : k < length old = omega (arith, within, many) in
-            subst (λ n. left_in (engine_sizes e) records (suc k) ≤ n) (sym (ap left_of (same d k below).keeps.same)) (r.left_is d k below));
-        heard = λ d. heard_kept (logs_of new) (view_of (get_or old last d)) (view_of (get_or new last d)) (subst (λ l. HasHeard l (view_of (get_or old last d))) (sym logs) (r.heard d))
-            (same d last r.within).keeps.kept;
+        cursors = cursors_kept (λ j. is_reading j records) (left_after (λ j. None) records lines) old new many (cursors_back e old new many same) g.cursors;
+        ready = ready_kept e old new many same last (left_in z records) g.ready;
+        saw = saw_kept e old new many same g.seen last g.ready.within g.saw;
       }
 
 -- what was counted is of a replay so far

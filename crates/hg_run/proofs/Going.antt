@@ -38,6 +38,7 @@ use Rattle.hg_run.specs.Caught.{HasCaughtUp, HasOwn, SeesAll}
 use Rattle.hg_run.specs.Listed.{ArePlaced, AreReady, HaveCursors, KeepCursors, SawAt, none_left, one_more}
 use Rattle.hg_run.specs.Asked.{IsOnTables, IsReplied, HasReplied, MayAsk}
 use Rattle.hg_collectors.specs.Swept.{told_of}
+use Rattle.hg_run.specs.Few.{KeepsFew}
 use Rattle.hg_run.specs.Played.{HasPlayed, HasPlayedOut}
 use Rattle.hg_collectors.specs.declared.collectors.Collectors.{Collectors}
 use Rattle.hg_collectors.specs.Collecting.{HaveMade, removed_of}
@@ -212,8 +213,8 @@ going_on e long before now later old new i lines r rest script line g is session
 -- all records are answered, and each session has met in turn the one that ran last
 pub going_last : (e : Engine) (long : ℕ) (before now : Collectors) (old list : List Session) (first last : ℕ) (lines : List Line) (script : Script) →
     Going e long before now old first lines [] script → logs_of list ≡ logs_of old → ((seen : ℕ) → SawAt seen first old → SawAt seen last list) → AreReady e last none_left list →
-    HasCaughtUp first old → HasPlayed e long before now list script lines
-going_last e long before now old list first last lines script g same saw ready caught =
+    HasCaughtUp first old → (((k : Kind) → removed_of k before ≡ 0) → KeepsFew script lines) → HasPlayed e long before now list script lines
+going_last e long before now old list first last lines script g same saw ready caught few =
     let done : g.done ≡ script.records = sym (g.all ∙ append_nil g.done) in
     record {
       seen = g.seen;
@@ -225,6 +226,7 @@ going_last e long before now old list first last lines script g same saw ready c
       saw = saw g.seen g.saw;
       told = g.told;
       rounds = g.rounds;
+      few = few;
     }
 
 -- ---- what is known at the end
@@ -266,6 +268,7 @@ played_out e long before after played closed script lines p closes many saw = re
   within = (let within = p.ready.within in omega (arith, within, many));
   saw = saw p.seen p.saw;
   told = p.told;
+  few = p.few;
 }
 
 -- ---- what the next record asks for

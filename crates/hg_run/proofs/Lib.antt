@@ -16,10 +16,13 @@ mod Alone
 mod Meetings
 mod MeetingAll
 mod Sweeping
+mod CleanAfter
+mod LookedAt
 -- A whole script.
 mod Cursors
 mod Going
 mod Asking
+mod FewHeld
 -- A conversation, and where memory runs out in it.
 mod Named
 mod Unsaid

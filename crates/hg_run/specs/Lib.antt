@@ -7,6 +7,7 @@ pub mod Meeting
 pub mod Collecting
 pub mod Working
 pub mod Driven
+pub mod Few
 pub mod Played
 pub mod Unsaid
 pub mod ForAll

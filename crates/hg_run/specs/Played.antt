@@ -15,10 +15,12 @@ use Rattle.hg_session.specs.Finished.{logs_of}
 use Rattle.hg_collectors.specs.declared.collectors.Collectors.{Collectors}
 use Rattle.hg_collectors.specs.Collecting.{HaveMade, removed_of}
 use Rattle.hg_collectors.specs.Telling.{sweeps_of}
+use Rattle.hg_run.specs.Few.{KeepsFew}
 use Rattle.hg_run.specs.Listed.{AreReady, SawAt, none_left}
 
 -- The lines follow the logs, where so many groups were seen, by the session that has seen most too, and each write's line shows its
--- first cause by them. Their reports tell all that the collectors removed, and each round of theirs.
+-- first cause by them. Their reports tell all that the collectors removed, and each round of theirs. Where these had removed nothing
+-- before, few versions are held after each interval report.
 pub record HasPlayed (e : Engine) (long : ℕ) (before after : Collectors) (list : List Session) (script : Script) (lines : List Line) : Type 0 where
   pub seen : ℕ
   pub top : ℕ
@@ -29,6 +31,7 @@ pub record HasPlayed (e : Engine) (long : ℕ) (before after : Collectors) (list
   pub saw : SawAt seen last list
   pub told : (k : Kind) → removed_of k after ≡ removed_of k before + told_removed k lines
   pub rounds : HaveMade (engine_sizes e) long before (λ k. sweeps_of k lines) after
+  pub few : ((k : Kind) → removed_of k before ≡ 0) → KeepsFew script lines
 
 -- the same of the logs as they were before what was open was rolled back or closed
 pub record HasPlayedOut (e : Engine) (before after : Collectors) (list : List Session) (script : Script) (lines : List Line) : Type 0 where
@@ -42,3 +45,4 @@ pub record HasPlayedOut (e : Engine) (before after : Collectors) (list : List Se
   pub within : last < length list
   pub saw : SawAt seen last list
   pub told : (k : Kind) → removed_of k after ≡ removed_of k before + told_removed k lines
+  pub few : ((k : Kind) → removed_of k before ≡ 0) → KeepsFew script lines

@@ -12,6 +12,7 @@ use Rattle.hg_exact.specs.Replayed.{plain, replayed}
 use Rattle.hg_seed.specs.Generator.{IsMade}
 use Rattle.hg_headline.specs.OneRun.{IsOneRun}
 use Rattle.hg_run.specs.Driven.{sessions_in}
+use Rattle.hg_run.specs.Few.{KeepsFewIn}
 use Rattle.hg_run.specs.Words.{Settings}
 
 -- One list of steps printed these lines and these totals, under these settings, with the script's sessions and so many that print no line.
@@ -26,12 +27,13 @@ abbrev pub AreExact : Mode → Script → List Line → Type 0
 AreExact replay script lines = map plain lines ≡ replayed script
 AreExact (run rounds) script lines = ⊤
 
--- A text that a script may print under these settings: that of a printed value which is sound for it, exact in a replay, fits it, and is
--- what one list of steps printed. So the text determines the value.
+-- A text that a script may print under these settings: that of a printed value which is sound for it, exact and of few versions in a replay,
+-- fits it, and is what one list of steps printed. So the text determines the value.
 pub record IsPrintedFor (settings : Settings) (script : Script) (text : List ℕ) : Type 0 where
   pub printed : Printed
   pub sound : IsSound settings.mode script printed
   pub exact : AreExact settings.mode script printed.lines
+  pub few : KeepsFewIn settings.mode script printed.lines
   pub fit : IsFit script printed
   pub one_run : PrintsOneRun 0 settings script printed.lines printed.totals
   pub same : text ≡ text_of record_bytes script printed

@@ -55,6 +55,7 @@ mod gc;
 mod laws;
 mod live;
 mod load;
+mod moment;
 mod reader;
 mod replay;
 mod replay_text;

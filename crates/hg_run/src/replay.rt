@@ -11,12 +11,13 @@ ghost use Rattle.hg_run.specs.Listed.{ArePlaced, AreReady, none_left, one_more};
 ghost use Rattle.hg_run.specs.Asked.{IsOnTables, MayAsk, Replies, collector_asked};
 ghost use Rattle.hg_run.specs.Collecting.{AreCollectors, TellsAll};
 ghost use Rattle.hg_run.specs.Driven.{IsEngineFor, AreBack, HasDrivenOne, MayDrive};
+ghost use Rattle.hg_run.specs.Few.{LeavesFewIfSwept};
 ghost use Rattle.hg_run.specs.Played.{HasPlayed, HasPlayedOut};
 ghost use Rattle.hg_run.specs.Unsaid.{HasRunOutAt};
 
 use crate::crew::Crew;
 use crate::end::close_all;
-use crate::gc::sweep;
+use crate::moment::sweep_known;
 use crate::turn::{answer, catch_up, turn};
 use hg_base::{Kind, Line, NoMemory, Reply, Statement};
 use hg_script::Script;
@@ -73,9 +74,11 @@ pub(crate) fn reply_at<R: Threads + Wait + Sync>(
         (HasRunOutAt engine.now i crew.old.sessions.items crew.new.sessions.items) }
     ensures placed { ArePlaced engine.now crew.new.sessions.items }
     ensures collectors { AreCollectors engine.now crew.new.collectors }
+    ensures few { IfOk result (λ reply.
+        LeavesFewIfSwept engine.now crew.new.sessions.items crew.new.collectors reply) }
 {
     match asked(&statement) {
-        Some(kind) => sweep(rt, engine, crew, i, kind, long),
+        Some(kind) => sweep_known(rt, engine, crew, i, kind, long),
         None => answer(rt, engine, &mut crew.sessions, i, statement),
     }
 }

@@ -9,6 +9,7 @@ ghost use Rattle.hg_session.specs.Engines.{engine_sizes};
 ghost use Rattle.hg_words.specs.Options.{AreWithin};
 ghost use Rattle.hg_run.specs.Driven.{MayDrive};
 ghost use Rattle.hg_run.specs.Ended.{HasReplayedToEnd};
+ghost use Rattle.hg_run.specs.Few.{KeepsFew};
 ghost use Rattle.hg_run.specs.Printing.{AreExact, IsPrintedFor, PrintsOneRun};
 ghost use Rattle.hg_run.specs.Words.{settings_in};
 
@@ -57,6 +58,7 @@ pub(crate) fn replay_lines<'a, R: Threads + Wait + Sync>(
     ensures sound { IfOk result (λ o.
         IsSound replay script.now (record { lines = o.transcript.lines; totals = o.totals })) }
     ensures exact { IfOk result (λ o. AreExact replay script.now o.transcript.lines) }
+    ensures few { IfOk result (λ o. KeepsFew script.now o.transcript.lines) }
     ensures fit { IfOk result (λ o.
         IsFit script.now (record { lines = o.transcript.lines; totals = o.totals })) }
     ensures one_run { IfOk result (λ o.

@@ -8,8 +8,10 @@ use Rattle.hg_session.specs.declared.engine.Engine.{Engine}
 use Rattle.hg_session.specs.declared.session.Session.{Session}
 use Rattle.hg_transcript.specs.LinesText.{Shown}
 use Rattle.hg_run.specs.Asked.{IsOnTables}
+use Rattle.hg_run.specs.Few.{KeepsFew}
 use Rattle.hg_run.specs.Listed.{AreReady, none_left}
 use Rattle.hg_collectors.specs.declared.collectors.Collectors.{Collectors}
+use Rattle.hg_run.proofs.FewHeld.{few_more, few_none}
 use Rattle.hg_run.proofs.Going.{Going, are_placed, going_first, going_turned, going_on, going_last, ready_less, ready_one_more, may_ask, on_tables}
 use Rattle.hg_run.proofs.replay.play.Goals as goal
 
@@ -30,6 +32,9 @@ goes_more : (e : Engine) (long : ℕ) (before now : Collectors) (list : List Ses
     u ≡ record { tables = t.tables; lines = t.lines ++ line ∷ [] } → Going e long before now list last (t.lines ++ line ∷ []) rest script → Going e long before now list last u.lines rest script
 goes_more e long before now list last t u line rest script is going = subst (λ (s : Shown). Going e long before now list last s.lines rest script) (sym is) going
 
+keeps_more : (t u : Shown) (line : Line) (script : Script) → u ≡ record { tables = t.tables; lines = t.lines ++ line ∷ [] } → KeepsFew script (t.lines ++ line ∷ []) → KeepsFew script u.lines
+keeps_more t u line script is few = subst (λ (s : Shown). KeepsFew script s.lines) (sym is) few
+
 -- all are answered
 over : (e : Engine) (long : ℕ) (before now : Collectors) (list : List Session) (last : ℕ) (lines : List Line) (script : Script) (i : ℕ) →
     Going e long before now list last lines (drop i script.records) script
@@ -42,6 +47,7 @@ loop-next-init g c = record {
   collectors = c.requires.collectors;
   going = rw c.new-transcript.ensures (going_first c.args.engine.now c.args.long c.args.crew.now.collectors c.args.crew.now.sessions.items c.args.script.now
       c.requires.fits.sessions_are c.requires.fits.lawful c.requires.ready c.requires.none);
+  few = λ nothing. rw c.new-transcript.ensures (few_none c.args.script.now);
 }
 
 pub record-requires : goal.record-requires
@@ -114,13 +120,15 @@ loop-next-preserved g c =
     let line : Line = record { session = r.session; place = r.place; reply = c.in_ok-reply.reply } in
     let turned = going_turned e c.args.long first before c.loop-next.crew.sessions.items c.turn.new.list.items c.loop-next.last (r.session - 1) c.loop-next.transcript.lines
     (r ∷ rest) script going c.turn.ensures.logs c.turn.ensures.cursors c.turn.ensures.saw c.turn.ensures.ready c.turn.ensures.sees c.turn.ensures.own in
+    let gone = going_on e c.args.long first before later c.turn.new.list.items c.reply_at.new.crew.sessions.items (r.session - 1) c.loop-next.transcript.lines r rest script line turned is refl refl
+    (c.in_ok-reply.ensures.replied turned.seen _ _ turned.saw turned.cursors) c.in_ok-reply.ensures.ready c.in_ok-reply.ensures.told.removed c.in_ok-reply.ensures.told.rounds in
     record {
       tables = shows_more script c.loop-next.transcript c.push.new.self line c.in_ok-push.ensures.ok c.loop-next.invariant.tables;
       collectors = c.reply_at.ensures.collectors;
-      going = goes_more e c.args.long first later c.reply_at.new.crew.sessions.items (r.session - 1) c.loop-next.transcript c.push.new.self line rest script c.in_ok-push.ensures.ok
-          (going_on e c.args.long first before later c.turn.new.list.items c.reply_at.new.crew.sessions.items
-          (r.session - 1) c.loop-next.transcript.lines r rest script line turned is refl refl
-          (c.in_ok-reply.ensures.replied turned.seen _ _ turned.saw turned.cursors) c.in_ok-reply.ensures.ready c.in_ok-reply.ensures.told.removed c.in_ok-reply.ensures.told.rounds);
+      going = goes_more e c.args.long first later c.reply_at.new.crew.sessions.items (r.session - 1) c.loop-next.transcript c.push.new.self line rest script c.in_ok-push.ensures.ok gone;
+      few = λ nothing. keeps_more c.loop-next.transcript c.push.new.self line script c.in_ok-push.ensures.ok
+          (few_more e c.args.long first later c.reply_at.new.crew.sessions.items (r.session - 1) c.loop-next.transcript.lines line rest script gone nothing c.requires.fits.some
+          c.in_ok-reply.ensures.few (c.loop-next.invariant.few nothing));
     }
 
 -- all are answered, and the session that ran last is ready
@@ -144,7 +152,7 @@ returns-clause-played g c =
     c.catch_up.result c.loop-next.transcript.lines c.args.script.now
     (over c.args.engine.now c.args.long c.args.crew.now.collectors c.loop-next.crew.collectors c.loop-next.crew.sessions.items c.loop-next.last c.loop-next.transcript.lines
     c.args.script.now c.loop-next.next c.loop-next.invariant.going most)
-    c.catch_up.ensures.logs c.catch_up.ensures.saw c.catch_up.ensures.ready c.catch_up.ensures.caught
+    c.catch_up.ensures.logs c.catch_up.ensures.saw c.catch_up.ensures.ready c.catch_up.ensures.caught c.loop-next.invariant.few
 
 pub returns-clause-placed : goal.returns-clause-placed
 returns-clause-placed g c = are_placed c.args.engine.now c.catch_up.result none_left c.catch_up.new.list.items c.catch_up.ensures.ready

@@ -10,6 +10,7 @@ returns g c =
       printed = record { lines = ended.transcript.lines; totals = ended.totals };
       sound = o.sound;
       exact = o.exact;
+      few = o.few;
       fit = o.fit;
       one_run = o.one_run;
       same = same;

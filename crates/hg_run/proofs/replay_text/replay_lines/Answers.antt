@@ -18,6 +18,9 @@ returns-clause-exact g c =
     IfOk-weaker c.replay_crew-ended.result _ _ (λ e h. replay_exact (settings_in replay o) c.args.script.now c.requires.lawful c.in_ok-engine.engine c.in_ok-engine.crew.sessions.items
     c.in_ok-engine.crew.collectors c.in_ok-engine.ensures.opened e.transcript.lines e.totals h) c.replay_crew-ended.ensures.ended
 
+pub returns-clause-few : goal.returns-clause-few
+returns-clause-few g c = IfOk-weaker c.replay_crew-ended.result _ _ (λ e h. h.played.few c.in_ok-engine.ensures.opened.none) c.replay_crew-ended.ensures.ended
+
 pub returns-clause-fit : goal.returns-clause-fit
 returns-clause-fit g c =
     IfOk-weaker c.replay_crew-ended.result _ _ (λ o. sound_fits replay c.args.script.now (record { lines = o.transcript.lines; totals = o.totals }) (omega arith) c.requires.lawful)
