@@ -3,12 +3,15 @@
 ghost use Rattle.std.specs.Prelude.{◌≡◌, ◌<◌, ◌^◌, ℕ, List, map};
 ghost use Rattle.hg_base.specs.declared.line.Printed.{Printed};
 ghost use Rattle.hg_base.specs.Script.{Script, replay};
+ghost use Rattle.hg_base.specs.Sound.{IsSound};
 ghost use Rattle.hg_base.specs.Text.{IsFit};
 ghost use Rattle.hg_exact.specs.Replayed.{plain};
 ghost use Rattle.hg_script.specs.Lawful.{IsLawful};
 ghost use Rattle.hg_report.specs.Readable.{IsTextOf};
 ghost use Rattle.hg_dump.specs.Reader.{IsSoundWith};
-ghost use Rattle.hg_run.specs.Printing.{AreTotalsOf, IsPrintedFor};
+ghost use Rattle.hg_run.specs.Few.{KeepsFew};
+ghost use Rattle.hg_run.specs.Idle.{idle};
+ghost use Rattle.hg_run.specs.Printing.{AreExact, AreTotalsOf, IsPrintedFor};
 ghost use Rattle.hg_run.specs.Serving.{IsTextFor};
 ghost use Rattle.hg_run.specs.Words.{Settings};
 
@@ -52,4 +55,11 @@ pub fn loads_print_the_same()
         (p.printed.totals.made ≡ q.printed.totals.made) ×
         (p.printed.totals.undone ≡ q.printed.totals.undone) ×
         (p.printed.totals.left ≡ q.printed.totals.left) }
+{}
+
+/// A collector that makes its rounds and removes nothing breaks `KeepsFew`, though this text is sound for its script, and exact.
+pub fn an_idle_collector_holds_too_many()
+    ensures sound { IsSound replay idle.script idle.printed }
+    ensures exact { AreExact replay idle.script idle.printed.lines }
+    ensures few { KeepsFew idle.script idle.printed.lines → ⊥ }
 {}

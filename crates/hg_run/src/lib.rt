@@ -79,8 +79,8 @@ pub use hg_collectors::{Collectors, IntervalWorker, NoGate, Plan};
 pub use hg_exact::{rows_have_their_columns, what_is_sound_fits};
 pub use hg_streams::{ReaderSource, Status, StdinSource, StdoutSink};
 pub use laws::{
-    loads_print_the_same, replays_print_the_same, text_determines_what_was_printed,
-    what_is_sound_with_a_reader_fits,
+    an_idle_collector_holds_too_many, loads_print_the_same, replays_print_the_same,
+    text_determines_what_was_printed, what_is_sound_with_a_reader_fits,
 };
 pub use reader::Reader;
 pub use replay::replay_on;
