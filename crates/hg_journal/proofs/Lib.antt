@@ -1,0 +1,7 @@
+mod Moments
+mod Gates
+mod Grows
+mod Appends
+mod Repairs
+mod Walks
+mod Recording
