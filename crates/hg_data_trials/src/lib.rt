@@ -3,6 +3,7 @@
 //!     calls      calls on one record's versions, as words
 //!     writes     writes by a chain by itself, and at a place among others
 //!     both       the calls on a chain by itself, and the same at a place among others
+//!     journals   a journal over a file that stops, and its end repaired
 //!     nodes      nodes that are free, and given again
 //!     rows       rows of calls, and what they answer
 //!     seeds      records of the script of a seed
@@ -16,6 +17,8 @@
 mod both;
 #[cfg(test)]
 mod calls;
+#[cfg(test)]
+mod journals;
 #[cfg(test)]
 mod nodes;
 #[cfg(test)]

@@ -1,8 +1,8 @@
 -- Where the gate of a text is.
-use Rattle.std.proofs.Common.{◌≡◌, ℕ, zero, suc, ◌+◌, ◌≤◌, ◌==◌, Bool, true, false, List, [], ◌∷◌, ◌++◌, length, drop, Option, Some, None, option_map, unwrap_or, if◌then◌else◌, refl, sym, ◌∙◌, ap, subst, arith, append_assoc}
+use Rattle.std.proofs.Common.{◌≡◌, ◌≢◌, ℕ, zero, suc, ◌+◌, ◌≤◌, ◌==◌, Bool, true, false, List, [], ◌∷◌, ◌++◌, length, drop, Option, Some, None, option_map, unwrap_or, if◌then◌else◌, refl, sym, ◌∙◌, ap, subst, arith, append_assoc}
 use Rattle.std.proofs.lemmas.List.{append-nil}
 use Rattle.std.proofs.lemmas.Bool.Decides.{nat_tests}
-use Rattle.hg_journal.specs.Gate.{next, is_gate, before_gate, kept, at_rest, IsWhole}
+use Rattle.hg_journal.specs.Gate.{next, is_gate, before_gate, kept, at_rest, AreWithin, IsPlain, IsWhole}
 use Rattle.hg_journal.specs.declared.gate.Place.{Place}
 use Rattle.hg_journal.specs.declared.gate.Place.TheVariants.{Start, Within, Quoted}
 
@@ -97,3 +97,27 @@ kept_short (a ∷ []) short = on (is_gate Start a)
     on true = refl
     on false = refl
 kept_short (a ∷ b ∷ c) short = absurd (omega arith)
+
+byte_within : (p : Place) (b : ℕ) → p ≢ Quoted → b ≢ 34 → b ≢ 10 → next p b ≡ Within
+byte_within Start b no_quote plain feed = grind (arith, nat_tests)
+byte_within Within b no_quote plain feed = grind (arith, nat_tests)
+byte_within Quoted b no_quote plain feed = absurd (no_quote refl)
+
+no_gate_here : (p : Place) (b : ℕ) → b ≢ 10 → is_gate p b ≡ false
+no_gate_here Start b feed = grind (arith, nat_tests)
+no_gate_here Within b feed = refl
+no_gate_here Quoted b feed = refl
+
+within_whole : (row : List ℕ) → AreWithin row → before_gate Within (row ++ (10 ∷ []) ++ 10 ∷ []) ≡ Some (row ++ 10 ∷ [])
+within_whole [] plain = refl
+within_whole (b ∷ row) plain =
+    ap (λ (p : Place). option_map (λ t. b ∷ t) (before_gate p (row ++ (10 ∷ []) ++ 10 ∷ []))) (byte_within Within b (λ e. cc e) plain.0 plain.1)
+    ∙ ap (λ (o : Option (List ℕ)). option_map (λ t. b ∷ t) o) (within_whole row plain.2)
+
+-- a record without quotes, with its line feed
+pub plain_whole : (row : List ℕ) → IsPlain row → IsWhole (at_rest row)
+plain_whole [] plain = absurd (omega (arith, plain.some))
+plain_whole (b ∷ row) plain =
+    ap (λ (x : Bool). then_gate x b (before_gate (next Start b) (row ++ (10 ∷ []) ++ 10 ∷ []))) (no_gate_here Start b plain.within.1)
+    ∙ ap (λ (p : Place). option_map (λ t. b ∷ t) (before_gate p (row ++ (10 ∷ []) ++ 10 ∷ []))) (byte_within Start b (λ e. cc e) plain.within.0 plain.within.1)
+    ∙ ap (λ (o : Option (List ℕ)). option_map (λ t. b ∷ t) o) (within_whole row plain.within.2)

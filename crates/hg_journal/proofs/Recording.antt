@@ -1,28 +1,9 @@
--- What one call more does to a record of calls.
-use Rattle.std.proofs.Common.{◌≡◌, ◌⊎◌, inl, inr, ℕ, ◌+◌, ◌≤◌, max, Bool, true, false, ◌&&◌, List, [], ◌∷◌, ◌++◌, length, take, drop, if◌then◌else◌, refl, sym, ◌∙◌, ap, subst, arith, append_assoc, length-append}
+-- What is seen of a record of calls is one of what a crash may leave.
+use Rattle.std.proofs.Common.{◌≡◌, inl, inr, ℕ, ◌+◌, ◌≤◌, max, Bool, true, false, ◌&&◌, List, [], ◌∷◌, ◌++◌, length, take, drop, if◌then◌else◌, refl, sym, ◌∙◌, ap, subst, arith, append_assoc, length-append}
 use Rattle.std.proofs.lemmas.Bool.Decides.{nat_tests}
 use Rattle.std.proofs.lemmas.List.{take_at, drop_at, take_all, length-take-le, length-drop}
-use Rattle.hg_journal.specs.Device.{Cut, Elapses, Follows, Replaced, Torn}
-use Rattle.hg_journal.specs.Calls.{Answered, FileCall, Opens, Writes, Replaces, Cuts, Syncs, changed, seen_after, Leaves, MayLeave, LeftSince, is_within, all_within}
-
-pub one_more : (call : Answered) (calls : List Answered) → Elapses (length calls) (length (call ∷ calls)) (LeftSince calls) (LeftSince (call ∷ calls)) (MayLeave (call ∷ calls))
-one_more call calls = record { later = omega arith; nothing_else = λ t c le left. cases t c left; keeps = λ t c le left. inr (le, left) }
-  where
-    cases : (t : ℕ) (c : List ℕ) → LeftSince (call ∷ calls) t c → LeftSince calls t c ⊎ MayLeave (call ∷ calls) c
-    cases t c (inl now) = inr now
-    cases t c (inr past) = inl past.1
-
-pub elapses : (call : Answered) (calls new : List Answered) → new ≡ call ∷ calls → Elapses (length calls) (length new) (LeftSince calls) (LeftSince new) (MayLeave new)
-elapses call calls new is = subst (λ (l : List Answered). Elapses (length calls) (length l) (LeftSince calls) (LeftSince l) (MayLeave l)) (sym is) (one_more call calls)
-
-pub follows_write : (at : ℕ) (bytes : List ℕ) (done : Bool) (calls new : List Answered) → new ≡ (Writes at bytes, done) ∷ calls → Follows (Torn at (length bytes)) (MayLeave calls) (MayLeave new)
-follows_write at bytes done calls new is c left = subst (λ (l : List Answered). MayLeave l c) is left
-
-pub follows_replace : (at byte : ℕ) (done : Bool) (calls new : List Answered) → new ≡ (Replaces at byte, done) ∷ calls → Follows (Replaced at byte) (MayLeave calls) (MayLeave new)
-follows_replace at byte done calls new is c left = subst (λ (l : List Answered). MayLeave l c) is left
-
-pub follows_cut : (len : ℕ) (done : Bool) (calls new : List Answered) → new ≡ (Cuts len, done) ∷ calls → Follows (Cut len) (MayLeave calls) (MayLeave new)
-follows_cut len done calls new is c left = subst (λ (l : List Answered). MayLeave l c) is left
+use Rattle.hg_journal.specs.Device.{Torn}
+use Rattle.hg_journal.specs.Calls.{Answered, FileCall, Opens, Writes, Replaces, Cuts, Syncs, changed, seen_after, Leaves, MayLeave, is_within, all_within}
 
 module _ (at : ℕ) (bytes file : List ℕ) (within : at ≤ length file) where
   abbrev written : List ℕ
@@ -38,7 +19,7 @@ module _ (at : ℕ) (bytes file : List ℕ) (within : at ≤ length file) where
   length-written = omega (arith, front_size, length-append (take at file ++ bytes) (drop (at + length bytes) file), length-drop (at + length bytes) file)
 
   -- a write that was done is one that a crash may leave
-  pub written_torn : Torn at (length bytes) file written
+  written_torn : Torn at (length bytes) file written
   written_torn = record {
     before = ap (λ (l : List ℕ). take at l) (append_assoc (take at file) bytes (drop (at + length bytes) file)) ∙ take_at (take at file) (bytes ++ drop (at + length bytes) file) at size;
     after = drop_at (take at file ++ bytes) (drop (at + length bytes) file) (at + length bytes) front_size;
@@ -46,7 +27,7 @@ module _ (at : ℕ) (bytes file : List ℕ) (within : at ≤ length file) where
     no_longer = omega (arith, length-written);
   }
 
-pub same_torn : (at n : ℕ) (file : List ℕ) → Torn at n file file
+same_torn : (at n : ℕ) (file : List ℕ) → Torn at n file file
 same_torn at n file = record { before = refl; after = refl; no_shorter = omega arith; no_longer = omega arith }
 
 two : (a b : Bool) → a && b ≡ true → (a ≡ true) × (b ≡ true)
@@ -75,12 +56,13 @@ seen_left Syncs true file before within was = refl
 seen_left Syncs false file before within was = was
 
 -- so is what is seen after all of them
-pub seen_may_be_left : (calls : List Answered) → all_within calls ≡ true → MayLeave calls (seen_after calls)
+seen_may_be_left : (calls : List Answered) → all_within calls ≡ true → MayLeave calls (seen_after calls)
 seen_may_be_left [] within = refl
 seen_may_be_left (call ∷ calls) within =
     let both = two (is_within call.0 (seen_after calls)) (all_within calls) within in
     seen_left call.0 call.1 (seen_after calls) (MayLeave calls) both.0 (seen_may_be_left calls both.1)
 
+-- a sync leaves nothing new
 pub synced : (done : Bool) (calls new : List Answered) → new ≡ (Syncs, done) ∷ calls → all_within calls ≡ true → (c : List ℕ) → MayLeave new c → MayLeave calls c
 synced true calls new is within c left =
     let seen : c ≡ seen_after calls = subst (λ (l : List Answered). MayLeave l c) is left in

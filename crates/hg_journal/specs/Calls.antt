@@ -1,5 +1,5 @@
 -- What a record of a file's calls says of the file, the newest call first.
-use Rattle.std.specs.Prelude.{◌≡◌, ◌⊎◌, ℕ, ◌+◌, ◌≤◌, nat_le, nat_lt, Bool, true, false, ◌&&◌, List, [], ◌∷◌, ◌++◌, length, take, drop, if◌then◌else◌}
+use Rattle.std.specs.Prelude.{◌≡◌, ◌⊎◌, ℕ, ◌+◌, ◌≤◌, nat_le, nat_lt, Bool, true, false, ◌&&◌, ◌||◌, not, List, [], ◌∷◌, ◌++◌, length, take, drop, if◌then◌else◌}
 use Rattle.std.proofs.Common.{inl, inr, arith}
 use Rattle.hg_journal.specs.Device.{Cut, Replaced, Torn}
 
@@ -65,6 +65,16 @@ is_within Syncs file = true
 abbrev pub all_within : List Answered → Bool
 all_within [] = true
 all_within (call ∷ calls) = is_within call.0 (seen_after calls) && all_within calls
+
+-- each was done
+abbrev pub all_done : List Answered → Bool
+all_done [] = true
+all_done (call ∷ calls) = call.1 && all_done calls
+
+-- none was done after one that was not
+abbrev pub stops_at_fault : List Answered → Bool
+stops_at_fault [] = true
+stops_at_fault (call ∷ calls) = (not call.1 || all_done calls) && stops_at_fault calls
 
 -- a crash now is one of those since an earlier call
 pub counted_now : (calls : List Answered) (t : ℕ) (c : List ℕ) → MayLeave calls c → LeftSince calls t c

@@ -1,5 +1,5 @@
 -- Where the records of a journal end: at its gate, the first line feed that begins a record.
-use Rattle.std.specs.Prelude.{◌≡◌, ℕ, ◌==◌, ◌≤◌, Bool, false, List, [], ◌∷◌, ◌++◌, length, Option, Some, None, option_map, unwrap_or, if◌then◌else◌}
+use Rattle.std.specs.Prelude.{◌≡◌, ◌≢◌, ⊤, ℕ, ◌==◌, ◌<◌, ◌≤◌, Bool, false, List, [], ◌∷◌, ◌++◌, length, Option, Some, None, option_map, unwrap_or, if◌then◌else◌}
 use Rattle.hg_journal.specs.declared.gate.Place.{Place}
 use Rattle.hg_journal.specs.declared.gate.Place.TheVariants.{Start, Within, Quoted}
 
@@ -36,3 +36,13 @@ IsWhole text = before_gate Start (at_rest text) ≡ Some text
 pub record IsNoJournal (file : List ℕ) : Type 0 where
   pub no_gate : before_gate Start file ≡ None
   pub more : 2 ≤ length file
+
+-- bytes within a line: no quote sign and no line feed
+abbrev pub AreWithin : List ℕ → Type 0
+AreWithin [] = ⊤
+AreWithin (b ∷ row) = (b ≢ 34) × (b ≢ 10) × AreWithin row
+
+-- a record without quotes, and not empty
+pub record IsPlain (row : List ℕ) : Type 0 where
+  pub within : AreWithin row
+  pub some : 0 < length row

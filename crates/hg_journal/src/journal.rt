@@ -1,6 +1,6 @@
 //! A file of whole records, to which groups of records are added.
 
-ghost use Rattle.std.specs.Prelude.{◌≡◌, ◌+◌, ◌<◌, ◌≤◌, ◌^◌, ◌++◌, length, OnOk, IfOk, IsErrOf};
+ghost use Rattle.std.specs.Prelude.{◌≡◌, ◌+◌, ◌<◌, ◌≤◌, ◌^◌, ◌++◌, length, OnOk, IfOk, IfErr, IsErr, IsErrOf};
 ghost use Rattle.hg_base.specs.Faults.{Rose};
 ghost use Rattle.hg_journal.specs.Device.{LeavesOnly, Only};
 ghost use Rattle.hg_journal.specs.Gate.{IsNoJournal, IsWhole, at_rest, kept};
@@ -57,6 +57,32 @@ pub struct Journal<D: Device> {
 }
 
 impl<D: Device> Journal<D> {
+    /// Opens a file that a crash may have left, of which `file` was read. It may crash too, at any moment. An `Err` hands it back.
+    pub fn open(mut device: D, file: &[u8]) -> Result<Journal<D>, (OpenError, D)>
+        requires read { file.now ≡ D.seen device }
+        // After a restart, what is read is what is on the disk.
+        requires durable { Only (D.seen device) (D.may_leave device) }
+        ensures open { IfOk result (λ journal. IsOpen D.seen D.may_leave journal) }
+        ensures same { IfOk result (λ journal. kept (D.seen journal.device) ≡ kept file.now) }
+
+        // A crash at any moment of the call leaves a file that keeps the same.
+        ensures any_moment { IfOk result (λ journal. LeavesOnly D.moment D.left_since device journal.device
+            (λ c. kept c ≡ kept file.now)) }
+        ensures any_moment_err { IfErr result (λ e. LeavesOnly D.moment D.left_since device e.1
+            (λ c. kept c ≡ kept file.now)) }
+
+        // It does not give up by itself, and touches no file that is no journal.
+        ensures failed { IfErr result (λ e. e.0 ≡ OpenError.Failed → Rose (D.faults device) (D.faults e.1)) }
+        ensures refused { IfErr result (λ e. e.0 ≡ OpenError.NoJournal →
+            IsNoJournal file.now × (e.1 ≡ device)) }
+        ensures other { IsNoJournal file.now → IsErr result }
+    {
+        match repair(&mut device, file) {
+            Ok(end) => Ok(Journal { device, end }),
+            Err(error) => Err((error, device)),
+        }
+    }
+
     /// Adds a group of whole records. At `Ok` it is acknowledged: from then on each crash leaves a file that keeps it. At `Err`, open
     /// the file again.
     pub fn append(&mut self, group: &[u8]) -> Result<(), AppendError>
@@ -90,8 +116,8 @@ impl<D: Device> Journal<D> {
     }
 }
 
-/// Repairs the end of a file that a crash may have left, and finds its gate. It may crash too, at any moment.
-pub fn repair<D: Device>(device: &mut D, file: &[u8]) -> Result<usize, OpenError>
+// Repairs the end of a file that a crash may have left, and finds its gate.
+fn repair<D: Device>(device: &mut D, file: &[u8]) -> Result<usize, OpenError>
     requires read { file.now ≡ D.seen device.old }
     // After a restart, what is read is what is on the disk.
     requires durable { Only (D.seen device.old) (D.may_leave device.old) }

@@ -1,8 +1,8 @@
 //! A file of which nothing is known, as a device: what it holds is what its calls and their answers say.
 
-ghost use Rattle.std.specs.Prelude.{◌≡◌, [], ◌∷◌, is_ok, length, true, IsTrue};
+ghost use Rattle.std.specs.Prelude.{◌≡◌, [], ◌∷◌, is_ok, length, not, true, IsOk, IsTrue};
 ghost use Rattle.hg_journal.specs.Asked.{asked};
-ghost use Rattle.hg_journal.specs.Calls.{Opens, LeftSince, MayLeave, all_within, alone_now, counted_now, faults_in, is_within, seen_after};
+ghost use Rattle.hg_journal.specs.Calls.{Opens, LeftSince, MayLeave, all_done, all_within, alone_now, counted_now, faults_in, is_within, seen_after, stops_at_fault};
 
 use crate::calls::{Ask, Call, ToldCalls};
 use crate::device::Device;
@@ -26,6 +26,8 @@ pub struct Recorded<F> {
     told: ToldCalls,
     is_broken: bool,
     ghost within: { IsTrue (all_within told.calls) },
+    ghost broken: { is_broken ≡ not (all_done told.calls) },
+    ghost stopped: { IsTrue (stops_at_fault told.calls) },
 }
 
 impl<F> Recorded<F> {
@@ -55,9 +57,10 @@ impl<F> Recorded<F> {
 
     // Notes a call and its answer.
     fn note(&mut self, ask: Ask<'_>, answer: Result<(), Failed>) -> Result<(), Failed>
-        requires { IsTrue (is_within (asked ask) (seen_after (calls_of self.old))) }
-        ensures answer { result ≡ answer.entry }
-        ensures noted { calls_of self.new ≡ (asked ask.entry, is_ok answer.entry) ∷ calls_of self.old }
+        requires within { IsTrue (is_within (asked ask) (seen_after (calls_of self.old))) }
+        requires stopped { IsOk answer → IsTrue (all_done (calls_of self.old)) }
+        ensures answer { result ≡ answer }
+        ensures noted { calls_of self.new ≡ (asked ask.entry, is_ok answer) ∷ calls_of self.old }
     {
         self.is_broken = answer.is_err();
         self.told = self.told.then(&Call {
