@@ -2,8 +2,9 @@
 
 ghost use Rattle.std.specs.Prelude.{◌≡◌};
 
-use hg_journal::{Journal, MemoryFile, Recorded};
+use hg_journal::{FileError, Journal, MemoryFile, Recorded, open_file};
 use std::alloc::Global;
+use std::fs;
 use std::test::Fail;
 
 // A row for each count of calls that the file does: how adding the records `b` and `c` to the record `a` ends, and then what was written,
@@ -30,10 +31,22 @@ a//b = a//
 ab = refused
 ";
 
+const PATH: &str = "hg_data_trials_journal";
+
+const KEPT: &str = "\
+found Ok(()) true
+found b// Ok(()) true
+found b/b// Ok(()) true
+";
+
 fn tell_bytes(told: &mut String, bytes: &[u8]) {
     let _ = told.push(' ');
     for byte in bytes {
-        let _ = told.push(if *byte == b'\n' { '/' } else { char::from(*byte) });
+        let _ = told.push(if *byte == b'\n' {
+            '/'
+        } else {
+            char::from(*byte)
+        });
     }
 }
 
@@ -104,6 +117,22 @@ fn opened_told(alloc: Global) -> String {
     told
 }
 
+// What a file of the system contains, how adding a record to it ends, and whether another open is refused meanwhile.
+fn tell_system(rt: &HostRuntime, told: &mut String) {
+    let Ok((device, bytes)) = open_file(rt, PATH) else {
+        return;
+    };
+    let _ = told.push_str("found");
+    if !bytes.is_empty() {
+        tell_bytes(told, &bytes);
+    }
+    if let Ok(mut journal) = Journal::open(device, &bytes) {
+        let answer = journal.append(b"b\n");
+        let is_busy = matches!(open_file(rt, PATH), Err(FileError::Busy));
+        let _ = write!(told, " {answer:?} {is_busy}\n");
+    }
+}
+
 #[test]
 fn a_group_is_there_whole_or_not_at_all(rt: HostRuntime) -> Result<(), Fail> {
     assert_eq!(rt; stops_told(rt.alloc()).as_str(), TOLD);
@@ -113,5 +142,16 @@ fn a_group_is_there_whole_or_not_at_all(rt: HostRuntime) -> Result<(), Fail> {
 #[test]
 fn the_end_is_repaired(rt: HostRuntime) -> Result<(), Fail> {
     assert_eq!(rt; opened_told(rt.alloc()).as_str(), OPENED);
+    Ok(())
+}
+
+#[test]
+fn a_file_of_the_system_keeps_what_is_added(rt: HostRuntime) -> Result<(), Fail> {
+    let _ = fs::remove_file(&rt, PATH);
+    let mut told = String::new(rt.alloc());
+    for _ in 0..3 {
+        tell_system(&rt, &mut told);
+    }
+    assert_eq!(rt; told.as_str(), KEPT);
     Ok(())
 }

@@ -18,11 +18,7 @@ pub struct MemoryFile {
 
 impl MemoryFile {
     /// A file that contains this, all of it on the disk, for so many calls.
-    pub fn new(
-        alloc: Global,
-        bytes: &[u8],
-        calls_left: usize,
-    ) -> Result<MemoryFile, AllocError>
+    pub fn new(alloc: Global, bytes: &[u8], calls_left: usize) -> Result<MemoryFile, AllocError>
         ensures seen { IfOk result (λ file. memory_seen file ≡ bytes.now) }
         ensures disk { IfOk result (λ file. memory_disk file ≡ bytes.now) }
     {

@@ -80,10 +80,7 @@ fn settle(rt: &HostRuntime, file: &File, path: &str) -> io::Result<()> {
 }
 
 /// Opens a file, or makes it, locks it, and reads it whole once it is on the disk.
-pub fn open_file(
-    rt: &HostRuntime,
-    path: &str,
-) -> Result<(Recorded<SystemFile>, Vec<u8>), FileError>
+pub fn open_file(rt: &HostRuntime, path: &str) -> Result<(Recorded<SystemFile>, Vec<u8>), FileError>
     ensures { IfOk result (λ opened. calls_of opened.0 ≡ (Opens opened.1.items, true) ∷ []) }
 {
     let mut file = OpenOptions::new()
