@@ -1,5 +1,5 @@
 -- What a crash leaves while a text and a gate are written behind the end.
-use Rattle.std.proofs.Common.{◌≡◌, ℕ, ◌+◌, ◌≤◌, max, List, [], ◌∷◌, ◌++◌, length, take, sym, ◌∙◌, ap, subst, arith}
+use Rattle.std.proofs.Common.{◌≡◌, ℕ, ◌+◌, List, length, take, sym, ◌∙◌, ap, subst, arith}
 use Rattle.std.proofs.lemmas.List.{take_all, take-take}
 use Rattle.hg_journal.specs.Device.{Follows, Grown, Only, Torn}
 

@@ -1,5 +1,5 @@
 -- Calls as plain data, which a type can carry for proofs alone.
-use Rattle.std.specs.Prelude.{◌≡◌, ◌⊎◌, ℕ, Bool, List, refl}
+use Rattle.std.specs.Prelude.{◌≡◌, ◌⊎◌, ℕ, List, refl}
 use Rattle.std.specs.Coded.{Coded, code_by, coded_list, coded_ℕ, coded_bool, coded×, coded⊎}
 use mathlib.Core.Logic.{inl, inr}
 use base.Stored.{coded_unit}

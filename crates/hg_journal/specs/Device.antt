@@ -1,5 +1,5 @@
 -- What the calls of a device do to its file, what a crash may leave between two syncs, and when a crash may come.
-use Rattle.std.specs.Prelude.{◌≡◌, ◌⊎◌, ℕ, ◌+◌, ◌<◌, ◌≤◌, max, List, ◌++◌, [], ◌∷◌, length, take, drop, get_or}
+use Rattle.std.specs.Prelude.{◌≡◌, ◌⊎◌, ℕ, ◌+◌, ◌<◌, ◌≤◌, max, List, ◌++◌, [], ◌∷◌, length, take, drop}
 
 -- new is old with these bytes at this offset
 abbrev pub Holds : List ℕ → ℕ → List ℕ → List ℕ → Type 0

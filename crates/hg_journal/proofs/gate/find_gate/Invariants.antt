@@ -1,4 +1,4 @@
-use Rattle.std.proofs.Common.{◌≡◌, ◌+◌, ◌≤◌, length, drop, option_map}
+use Rattle.std.proofs.Common.{◌≡◌, ◌+◌, length, drop, option_map}
 use Rattle.hg_journal.specs.Gate.{before_gate}
 use Rattle.hg_journal.specs.declared.gate.Place.TheVariants.{Start}
 use Rattle.hg_journal.proofs.gate.find_gate.Given as goal

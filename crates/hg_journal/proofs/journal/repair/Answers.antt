@@ -1,5 +1,4 @@
-use Rattle.std.proofs.Common.{◌≡◌, ◌+◌, ◌≤◌, List, ℕ, length, take, sym, ◌∙◌, ap, arith}
-use Rattle.hg_journal.specs.Gate.{kept}
+use Rattle.std.proofs.Common.{◌+◌, List, ℕ, take, sym, ◌∙◌, ap}
 use Rattle.hg_journal.proofs.Repairs.{has_gate, cut_done, cut_again, cutting, beginning}
 use Rattle.hg_journal.proofs.journal.repair.Goals as goal
 

@@ -1,4 +1,4 @@
-use Rattle.std.proofs.Common.{◌+◌, List, ℕ, length}
+use Rattle.std.proofs.Common.{◌+◌, length}
 use Rattle.hg_journal.specs.Device.{Grown}
 use Rattle.hg_journal.proofs.Moments.{started, goes_on}
 use Rattle.hg_journal.proofs.Grows.{after_first, after_second, not_grown}

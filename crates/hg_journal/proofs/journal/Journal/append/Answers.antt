@@ -1,4 +1,4 @@
-use Rattle.std.proofs.Common.{rules, ◌≡◌, inl, ◌+◌, List, ℕ, ◌∷◌, ◌++◌, length, sym, ◌∙◌, ap, arith, length-append}
+use Rattle.std.proofs.Common.{rules, ◌≡◌, inl, ◌∷◌, length, sym, ◌∙◌, ap, arith, length-append}
 use Rattle.hg_journal.specs.Gate.{kept, at_rest}
 use Rattle.hg_journal.specs.Journal.{KeepsWithOrWithout}
 use Rattle.hg_journal.proofs.Moments.{weaker}
