@@ -8,7 +8,6 @@ use crate::recorded::{RawFile, Recorded};
 use hg_base::Failed;
 use std::fs::{self, File, OpenOptions, TryLockError};
 use std::io::{self, Read};
-use std::os::fd::AsRawFd;
 use std::os::unix::fs::FileExt;
 
 /// Why a file was not opened.
@@ -66,14 +65,10 @@ impl RawFile for SystemFile {
     }
 }
 
-// Syncs the file and its folder, and drops the copies of pages that the system keeps: after a failed sync of an earlier program they may
-// be other than the disk has them.
+// Syncs the file and its folder. It is trusted that what is read after that is on the disk, which not every system ensures if a sync of an
+// earlier program failed.
 fn settle(rt: &HostRuntime, file: &File, path: &str) -> io::Result<()> {
     file.sync_all()?;
-    let advised = libc::posix_fadvise(file.as_raw_fd(), 0, 0, libc::POSIX_FADV_DONTNEED);
-    if advised != 0 {
-        return Err(io::Error::from_raw_os_error(advised));
-    }
     let mut folder = fs::canonicalize(rt, path)?;
     folder.pop();
     File::open(rt, folder.as_str())?.sync_all()
