@@ -1,8 +1,8 @@
 -- Where the gate of a text is.
-use Rattle.std.proofs.Common.{◌≡◌, ◌≢◌, ℕ, ◌≤◌, Bool, true, false, List, [], ◌∷◌, ◌++◌, length, drop, Option, Some, None, option_map, unwrap_or, if◌then◌else◌, refl, sym, ◌∙◌, ap, subst, arith, append_assoc}
+use Rattle.std.proofs.Common.{◌≡◌, ◌≢◌, ℕ, ◌≤◌, Bool, ◌||◌, true, false, List, [], ◌∷◌, ◌++◌, length, drop, Option, Some, None, option_map, unwrap_or, if◌then◌else◌, refl, sym, ◌∙◌, ap, subst, arith, append_assoc}
 use Rattle.std.proofs.lemmas.List.{append-nil}
 use Rattle.std.proofs.lemmas.Bool.Decides.{nat_tests}
-use Rattle.hg_journal.specs.Gate.{next, is_gate, before_gate, kept, at_rest, AreWithin, IsPlain, IsWhole}
+use Rattle.hg_journal.specs.Gate.{next, is_gate, before_gate, kept, at_rest, AreWithin, IsPlain, IsWhole, place_after, has_gate}
 use Rattle.hg_journal.specs.declared.gate.Place.{Place}
 use Rattle.hg_journal.specs.declared.gate.Place.TheVariants.{Start, Within, Quoted}
 
@@ -121,3 +121,15 @@ plain_whole (b ∷ row) plain =
     ap (λ (x : Bool). then_gate x b (before_gate (next Start b) (row ++ (10 ∷ []) ++ 10 ∷ []))) (no_gate_here Start b plain.within.1)
     ∙ ap (λ (p : Place). option_map (λ t. b ∷ t) (before_gate p (row ++ (10 ∷ []) ++ 10 ∷ []))) (byte_within Start b (λ e. cc e) plain.within.0 plain.within.1)
     ∙ ap (λ (o : Option (List ℕ)). option_map (λ t. b ∷ t) o) (within_whole row plain.within.2)
+
+neither : (a b : Bool) → a || b ≡ false → (a ≡ false) × (b ≡ false)
+neither true b none = absurd (cc none)
+neither false b none = (refl, none)
+
+-- what leads to the start of a record, with no gate on the way, comes before a gate
+pub led_whole : (p : Place) (text : List ℕ) → place_after p text ≡ Start → has_gate p text ≡ false → before_gate p (text ++ 10 ∷ []) ≡ Some text
+led_whole p [] leads none = ap (λ (q : Place). before_gate q (10 ∷ [])) leads
+led_whole p (b ∷ text) leads none =
+    let both = neither (is_gate p b) (has_gate (next p b) text) none in
+    ap (λ (x : Bool). then_gate x b (before_gate (next p b) (text ++ 10 ∷ []))) both.0
+    ∙ ap (λ (o : Option (List ℕ)). option_map (λ t. b ∷ t) o) (led_whole (next p b) text leads both.1)

@@ -1,5 +1,5 @@
 -- Where the records of a journal end: at its gate, the first line feed that begins a record.
-use Rattle.std.specs.Prelude.{◌≡◌, ◌≢◌, ⊤, ℕ, ◌==◌, ◌<◌, ◌≤◌, Bool, false, List, [], ◌∷◌, ◌++◌, length, Option, Some, None, option_map, unwrap_or, if◌then◌else◌}
+use Rattle.std.specs.Prelude.{◌≡◌, ◌≢◌, ⊤, ℕ, ◌==◌, ◌<◌, ◌≤◌, Bool, false, ◌||◌, List, [], ◌∷◌, ◌++◌, length, Option, Some, None, option_map, unwrap_or, if◌then◌else◌}
 use Rattle.hg_journal.specs.declared.gate.Place.{Place}
 use Rattle.hg_journal.specs.declared.gate.Place.TheVariants.{Start, Within, Quoted}
 
@@ -46,3 +46,13 @@ AreWithin (b ∷ row) = (b ≢ 34) × (b ≢ 10) × AreWithin row
 pub record IsPlain (row : List ℕ) : Type 0 where
   pub within : AreWithin row
   pub some : 0 < length row
+
+-- where bytes lead from a place
+abbrev pub place_after : Place → List ℕ → Place
+place_after place [] = place
+place_after place (b ∷ bytes) = place_after (next place b) bytes
+
+-- whether one of some bytes is a gate, read from a place
+abbrev pub has_gate : Place → List ℕ → Bool
+has_gate place [] = false
+has_gate place (b ∷ bytes) = is_gate place b || has_gate (next place b) bytes
