@@ -13,6 +13,7 @@ from scripts import Chance, accounts, any_script, head, long_readers, made, many
 from scripts import rounds_beside_a_reader
 
 MOST_BYTES = 16_777_216
+MOST_AUDIT_BYTES = 1_073_741_824
 MOST_RECORDS = 1_048_576
 
 

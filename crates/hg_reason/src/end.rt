@@ -83,6 +83,14 @@ fn lack_of(words: &[String]) -> Lack {
     }
 }
 
+fn lack_of_bytes(words: &[String]) -> Lack {
+    if is_audit(words) {
+        Lack::AuditedBytes
+    } else {
+        Lack::Bytes
+    }
+}
+
 // The reason of a status, if there is more to say than the status does.
 fn reason_of(alloc: Global, call: &Call<'_>, status: Status) -> Result<Option<Reason>, NoMemory> {
     match status {
@@ -97,7 +105,8 @@ fn reason_of(alloc: Global, call: &Call<'_>, status: Status) -> Result<Option<Re
         },
         Status::ReadFault => explain_fault(alloc, "standard input", call.fault),
         Status::WriteFault => explain_fault(alloc, "standard output", call.fault),
-        Status::TooLong => Ok(Some(advise(alloc, Lack::Bytes)?)),
+        Status::TooLong => Ok(Some(advise(alloc, lack_of_bytes(call.words))?)),
+        Status::LongInput => Ok(Some(advise(alloc, Lack::Input)?)),
         Status::NoMemory => Ok(Some(advise(alloc, lack_of(call.words))?)),
         Status::Spent => Ok(Some(advise(alloc, Lack::Statements)?)),
     }

@@ -2,6 +2,7 @@
 
 use crate::reason::Reason;
 use hg_base::{MOST_SCRIPT_BYTES, NoMemory};
+use hg_streams::MOST_AUDIT_BYTES;
 use std::alloc::Global;
 
 /// What a call ran out of.
@@ -12,6 +13,10 @@ pub enum Lack {
     LiveMemory,
     /// The input is longer than a script may be.
     Bytes,
+    /// So is the script of an audit.
+    AuditedBytes,
+    /// The input of an audit is longer than it may be.
+    Input,
     Statements,
 }
 
@@ -29,6 +34,18 @@ pub fn advise(alloc: Global, lack: Lack) -> Result<Reason, NoMemory> {
         Lack::Bytes => {
             let text = format!(in alloc;
                 "the input goes on after {MOST_SCRIPT_BYTES} bytes; divide it, or send it to hybridgc live, where its length has no limit"
+            )?;
+            Reason::new(alloc, text.as_str())
+        }
+        Lack::AuditedBytes => {
+            let text = format!(in alloc;
+                "the script is what comes before the line ====, and may have {MOST_SCRIPT_BYTES} bytes"
+            )?;
+            Reason::new(alloc, text.as_str())
+        }
+        Lack::Input => {
+            let text = format!(in alloc;
+                "script and output together may have {MOST_AUDIT_BYTES} bytes; divide the script, and audit each output"
             )?;
             Reason::new(alloc, text.as_str())
         }

@@ -9,7 +9,7 @@ use Rattle.hg_base.specs.declared.line.Totals.{Totals}
 use Rattle.hg_records.specs.Bytes.{record_bytes}
 use Rattle.hg_streams.specs.Status.{status_of_words}
 use Rattle.hg_streams.specs.declared.status.Status.{Status}
-use Rattle.hg_streams.specs.declared.status.Status.TheVariants.{Done, Usage, BadScript, ReadFault, WriteFault, TooLong, NoMemory, Spent}
+use Rattle.hg_streams.specs.declared.status.Status.TheVariants.{Done, Usage, BadScript, ReadFault, WriteFault, TooLong, LongInput, NoMemory, Spent}
 use Rattle.hg_words.specs.Live.{live_options_of}
 use Rattle.hg_words.specs.declared.options.WordsRefusal.{WordsRefusal}
 use Rattle.hg_words.specs.declared.options.WordsRefusal.TheVariants as refusal
@@ -171,6 +171,7 @@ module _ (words : List (List ℕ)) (log new : List Event) (before mid now : ℕ)
   over_told (BadScript line code) wrote = absurd wrote
   over_told ReadFault wrote = absurd wrote
   over_told TooLong wrote = absurd wrote
+  over_told LongInput wrote = absurd wrote
   over_told Spent wrote = absurd wrote
 
 -- it was stopped

@@ -7,7 +7,7 @@ use Rattle.hg_base.specs.Text.{totals_records}
 use Rattle.hg_base.specs.Transcript.{history_of}
 use Rattle.hg_records.specs.Bytes.{record_bytes}
 use Rattle.hg_streams.specs.declared.status.Status.{Status}
-use Rattle.hg_streams.specs.declared.status.Status.TheVariants.{Done, Usage, BadScript, ReadFault, WriteFault, TooLong, NoMemory, Spent}
+use Rattle.hg_streams.specs.declared.status.Status.TheVariants.{Done, Usage, BadScript, ReadFault, WriteFault, TooLong, LongInput, NoMemory, Spent}
 use Rattle.hg_words.specs.Live.{live_options_of}
 use Rattle.hg_talk.specs.declared.trouble.Stop.TheVariants as stop
 use Rattle.hg_talk.specs.declared.trouble.Trouble.{Trouble}
@@ -93,6 +93,7 @@ EndsWith words log before now heard answers NoMemory = AreWritten log heard
 EndsWith words log before now heard answers Spent = IsSpent (asked_in heard) × AreWritten log heard
 EndsWith words log before now heard answers (BadScript line code) = ⊥
 EndsWith words log before now heard answers TooLong = ⊥
+EndsWith words log before now heard answers LongInput = ⊥
 
 -- A conversation: what was heard of the client, the first records of what it sent, was answered by what is conversed; nothing was withheld;
 -- and it ended so.

@@ -12,16 +12,28 @@ use Rattle.hg_exact.specs.Replayed.{plain, replayed}
 use Rattle.hg_script.specs.declared.code.Code.{Code}
 use Rattle.hg_script.specs.Fields.{rows_of}
 use Rattle.hg_script.specs.Meaning.{refusal_of, script_of}
+use Rattle.hg_streams.specs.declared.limits.TheConstants.{MOST_AUDIT_BYTES}
 use Rattle.hg_streams.specs.declared.status.Status.{Status}
-use Rattle.hg_streams.specs.declared.status.Status.TheVariants.{Done, Usage, BadScript, ReadFault, WriteFault, TooLong, NoMemory, Spent}
+use Rattle.hg_streams.specs.declared.status.Status.TheVariants.{Done, Usage, BadScript, ReadFault, WriteFault, TooLong, LongInput, NoMemory, Spent}
 use Rattle.hg_seed.specs.Generator.{IsMade}
 use Rattle.hg_streams.specs.Parting.{AreParts}
 use Rattle.hg_streams.specs.Streams.{Change, FailsToRead, Gives, IsTooLong, ReadsAll, Took, WriteFailed}
 use Rattle.hg_words.specs.Options.{options_of}
-use Rattle.hg_run.specs.Words.{AsksFor, IsMaking, IsReading, Settings, Task, audits, dumps, makes, reads}
+use Rattle.hg_run.specs.Words.{AsksFor, IsMaking, IsReading, Settings, Task, audits, dumps, makes, reads, task_of}
 use Rattle.hg_run.specs.Dumping.{IsDumpedFor}
 use Rattle.hg_run.specs.Printing.{AreTotalsOf, IsPrintedFor}
 use Rattle.hg_run.specs.Judging.{IsJudgedBy}
+
+-- how many bytes the source may have; one that no task reads has none
+abbrev pub most_bytes : Task → ℕ
+most_bytes (reads settings) = MOST_SCRIPT_BYTES
+most_bytes (makes seed settings) = 0
+most_bytes audits = MOST_AUDIT_BYTES
+most_bytes (dumps settings) = MOST_SCRIPT_BYTES
+
+-- the same by the words
+abbrev pub most_asked : List (List ℕ) → ℕ
+most_asked words = elim (options_of words) [ Some options ↦ most_bytes (task_of options) | None ↦ 0 ]
 
 -- ---- what the bytes of a script mean
 
@@ -35,18 +47,18 @@ pub record IsDumpFor (settings : Settings) (bytes text : List ℕ) : Type 0 wher
   pub valid : refusal_of (rows_of bytes) ≡ None
   pub dumped : IsDumpedFor settings (script_of (rows_of bytes)) text
 
--- a text of which P holds with all the bytes of the source
-pub record AnswersSource (P : List ℕ → List ℕ → Type 0) (source : Change Inflow) (text : List ℕ) : Type 0 where
+-- a text of which P holds with all the bytes of the source, at most so many
+pub record AnswersSource (most : ℕ) (P : List ℕ → List ℕ → Type 0) (source : Change Inflow) (text : List ℕ) : Type 0 where
   pub bytes : List ℕ
-  pub all : ReadsAll source bytes
+  pub all : ReadsAll most source bytes
   pub text_for : P bytes text
 
 -- a text that does what is asked
 abbrev pub Answers : Task → Change Inflow → List ℕ → Type 0
-Answers (reads settings) source text = AnswersSource (IsTextFor settings) source text
+Answers (reads settings) source text = AnswersSource MOST_SCRIPT_BYTES (IsTextFor settings) source text
 Answers (makes seed settings) source text = AreTotalsOf seed settings text
-Answers audits source text = AnswersSource IsJudgedBy source text
-Answers (dumps settings) source text = AnswersSource (IsDumpFor settings) source text
+Answers audits source text = AnswersSource MOST_AUDIT_BYTES IsJudgedBy source text
+Answers (dumps settings) source text = AnswersSource MOST_SCRIPT_BYTES (IsDumpFor settings) source text
 
 -- ---- what was done with them
 
@@ -57,16 +69,44 @@ IsScriptIn (makes seed settings) bytes script = ⊥
 IsScriptIn audits bytes script = (text : List ℕ) × AreParts bytes script text
 IsScriptIn (dumps settings) bytes script = script ≡ bytes
 
+-- the same of bytes that are no more than an audit's may be
+abbrev pub HoldsScript : Task → List ℕ → List ℕ → Type 0
+HoldsScript (reads settings) bytes script = IsScriptIn (reads settings) bytes script
+HoldsScript (makes seed settings) bytes script = ⊥
+HoldsScript audits bytes script = IsScriptIn audits bytes script × (length bytes ≤ MOST_AUDIT_BYTES)
+HoldsScript (dumps settings) bytes script = IsScriptIn (dumps settings) bytes script
+
+-- the script has more bytes than one may have
+pub record HasLongScript (task : Task) (bytes : List ℕ) : Type 0 where
+  pub script : List ℕ
+  pub within : IsScriptIn task bytes script
+  pub long : MOST_SCRIPT_BYTES < length script
+
+-- The script in the source has. An audit reads the source to its end; otherwise no more is read than a byte too many.
+abbrev pub GivesLongScript : Task → Change Inflow → Type 0
+GivesLongScript (reads settings) source = IsTooLong MOST_SCRIPT_BYTES source
+GivesLongScript (makes seed settings) source = ⊥
+GivesLongScript audits source = (bytes : List ℕ) × ReadsAll MOST_AUDIT_BYTES source bytes × HasLongScript audits bytes
+GivesLongScript (dumps settings) source = IsTooLong MOST_SCRIPT_BYTES source
+
+-- the source of an audit gave a byte too many, and no more was read
+abbrev pub GivesLongInput : Task → Change Inflow → Type 0
+GivesLongInput (reads settings) source = ⊥
+GivesLongInput (makes seed settings) source = ⊥
+GivesLongInput audits source = IsTooLong MOST_AUDIT_BYTES source
+GivesLongInput (dumps settings) source = ⊥
+
 -- the first record of the script that breaks a rule, and its first code
 pub record RefusesScript (task : Task) (bytes : List ℕ) (line : ℕ) (code : Code) : Type 0 where
   pub script : List ℕ
   pub within : IsScriptIn task bytes script
+  pub short : length script ≤ MOST_SCRIPT_BYTES
   pub first : refusal_of (rows_of script) ≡ Some (line, code)
 
 -- the same of the script in the source
 pub record Refuses (task : Task) (source : Change Inflow) (line : ℕ) (code : Code) : Type 0 where
   pub bytes : List ℕ
-  pub all : ReadsAll source bytes
+  pub all : ReadsAll (most_bytes task) source bytes
   pub refused : RefusesScript task bytes line code
 
 -- the sink took the whole text
@@ -78,7 +118,7 @@ pub record WritesAll (task : Task) (source : Change Inflow) (sink : Change Outfl
 -- what the bytes of the source mean, which break no rule
 pub record IsReadFrom (source : Change Inflow) (script : Script) : Type 0 where
   pub bytes : List ℕ
-  pub all : ReadsAll source bytes
+  pub all : ReadsAll MOST_SCRIPT_BYTES source bytes
   pub valid : refusal_of (rows_of bytes) ≡ None
   pub same : script ≡ script_of (rows_of bytes)
 
@@ -113,9 +153,10 @@ abbrev pub Comes : List (List ℕ) → Change Inflow → Change Outflow → Stat
 Comes words source sink Done = AsksFor words (λ task. WritesAll task source sink)
 Comes words source sink Usage = options_of words ≡ None
 Comes words source sink (BadScript line code) = AsksFor words (λ task. Refuses task source line code)
-Comes words source sink ReadFault = AsksFor words (λ task. IsReading task × FailsToRead source)
+Comes words source sink ReadFault = AsksFor words (λ task. IsReading task × FailsToRead (most_bytes task) source)
 Comes words source sink WriteFault = AsksFor words (λ task. WritesPart task source sink)
-Comes words source sink TooLong = AsksFor words (λ task. IsReading task × IsTooLong source)
+Comes words source sink TooLong = AsksFor words (λ task. GivesLongScript task source)
+Comes words source sink LongInput = AsksFor words (λ task. GivesLongInput task source)
 Comes words source sink NoMemory = ⊤
 Comes words source sink Spent = ⊥
 
@@ -133,11 +174,12 @@ IsUnlessNoMemory status wanted = (status ≡ wanted) ⊎ (status ≡ NoMemory)
 -- the script's bytes alone, which are all of them, or those before the line that parts them. A script that is made is replayed whatever
 -- the source holds.
 pub record IsDecided (words : List (List ℕ)) (source : Change Inflow) (sink : Change Outflow) (status : Status) : Type 0 where
-  pub complete : (bytes script : List ℕ) → AsksFor words (λ task. IsScriptIn task bytes script) → Gives source bytes → length bytes ≤ MOST_SCRIPT_BYTES →
+  pub complete : (bytes script : List ℕ) → AsksFor words (λ task. HoldsScript task bytes script) → Gives source bytes → length script ≤ MOST_SCRIPT_BYTES →
       refusal_of (rows_of script) ≡ None → (WriteFailed sink → ⊥) → IsUnlessNoMemory status Done
-  pub bad_script : (bytes script : List ℕ) (line : ℕ) (code : Code) → AsksFor words (λ task. IsScriptIn task bytes script) → Gives source bytes → length bytes ≤ MOST_SCRIPT_BYTES →
+  pub bad_script : (bytes script : List ℕ) (line : ℕ) (code : Code) → AsksFor words (λ task. HoldsScript task bytes script) → Gives source bytes → length script ≤ MOST_SCRIPT_BYTES →
       refusal_of (rows_of script) ≡ Some (line, code) → IsUnlessNoMemory status (BadScript line code)
-  pub too_long : (bytes : List ℕ) → AsksFor words IsReading → Gives source bytes → MOST_SCRIPT_BYTES < length bytes → IsUnlessNoMemory status TooLong
+  pub too_long : (bytes script : List ℕ) → AsksFor words (λ task. HoldsScript task bytes script) → Gives source bytes → MOST_SCRIPT_BYTES < length script → IsUnlessNoMemory status TooLong
+  pub long_input : (bytes : List ℕ) → AsksFor words (λ task. task ≡ audits) → Gives source bytes → MOST_AUDIT_BYTES < length bytes → IsUnlessNoMemory status LongInput
   pub loaded : AsksFor words IsMaking → (WriteFailed sink → ⊥) → IsUnlessNoMemory status Done
 
 -- ---- what the steps refuse
@@ -145,14 +187,16 @@ pub record IsDecided (words : List (List ℕ)) (source : Change Inflow) (sink : 
 -- why bytes have no text
 abbrev pub RefusesBytes : Task → List ℕ → Status → Type 0
 RefusesBytes task bytes (BadScript line code) = RefusesScript task bytes line code
+RefusesBytes task bytes TooLong = HasLongScript task bytes
 RefusesBytes task bytes NoMemory = ⊤
 RefusesBytes task bytes _ = ⊥
 
 -- why a source has no text
 abbrev pub RefusesSource : Task → Change Inflow → Status → Type 0
 RefusesSource task source (BadScript line code) = Refuses task source line code
-RefusesSource task source ReadFault = FailsToRead source
-RefusesSource task source TooLong = IsTooLong source
+RefusesSource task source ReadFault = FailsToRead (most_bytes task) source
+RefusesSource task source TooLong = GivesLongScript task source
+RefusesSource task source LongInput = GivesLongInput task source
 RefusesSource task source NoMemory = ⊤
 RefusesSource task source _ = ⊥
 

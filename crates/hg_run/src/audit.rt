@@ -6,7 +6,7 @@ ghost use Rattle.hg_run.specs.Serving.{RefusesBytes};
 ghost use Rattle.hg_run.specs.Words.{audits};
 
 use hg_audit::{Verdict, audit, verdict_line};
-use hg_base::NoMemory;
+use hg_base::{MOST_SCRIPT_BYTES, NoMemory};
 use hg_script::read_script;
 use hg_streams::{Status, part};
 use std::alloc::Global;
@@ -17,6 +17,9 @@ pub(crate) fn verdict_on(alloc: Global, bytes: &[u8]) -> Result<Verdict, Status>
     ensures refused { IfErr result (RefusesBytes audits bytes.now) }
 {
     let (script, text) = part(bytes);
+    if script.len() > MOST_SCRIPT_BYTES {
+        return Err(Status::TooLong);
+    }
     let script = read_script(alloc, script)?;
     Ok(audit(alloc, &script, text)?)
 }

@@ -6,8 +6,8 @@ ghost use Rattle.hg_script.specs.Lawful.{IsLawful};
 ghost use Rattle.hg_words.specs.Options.{AreWithin, options_of};
 ghost use Rattle.hg_run.specs.Printing.{IsPrintedFor};
 ghost use Rattle.hg_run.specs.Words.{AsksFor, IsMaking, Settings, audits, dumps, reads, settings_in, settings_of, task_of};
-ghost use Rattle.hg_run.specs.Serving.{Answers, Comes, IsDecided, IsReadFrom, IsUnlessNoMemory, RefusesTask, WritesAll, WritesExactly, may_write};
-ghost use Rattle.hg_streams.specs.Streams.{HasGiven, change_of};
+ghost use Rattle.hg_run.specs.Serving.{Answers, Comes, IsDecided, IsReadFrom, IsUnlessNoMemory, RefusesTask, WritesAll, WritesExactly, may_write, most_asked, most_bytes};
+ghost use Rattle.hg_streams.specs.Streams.{HasGiven, ReadsAll, change_of};
 
 use crate::audit::{bytes_of, verdict_on};
 use crate::dump_text::dump_all;
@@ -17,7 +17,7 @@ use crate::run_text::run_all;
 use hg_audit::Verdict;
 use hg_base::{Failed, Gate, MOST_SCRIPT_BYTES, NoMemory, Sink, Source};
 use hg_script::{Script, read_script};
-use hg_streams::{Status, read_all, write_all};
+use hg_streams::{MOST_AUDIT_BYTES, ReadError, Status, read_all, write_all};
 use hg_words::{Command, Options, read_words};
 use std::alloc::Global;
 use std::sync::Wait;
@@ -34,7 +34,7 @@ fn script_of_source<S: Source>(alloc: Global, source: &mut S) -> Result<Script, 
     ensures no_more { HasGiven (MOST_SCRIPT_BYTES + 1)
         (change_of S.flow source.old source.new) }
 {
-    let bytes = read_all(alloc, source)?;
+    let bytes = read_all(alloc, source, MOST_SCRIPT_BYTES)?;
     match read_script(alloc, &bytes) {
         Ok(script) => {
             free(bytes);
@@ -127,16 +127,32 @@ fn give_back_if<S: Source>(is_refused: bool, source: &mut S, bytes: Vec<u8>)
     }
 }
 
+// All bytes of an audit.
+fn read_audit<S: Source>(alloc: Global, source: &mut S) -> Result<Vec<u8>, Status>
+    ensures all { IfOk result (λ bytes.
+        ReadsAll MOST_AUDIT_BYTES (change_of S.flow source.old source.new) bytes.items) }
+    ensures refused { IfErr result
+        (RefusesTask audits (change_of S.flow source.old source.new)) }
+    ensures no_more { HasGiven (MOST_AUDIT_BYTES + 1)
+        (change_of S.flow source.old source.new) }
+{
+    match read_all(alloc, source, MOST_AUDIT_BYTES) {
+        Ok(bytes) => Ok(bytes),
+        Err(ReadError::TooLong) => Err(Status::LongInput),
+        Err(error) => Err(Status::from(error)),
+    }
+}
+
 // The line of the verdict on the text that follows the script in a source, which gets its bytes back unless the text is sound.
 fn audit_source<S: Source>(alloc: Global, source: &mut S) -> Result<Vec<u8>, Status>
     ensures text { IfOk result
         (λ text. Answers audits (change_of S.flow source.old source.new) text.items) }
     ensures refused { IfErr result
         (RefusesTask audits (change_of S.flow source.old source.new)) }
-    ensures no_more { HasGiven (MOST_SCRIPT_BYTES + 1)
+    ensures no_more { HasGiven (MOST_AUDIT_BYTES + 1)
         (change_of S.flow source.old source.new) }
 {
-    let bytes = read_all(alloc, source)?;
+    let bytes = read_audit(alloc, source)?;
     let verdict = verdict_on(alloc, &bytes);
     give_back_if(verdict != Ok(Verdict::Sound), source, bytes);
     Ok(bytes_of(alloc, verdict?)?)
@@ -157,7 +173,7 @@ fn text_for<R: Threads + Wait + Sync, S: Source, G: Gate + Sync>(
     ensures refused { IfErr result
         (RefusesTask (task_of options.now) (change_of S.flow source.old source.new)) }
     ensures unread { IsMaking (task_of options.now) → source.new ≡ source.old }
-    ensures no_more { HasGiven (MOST_SCRIPT_BYTES + 1)
+    ensures no_more { HasGiven (most_bytes (task_of options.now) + 1)
         (change_of S.flow source.old source.new) }
 {
     match options.command {
@@ -184,7 +200,7 @@ fn outcome<R: Threads + Wait + Sync, So: Source, Si: Sink, G: Gate + Sync>(
         IsUnlessNoMemory result Status.Usage }
     ensures unread { result ≡ Status.Usage → source.new ≡ source.old }
     ensures made { AsksFor (map string_bytes words.now) IsMaking → source.new ≡ source.old }
-    ensures no_more { HasGiven (MOST_SCRIPT_BYTES + 1)
+    ensures no_more { HasGiven (most_asked (map string_bytes words.now) + 1)
         (change_of So.flow source.old source.new) }
     ensures untouched { IsFalse (may_write result) → sink.new ≡ sink.old }
 {
@@ -238,8 +254,8 @@ pub fn serve<R: Threads + Wait + Sync, So: Source, Si: Sink, G: Gate + Sync>(
     ensures made { AsksFor (map string_bytes words.now) IsMaking → source.new ≡ source.old }
     ensures untouched { IsFalse (may_write result) → sink.new ≡ sink.old }
 
-    // However the call ends, at most one byte more than a script may have was read.
-    ensures no_more { HasGiven (MOST_SCRIPT_BYTES + 1)
+    // However the call ends, at most one byte was read more than the words allow: than a script may have, or the input of an audit.
+    ensures no_more { HasGiven (most_asked (map string_bytes words.now) + 1)
         (change_of So.flow source.old source.new) }
 
     // What the source holds decides the answer, where memory is found.

@@ -5,14 +5,14 @@ ghost use Rattle.hg_memory.specs.Memory.{steady_inflow, steady_outflow};
 ghost use Rattle.hg_script.specs.declared.code.Code.{Code};
 ghost use Rattle.hg_script.specs.Fields.{rows_of};
 ghost use Rattle.hg_script.specs.Meaning.{refusal_of};
-ghost use Rattle.hg_run.specs.Words.{AsksFor, IsMaking, IsReading};
-ghost use Rattle.hg_run.specs.Serving.{Comes, IsScriptIn, IsUnlessNoMemory, WritesAll, WritesExactly, may_write};
+ghost use Rattle.hg_run.specs.Words.{AsksFor, IsMaking, audits};
+ghost use Rattle.hg_run.specs.Serving.{Comes, HoldsScript, IsUnlessNoMemory, WritesAll, WritesExactly, may_write, most_asked};
 ghost use Rattle.hg_streams.specs.Streams.{HasGiven, change_of};
 
 use hg_base::{Gate, MOST_SCRIPT_BYTES};
 use hg_memory::{SteadySink, SteadySource};
 use hg_run::serve;
-use hg_streams::Status;
+use hg_streams::{MOST_AUDIT_BYTES, Status};
 use std::alloc::Global;
 use std::sync::Wait;
 use std::thread::Threads;
@@ -41,22 +41,24 @@ pub fn serve_steadily<R: Threads + Wait + Sync, G: Gate + Sync>(
         (change_of steady_inflow source.old source.new)
         (change_of steady_outflow sink.old sink.new) result }
     ensures untouched { IsFalse (may_write result) → sink.new ≡ sink.old }
-    ensures no_more { HasGiven (MOST_SCRIPT_BYTES + 1)
+    ensures no_more { HasGiven (most_asked (map string_bytes words.now) + 1)
         (change_of steady_inflow source.old source.new) }
 
     // The bytes of the source decide.
     ensures complete { (script : List ℕ) →
-        AsksFor (map string_bytes words.now) (λ task. IsScriptIn task source.old.left script) →
-        length source.old.left ≤ MOST_SCRIPT_BYTES → refusal_of (rows_of script) ≡ None →
+        AsksFor (map string_bytes words.now) (λ task. HoldsScript task source.old.left script) →
+        length script ≤ MOST_SCRIPT_BYTES → refusal_of (rows_of script) ≡ None →
         IsUnlessNoMemory result Status.Done }
     ensures bad_script { (script : List ℕ) (line : ℕ) (code : Code) →
-        AsksFor (map string_bytes words.now) (λ task. IsScriptIn task source.old.left script) →
-        length source.old.left ≤ MOST_SCRIPT_BYTES →
+        AsksFor (map string_bytes words.now) (λ task. HoldsScript task source.old.left script) →
+        length script ≤ MOST_SCRIPT_BYTES →
         refusal_of (rows_of script) ≡ Some (line, code) →
         IsUnlessNoMemory result (Status.BadScript line code) }
-    ensures too_long { AsksFor (map string_bytes words.now) IsReading →
-        MOST_SCRIPT_BYTES < length source.old.left →
-        IsUnlessNoMemory result Status.TooLong }
+    ensures too_long { (script : List ℕ) →
+        AsksFor (map string_bytes words.now) (λ task. HoldsScript task source.old.left script) →
+        MOST_SCRIPT_BYTES < length script → IsUnlessNoMemory result Status.TooLong }
+    ensures long_input { AsksFor (map string_bytes words.now) (λ task. task ≡ audits) →
+        MOST_AUDIT_BYTES < length source.old.left → IsUnlessNoMemory result Status.LongInput }
     ensures loaded { AsksFor (map string_bytes words.now) IsMaking →
         IsUnlessNoMemory result Status.Done }
 {

@@ -6,10 +6,11 @@ use Rattle.hg_script.specs.declared.refusal.ScriptRefusal.{ScriptRefusal}
 use Rattle.hg_script.specs.declared.refusal.ScriptRefusal.TheVariants as refusal
 use Rattle.hg_words.specs.declared.options.WordsRefusal.{WordsRefusal}
 use Rattle.hg_words.specs.declared.options.WordsRefusal.TheVariants as words
+use Rattle.hg_streams.specs.declared.limits.TheConstants.{MOST_AUDIT_BYTES}
 use Rattle.hg_streams.specs.declared.source.ReadError.{ReadError}
 use Rattle.hg_streams.specs.declared.source.ReadError.TheVariants as error
 use Rattle.hg_streams.specs.declared.status.Status.{Status}
-use Rattle.hg_streams.specs.declared.status.Status.TheVariants.{Done, Usage, BadScript, ReadFault, WriteFault, TooLong, NoMemory, Spent}
+use Rattle.hg_streams.specs.declared.status.Status.TheVariants.{Done, Usage, BadScript, ReadFault, WriteFault, TooLong, LongInput, NoMemory, Spent}
 
 -- the exit status of the program
 abbrev pub exit_code_of : Status → ℕ
@@ -21,6 +22,7 @@ exit_code_of WriteFault = 5
 exit_code_of TooLong = 6
 exit_code_of NoMemory = 7
 exit_code_of Spent = 8
+exit_code_of LongInput = 9
 
 -- what the program says of a status
 abbrev pub said_of : Status → List ℕ
@@ -30,6 +32,7 @@ said_of (BadScript line code) = codes "script record " ++ decimal line ++ codes 
 said_of ReadFault = codes "read fault"
 said_of WriteFault = codes "write fault"
 said_of TooLong = codes "script longer than " ++ decimal MOST_SCRIPT_BYTES ++ codes " bytes"
+said_of LongInput = codes "input longer than " ++ decimal MOST_AUDIT_BYTES ++ codes " bytes"
 said_of NoMemory = codes "out of memory"
 said_of Spent = codes "no statement left"
 

@@ -1,7 +1,6 @@
 -- What a source and a sink tell of a call.
 use Rattle.std.specs.Prelude.{◌≡◌, ℕ, ◌+◌, ◌≤◌, List, ◌++◌, length, true, Some}
 use Rattle.std.specs.Io.KnownBytes.{Consumes, IsAtEnd}
-use Rattle.hg_base.specs.declared.limits.TheConstants.{MOST_SCRIPT_BYTES}
 use Rattle.hg_base.specs.Faults.{Rose}
 use Rattle.hg_base.specs.Flows.{Inflow, Outflow}
 
@@ -41,22 +40,22 @@ pub record HasGiven (most : ℕ) (source : Change Inflow) : Type 0 where
   pub gave : Gave source bytes
   pub few : length bytes ≤ most
 
--- the bytes are all that the source gave up to its end, and no more than a script may have
-pub record ReadsAll (source : Change Inflow) (bytes : List ℕ) : Type 0 where
+-- the bytes are all that the source gave up to its end, and at most so many
+pub record ReadsAll (most : ℕ) (source : Change Inflow) (bytes : List ℕ) : Type 0 where
   pub gave : Gave source bytes
   pub end : IsOver source.new
-  pub short : length bytes ≤ MOST_SCRIPT_BYTES
+  pub short : length bytes ≤ most
 
--- the source gave one byte more than a script may have, and no more was read
-pub record IsTooLong (source : Change Inflow) : Type 0 where
+-- the source gave one byte more than so many, and no more was read
+pub record IsTooLong (most : ℕ) (source : Change Inflow) : Type 0 where
   pub bytes : List ℕ
   pub gave : Gave source bytes
-  pub long : length bytes ≡ MOST_SCRIPT_BYTES + 1
+  pub long : length bytes ≡ most + 1
 
--- a read failed, and before it the source had given no more than a script may have
-pub record FailsToRead (source : Change Inflow) : Type 0 where
+-- a read failed, and before it the source had given at most so many bytes
+pub record FailsToRead (most : ℕ) (source : Change Inflow) : Type 0 where
   pub failed : ReadFailed source
-  pub within : HasGiven MOST_SCRIPT_BYTES source
+  pub within : HasGiven most source
 
 -- ---- a sink
 

@@ -3,6 +3,7 @@
 ghost use Rattle.std.specs.Prelude.{◌≡◌};
 ghost use Rattle.hg_streams.specs.Status.{exit_code_of};
 
+use crate::limits::MOST_AUDIT_BYTES;
 use crate::source::ReadError;
 use hg_base::{MOST_SCRIPT_BYTES, NoMemory};
 use hg_script::{Code, ScriptRefusal};
@@ -20,8 +21,10 @@ pub enum Status {
     BadScript { line: u64, code: Code },
     ReadFault,
     WriteFault,
-    /// The source gave a byte more than a script may have.
+    /// The script has more bytes than a script may have.
     TooLong,
+    /// The input of an audit has more bytes than it may have.
+    LongInput,
     NoMemory,
     /// A conversation has had as many statements or records as it may.
     Spent,
@@ -41,6 +44,7 @@ impl Status {
             Status::TooLong => 6,
             Status::NoMemory => 7,
             Status::Spent => 8,
+            Status::LongInput => 9,
         }
     }
 }
@@ -62,6 +66,7 @@ impl fmt::Display for Status {
             Status::ReadFault => f.write_str("read fault"),
             Status::WriteFault => f.write_str("write fault"),
             Status::TooLong => write!(f, "script longer than {MOST_SCRIPT_BYTES} bytes"),
+            Status::LongInput => write!(f, "input longer than {MOST_AUDIT_BYTES} bytes"),
             Status::NoMemory => f.write_str("out of memory"),
             Status::Spent => f.write_str("no statement left"),
         }

@@ -103,14 +103,15 @@ fn a_sink_that_fails_keeps_what_it_took(rt: HostRuntime) {
     assert_eq!(rt; sink.bytes(), b"tota".as_slice());
 }
 
-// How a replay ends that reads so many bytes `1`, and whether each call of its source and its sink was as it has to be.
+// How a call ends that reads so many bytes `1` and may read so many, and whether each call of its source and its sink was as it has to be.
 fn watched_end<R: Threads + Wait + Sync>(
     rt: &R,
     alloc: Global,
     words: &[String],
     length: usize,
+    most: usize,
 ) -> (Status, bool) {
-    let mut source = WatchedSource::new(length);
+    let mut source = WatchedSource::new(length, most);
     let mut sink = WatchedSink::new();
     let status = serve(rt, alloc, words, &mut source, &mut sink, &NoGate);
     let is_well = source.is_well_asked && sink.is_well_given;
@@ -134,8 +135,22 @@ fn wanted_end(length: usize) -> Status {
 fn calls_have_their_lengths(rt: HostRuntime) {
     let words = one_word(rt.alloc(), "replay").expect(&rt, "words");
     for length in [0, 5_000_000, 16_777_215, 16_777_216, 16_777_217, 20_000_000] {
-        let found = watched_end(&rt, rt.alloc(), &words, length);
+        let found = watched_end(&rt, rt.alloc(), &words, length, 16_777_217);
         assert_eq!(rt; found, (wanted_end(length), true), "at {length}");
+    }
+}
+
+// The same of an audit, whose bytes are the script, for no line parts them.
+#[test]
+fn an_audit_reads_more(rt: HostRuntime) {
+    let words = one_word(rt.alloc(), "audit").expect(&rt, "words");
+    for (length, wanted) in [
+        (16_777_217, Status::TooLong),
+        (1_073_741_824, Status::TooLong),
+        (1_073_741_825, Status::LongInput),
+    ] {
+        let found = watched_end(&rt, rt.alloc(), &words, length, 1_073_741_825);
+        assert_eq!(rt; found, (wanted, true), "at {length}");
     }
 }
 

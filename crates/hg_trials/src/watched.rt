@@ -4,17 +4,15 @@ ghost use Rattle.std.specs.Prelude.{None};
 
 use hg_base::{Failed, Piece, Sink, Source, ToldBytes};
 
-// One byte more than a script may have.
-const MOST: usize = 16_777_217;
-
 // The least buffer, where as much may still come.
 const LEAST: usize = 4_096;
 
-/// Gives so many bytes `1`, and notes whether each buffer was as long as it has to be: at least 4,096 bytes and at most as many
+/// Gives so many bytes `1`, of which at most so many may be read, and notes whether each buffer was as long as it has to be: at least 4,096 bytes and at most as many
 /// as may still be read, and exactly that many where these are fewer. Behind an empty answer nothing may be asked.
 #[derive(Drop)]
 pub(crate) struct WatchedSource {
     left: usize,
+    most: usize,
     count: usize,
     given: ToldBytes,
     is_over: bool,
@@ -22,9 +20,10 @@ pub(crate) struct WatchedSource {
 }
 
 impl WatchedSource {
-    pub(crate) fn new(count: usize) -> WatchedSource {
+    pub(crate) fn new(count: usize, most: usize) -> WatchedSource {
         WatchedSource {
             left: count,
+            most,
             count: 0,
             given: ToldBytes::new(),
             is_over: false,
@@ -37,7 +36,7 @@ impl Source for WatchedSource {
     ghost flow = { λ s. record { given = s.given.bytes; is_over = s.is_over; left = None; faults = 0 } };
 
     fn read(&mut self, into: &mut [u8]) -> Result<usize, Failed> {
-        let missing = MOST.saturating_sub(self.count);
+        let missing = self.most.saturating_sub(self.count);
         let is_long = into.len() >= LEAST || into.len() == missing;
         if self.is_over || into.len() > missing || !is_long {
             self.is_well_asked = false;

@@ -1,4 +1,4 @@
-use Rattle.std.proofs.Common.{◌≡◌, subst}
+use Rattle.std.proofs.Common.{◌≡◌, rules, subst}
 use Rattle.std.specs.Prelude.{◌↔◌}
 use Rattle.hg_audit.specs.declared.verdict.Verdict.TheVariants.{Sound}
 use Rattle.hg_audit.specs.Verdict.{IsAudit, IsSoundText}
@@ -13,6 +13,7 @@ returns-clause-verdict c =
       script = c.part.result.0.now;
       text = text;
       parts = c.part.ensures;
+      short = search rules;
       valid = c.in_ok-script.ensures.valid;
       audit = subst (λ (s : Script). IsAudit s text verdict) c.in_ok-script.ensures.script c.in_ok-audit.ensures.verdict;
       sound = subst (λ (s : Script). (verdict ≡ Sound) ↔ IsSoundText s text) c.in_ok-script.ensures.script c.in_ok-audit.ensures.sound;

@@ -1,7 +1,7 @@
 use Rattle.std.proofs.Common.{map}
 use Rattle.std.specs.Prelude.{string_bytes}
 use Rattle.hg_streams.specs.Streams.{change_of}
-use Rattle.hg_run.proofs.Exactly.{bad_script, complete, exact, loaded, sound, too_long, usage}
+use Rattle.hg_run.proofs.Exactly.{bad_script, complete, exact, loaded, long_input, sound, too_long, usage}
 use Rattle.hg_run.proofs.steps.serve.Goals as goal
 
 pub returns-clause-sound : goal.returns-clause-sound
@@ -30,6 +30,7 @@ returns-clause-decided g c =
     record {
       complete = λ bytes script. complete words source sink bytes script c.outcome.result c.outcome.ensures.comes;
       bad_script = λ bytes script line code. bad_script words source sink bytes script line code c.outcome.result c.outcome.ensures.comes;
-      too_long = λ bytes. too_long words source sink bytes c.outcome.result c.outcome.ensures.comes;
+      too_long = λ bytes script. too_long words source sink bytes script c.outcome.result c.outcome.ensures.comes;
+      long_input = λ bytes. long_input words source sink bytes c.outcome.result c.outcome.ensures.comes;
       loaded = loaded words source sink c.outcome.result c.outcome.ensures.comes;
     }

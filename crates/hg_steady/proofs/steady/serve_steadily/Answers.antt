@@ -27,7 +27,10 @@ returns-clause-bad_script g c script line code within short refused = c.serve.en
     (gives c.args.source.now c.serve.new.source) short refused
 
 pub returns-clause-too_long : goal.returns-clause-too_long
-returns-clause-too_long g c reading long = c.serve.ensures.decided.too_long c.args.source.now.left reading (gives c.args.source.now c.serve.new.source) long
+returns-clause-too_long g c script within long = c.serve.ensures.decided.too_long c.args.source.now.left script within (gives c.args.source.now c.serve.new.source) long
+
+pub returns-clause-long_input : goal.returns-clause-long_input
+returns-clause-long_input g c asked long = c.serve.ensures.decided.long_input c.args.source.now.left asked (gives c.args.source.now c.serve.new.source) long
 
 pub returns-clause-loaded : goal.returns-clause-loaded
 returns-clause-loaded g c making = c.serve.ensures.decided.loaded making never
