@@ -305,7 +305,7 @@ module _ (words : List (List ℕ)) (source : Change Inflow) (sink : Change Outfl
   long_input TooLong comes asked gives long =
       let is = same_asked words (λ task. task ≡ audits) (λ task. GivesLongScript task source) asked comes in
       let l = subst (λ (task : Task). GivesLongScript task source) is comes.holds in
-      absurd (omega (arith, ap length (reads_all source bytes l.0 gives l.1.0), l.1.0.short, long))
+      absurd (omega (arith, ap length (reads_all source bytes l.0 gives l.1), l.1.short, long))
   long_input LongInput comes asked gives long = inl refl
   long_input NoMemory comes asked gives long = inr refl
   long_input Spent comes asked gives long = absurd comes
