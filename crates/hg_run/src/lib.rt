@@ -21,7 +21,8 @@
 //! that fits has this text (`text_determines_what_was_printed`). For `load` the text is that of the totals of such a value, for the
 //! script of the seed. For `audit` it says whether the text after the script is sound for it, and if not, what fails first. For `dump` the
 //! value is sound next to a reader of all tables at a snapshot, and two dumps of the history that it prints follow: at that snapshot, and
-//! at the end. That reports are those of rounds made with the buckets and the `--long` of the words, the drivers say, and `serve` does not.
+//! at the end. Of each such value one list of steps of `hg_core` printed all replies, all reports and the totals, over the buckets and with
+//! the `--long` of the words (`PrintsOneRun`).
 //!
 //! Reading the source, writing to the sink and the statuses are in `hg_streams`. Bytes that are refused go back to the source
 //! (`give_back`).
