@@ -229,8 +229,9 @@ pub fn serve<R: Threads + Wait + Sync, So: Source, Si: Sink, G: Gate + Sync>(
     sink: &mut Si,
     gate: &G,
 ) -> Status
-    // The sink took the whole text of a printed value that is sound for the script in the source, with the settings that the words ask
-    // for; or the text of the totals of one that is sound for the script of the seed; or the verdict on the text that follows the script.
+    // The sink took the whole text of a printed value that is sound for the script in the source, and that one list of steps printed, with
+    // the settings that the words ask for; or the text of the totals of one for the script of the seed; or the verdict on the text that
+    // follows the script.
     ensures sound { result ≡ Status.Done → AsksFor (map string_bytes words.now) (λ task.
         WritesAll task (change_of So.flow source.old source.new)
         (change_of Si.flow sink.old sink.new)) }
