@@ -30,6 +30,29 @@ def length_is_limited():
     expect("the reason", wanted, why)
 
 
+def end_of_audit(count):
+    """Returns how an audit of so many bytes `1` ends that are made while it reads: its exit status, and what it says."""
+    process = subprocess.Popen([PROGRAM, "audit"], stdin=subprocess.PIPE, stdout=subprocess.PIPE, stderr=subprocess.PIPE)
+    piece = b"1" * (1 << 20)
+    try:
+        for _ in range(count >> 20):
+            process.stdin.write(piece)
+        process.stdin.write(piece[: count % len(piece)])
+    except BrokenPipeError:
+        pass
+    text, said = process.communicate(timeout=SECONDS)
+    expect("standard output", b"", text)
+    return f"{process.returncode} {shown(said)}"
+
+
+def audits_are_limited():
+    """An input of as many bytes as an audit may have, whose script is too long, and of one more."""
+    why = "script longer than 16777216 bytes/the script is what comes before the line ====, and may have 16777216 bytes/"
+    expect("the exit status and standard error", f"6 {why}", end_of_audit(MOST_AUDIT_BYTES))
+    why = "input longer than 1073741824 bytes/script and output together may have 1073741824 bytes; divide the script, and audit each output/"
+    expect("the exit status and standard error", f"9 {why}", end_of_audit(MOST_AUDIT_BYTES + 1))
+
+
 def records_are_limited():
     """As many records as a script may have, each of which is answered, and one more."""
     script = b"1,begin\n1,commit\n" * (MOST_RECORDS // 2)
@@ -253,6 +276,7 @@ def scripts_by_chance():
 
 TESTS = (
     (length_is_limited,),
+    (audits_are_limited,),
     (records_are_limited,),
     (memory_runs_out,),
     (a_text_cannot_be_written, "replay", "live"),
