@@ -1,5 +1,5 @@
 -- What a pass noted from its first round on is what a state reports that has its journal and its visits.
-use Rattle.std.proofs.Common.{◌≡◌, ℕ, suc, ◌+◌, ◌<◌, ◌≤◌, List, [], ◌∷◌, ◌++◌, inl, inr, length, map, refl, sym, ap, ◌∙◌, subst, arith, append_assoc, append-nil}
+use Rattle.std.proofs.Common.{◌≡◌, ℕ, suc, ◌+◌, ◌-◌, ◌^◌, ◌<◌, ◌≤◌, List, [], ◌∷◌, ◌++◌, inl, inr, length, map, refl, sym, ap, ◌∙◌, subst, arith, append_assoc, append-nil}
 use Rattle.hg_base.specs.declared.report.Kind.{Kind}
 use Rattle.hg_base.specs.declared.report.Kind.TheVariants.{Group, Table, Interval}
 use Rattle.hg_base.specs.declared.report.Sweep.{Sweep}
@@ -108,6 +108,9 @@ module _ (kind : Kind) (long : ℕ) (s : CoreState) (v w : View) (sweeps : List 
       let g : n ≡ m = sym (ap (λ (l : List Sweep). length l) reports_are) ∙ many_same (λ (round : Round). round_report kind (visits_of round k.visits) round) printed in
       omega arith
 
+  later_from : (pass w).round ≡ 0 + length printed
+  later_from = let n : ℕ = length printed in let m : ℕ = (pass w).round in let e : m ≡ n = last_is in omega arith
+
   visits_are : s.visits (pass_of kind) ≡ h.visits ++ k.visits
   visits_are = h.more ∙ ap (λ l. h.visits ++ l) (k.more ∙ (ap (λ (p : PassPart). k.visits ++ p.visits) new ∙ append-nil k.visits))
 
@@ -124,10 +127,12 @@ module _ (kind : Kind) (long : ℕ) (s : CoreState) (v w : View) (sweeps : List 
   has_reported = record {
     printed = printed;
     others = others;
+    begins = ap up_to_mark journal_is ∙ (ends_same k.notes h.notes h.begins ∙ k.begins);
     rounds = ap rounds_in journal_is ∙ both_rounds 0 k.notes h.notes h.begins;
     reports = map_same (λ (round : Round). round_report kind (visits_of round (s.visits (pass_of kind))) round) (λ (round : Round). round_report kind (visits_of round k.visits) round) printed
         (each_keeps (λ (round : Round). visits_of round (s.visits (pass_of kind)) ≡ visits_of round k.visits) _ (λ round e. ap (λ vs. round_report kind vs round) e) printed each_same) ∙ reports_are;
     rule = subst (λ (p : PassPart). Each (TriesBy kind long) (rounds_after p.round k.notes)) new k.rule;
+    rest = subst (λ n. Each (TriesBy kind (2 ^ 64 - 1)) (rounds_after n h.notes)) later_from h.rule;
     clean = each_both (λ (round : Round). visits_of round (s.visits (pass_of kind)) ≡ visits_of round k.visits) (λ (round : Round). SawCleans kind s.buckets w.sights round (visits_of round k.visits)) _
         (λ round e c. subst (Cleans kind s.buckets s.history round) (sym e) (cleans_of kind s w.sights round (visits_of round k.visits) h.seen c)) printed
         each_same (subst (λ (p : PassPart). Each (λ (round : Round). SawCleans kind s.buckets w.sights round (visits_of round k.visits)) (rounds_after p.round k.notes)) new k.clean);

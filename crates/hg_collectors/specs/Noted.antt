@@ -1,5 +1,5 @@
 -- What rounds of a collector note in the journal of its pass, and that its reports are read from there and from its visits.
-use Rattle.std.specs.Prelude.{◌≡◌, ℕ, suc, ◌+◌, ◌<◌, List, [], ◌∷◌, ◌++◌, length, map, ⊤}
+use Rattle.std.specs.Prelude.{◌≡◌, ℕ, suc, ◌+◌, ◌-◌, ◌^◌, ◌<◌, List, [], ◌∷◌, ◌++◌, length, map, ⊤}
 use Rattle.hg_base.specs.declared.report.Kind.{Kind}
 use Rattle.hg_base.specs.declared.report.Kind.TheVariants.{Group, Table, Interval}
 use Rattle.hg_base.specs.declared.report.Sweep.{Sweep}
@@ -60,11 +60,12 @@ pub record AreNoted (kind : Kind) (long buckets : ℕ) (v : View) (sweeps : List
   pub rule : Each (TriesBy kind long) (rounds_after (pass v).round notes)
   pub clean : Each (λ round. SawCleans kind buckets w.sights round (visits_of round visits)) (rounds_after (pass v).round notes)
 
--- A state has the journal and the visits of the pass of that collector, and perhaps those of later rounds besides. What the pass has seen
--- is so there.
+-- A state has the journal and the visits of the pass of that collector, and perhaps those of later rounds besides, which try no snapshot
+-- unless it is 2^64 - 1 commit numbers old. What the pass has seen is so there.
 pub record HasNoted (kind : Kind) (s : CoreState) (w : View) : Type 0 where
   pub notes : List PassEntry
   pub begins : up_to_mark notes ≡ []
+  pub rule : Each (TriesBy kind (2 ^ 64 - 1)) (rounds_after (pass w).round notes)
   pub journal : (s.pass (pass_of kind)).journal ≡ (pass w).journal ++ notes
   pub visits : List Visit
   pub later : Each (λ visit. (pass w).round < visit.round) visits

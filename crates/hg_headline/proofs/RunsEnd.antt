@@ -177,6 +177,7 @@ module _ (sessions more buckets quota long : ℕ) (script : Script) (logs : ℕ 
     logs = logs;
     told = told;
     closed = subst (λ (s : CoreState). (j : ℕ) → IsSession sessions j → Closes (logs j) (s.log j)) (sym h.reached.leads) h.closed;
+    passes = subst (λ (s : CoreState). s.passes ≡ 3) (sym h.reached.leads) h.passes;
     reported = subst (λ (s : CoreState). (kind : Kind) → HasReported kind long s (reports_in kind lines)) (sym h.reached.leads) h.reported;
     counted = subst (λ (s : CoreState). AreTotalsAt s totals) (sym h.reached.leads) h.counted;
   }

@@ -1,11 +1,11 @@
 -- Three lists of steps may happen in their turn, and leave what they say.
-use Rattle.std.proofs.Common.{◌≡◌, ℕ, ◌<◌, ◌≤◌, List, [], ◌∷◌, inl, refl, subst, sym, arith}
+use Rattle.std.proofs.Common.{◌≡◌, ℕ, ◌≤◌, List, [], ◌∷◌, inl, refl, subst, arith}
 use Rattle.std.specs.Prelude.{◌==◌, IsTrue}
 use Rattle.std.specs.List.{list_any}
 use Rattle.hg_base.specs.declared.scope.Scope.TheVariants.{All, Declared}
 use Rattle.hg_base.specs.declared.value.Value.{Value}
 use Rattle.hg_core.specs.Contents.{bucket_of}
-use Rattle.hg_core.specs.Worked.{open_write, two_versions, moved_snapshot}
+use Rattle.hg_core.specs.Worked.{open_write, two_versions}
 use Rattle.hg_core.proofs.Runs.{may_append}
 use Rattle.hg_core.proofs.WorkedBegins.{open_write_runs}
 use Rattle.hg_core.proofs.WorkedMoves.{two_versions_runs, moved_snapshot_runs}

@@ -1,5 +1,5 @@
 -- One run of the state machine that prints a text: one list of steps, whose logs give the replies and whose journals give the reports.
-use Rattle.std.specs.Prelude.{◌≡◌, ◌⊎◌, ℕ, suc, ◌+◌, ◌-◌, ◌<◌, ◌==◌, ◌&&◌, not, nat_le, Bool, true, Option, Some, None, List, [], ◌∷◌, ◌++◌, length, map, filter, filter_map, IsSome, ⊤}
+use Rattle.std.specs.Prelude.{◌≡◌, ◌⊎◌, ℕ, suc, ◌+◌, ◌-◌, ◌^◌, ◌<◌, ◌==◌, ◌&&◌, not, nat_le, Bool, true, Option, Some, None, List, [], ◌∷◌, ◌++◌, length, map, filter, filter_map, IsSome, ⊤}
 use Rattle.hg_base.specs.declared.rid.Rid.{Rid}
 use Rattle.hg_base.specs.declared.report.Kind.{Kind}
 use Rattle.hg_base.specs.declared.report.Kind.TheVariants as kinds
@@ -167,14 +167,16 @@ pass_of kinds.Group = 0
 pass_of kinds.Table = 1
 pass_of kinds.Interval = 2
 
--- The pass of that collector made the rounds of these reports, and none between them, by the rule of its kind; and then, after all
--- sessions were over, others that print nothing.
+-- The pass of that collector made the rounds of these reports, and none between them, by the rule of its kind; and then others that print
+-- nothing, which try no snapshot unless it is 2^64 - 1 commit numbers old. Before its first round it noted nothing.
 pub record HasReported (kind : Kind) (long : ℕ) (s : CoreState) (sweeps : List Sweep) : Type 0 where
   pub printed : List Round
   pub others : List Round
+  pub begins : up_to_mark (s.pass (pass_of kind)).journal ≡ []
   pub rounds : rounds_in (s.pass (pass_of kind)).journal ≡ printed ++ others
   pub reports : map (λ round. round_report kind (visits_of round (s.visits (pass_of kind))) round) printed ≡ sweeps
   pub rule : Each (TriesBy kind long) printed
+  pub rest : Each (TriesBy kind (2 ^ 64 - 1)) others
   pub clean : Each (λ round. Cleans kind s.buckets s.history round (visits_of round (s.visits (pass_of kind)))) printed
 
 -- ---- the run
@@ -201,6 +203,7 @@ pub record HasEnded (sessions more buckets quota long : ℕ) (script : Script) (
   pub state : CoreState
   pub reached : LeadsTo (opened (more + sessions) (length script.tables) buckets 3 quota) state
   pub closed : (j : ℕ) → IsSession sessions j → Closes (logs j) (state.log j)
+  pub passes : state.passes ≡ 3
   pub reported : (kind : Kind) → HasReported kind long state (reports_in kind lines)
   pub counted : AreTotalsAt state totals
 
@@ -215,6 +218,8 @@ pub record IsOneRun (sessions more buckets quota long : ℕ) (script : Script) (
   pub told : (j : ℕ) → IsSession sessions j → Tells buckets (λ r line. ⊤) [] None (of_session j script.records) (lines_of j lines) (logs j)
   -- and what is open then is rolled back without a line
   pub closed : (j : ℕ) → IsSession sessions j → Closes (logs j) ((run (opened (more + sessions) (length script.tables) buckets 3 quota) steps).log j)
+  -- each pass that was split off is united with one of the three
+  pub passes : (run (opened (more + sessions) (length script.tables) buckets 3 quota) steps).passes ≡ 3
   -- the reports of each kind are those of the rounds of its collector's pass
   pub reported : (kind : Kind) → HasReported kind long (run (opened (more + sessions) (length script.tables) buckets 3 quota) steps) (reports_in kind lines)
   pub counted : AreTotalsAt (run (opened (more + sessions) (length script.tables) buckets 3 quota) steps) totals

@@ -1,6 +1,6 @@
 -- Three lists of steps of two sessions, and what each of them leaves: a conflict, a collector between a begin and a read, and a snapshot
 -- that is moved. They go on from lists of hg_core, where each step is told in words.
-use Rattle.std.specs.Prelude.{◌≡◌, ℕ, List, [], ◌∷◌, ◌++◌, Some, true, false, pos}
+use Rattle.std.specs.Prelude.{◌≡◌, List, [], ◌∷◌, ◌++◌, Some, true, false, pos}
 use Rattle.hg_base.specs.declared.image.Image.{Image}
 use Rattle.hg_base.specs.declared.line.Answer.TheVariants.{OpenBy}
 use Rattle.hg_base.specs.declared.report.Kind.TheVariants.{Interval}

@@ -21,6 +21,9 @@
 //! `proofs/Stepping` has a lemma on one in an open transaction, and `proofs/Singles` on one that is a transaction of its own. They
 //! say what a caller must know of a log. `HasRun` is what a run knows once its threads are joined: of each session only its log and
 //! its lines, and of each collector its reports. `replay_is_sound` and `run_is_sound` are the headline.
+//!
+//! A text is also that of one run of the machine (`IsOneRun`). Where the list of steps is known that ends with the logs and the journals
+//! (`HasEnded`), `one_run_is_printed` reads lines from the logs, reports from the journals and totals from the counters.
 #![tactic(auto)]
 
 mod laws;

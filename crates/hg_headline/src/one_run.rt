@@ -1,10 +1,9 @@
 //! Laws of the list of steps that printed a text, each the contract of a function with no body.
 
-ghost use Rattle.std.specs.Prelude.{ℕ, ◌≡◌, ◌<◌, ◌≤◌, ◌++◌, List, [], None, ⊤};
+ghost use Rattle.std.specs.Prelude.{ℕ, ◌≡◌, ◌<◌, ◌++◌, List, [], None, ⊤};
 ghost use Rattle.std.specs.List.{flat_map};
 ghost use Rattle.hg_base.specs.declared.line.Line.{Line};
 ghost use Rattle.hg_base.specs.declared.line.Totals.{Totals};
-ghost use Rattle.hg_base.specs.declared.statement.Record.{Record};
 ghost use Rattle.hg_base.specs.Lists.{Each, numbers_from};
 ghost use Rattle.hg_base.specs.Script.{Script};
 ghost use Rattle.hg_base.specs.Shape.{HasShape};

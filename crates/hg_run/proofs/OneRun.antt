@@ -1,5 +1,5 @@
 -- What a driver made of a script is what one list of steps printed.
-use Rattle.std.proofs.Common.{◌≡◌, ℕ, suc, ◌+◌, ◌<◌, ◌≤◌, List, [], ◌∷◌, ◌++◌, length, None, refl, sym, ap, ◌∙◌, subst, arith}
+use Rattle.std.proofs.Common.{◌≡◌, ℕ, ◌+◌, ◌≤◌, List, [], ◌++◌, length, None, sym, ap, ◌∙◌, subst, arith}
 use Rattle.std.specs.Prelude.{⊤}
 use Rattle.std.specs.List.{flat_map}
 use Rattle.std.specs.declared.alloc.Global.{Global}
@@ -16,7 +16,6 @@ use Rattle.hg_core.specs.Phases.{IsSession}
 use Rattle.hg_core.specs.Reading.{Follows, Tells}
 use Rattle.hg_core.specs.State.{CoreState, opened}
 use Rattle.hg_core.specs.Steps.{LeadsTo}
-use Rattle.hg_dump.specs.Reader.{reader_of}
 use Rattle.hg_headline.specs.Counted.{Closes}
 use Rattle.hg_headline.specs.OneRun.{HasEnded, IsOneRun, reports_in}
 use Rattle.hg_headline.specs.Ran.{LeavesGc}
@@ -36,8 +35,8 @@ use Rattle.hg_collectors.specs.Noted.{AreNoted}
 use Rattle.hg_collectors.specs.Rounding.{IsRoundBy, AreRounds}
 use Rattle.hg_collectors.proofs.AllNoted.{rounds_noted}
 use Rattle.hg_collectors.proofs.OneRun.{has_reported}
-use Rattle.hg_run.specs.Closed.{EndsWith}
-use Rattle.hg_run.specs.Driven.{HasDrivenAll, HasDrivenOne, IsOpenedWith, sessions_in}
+use Rattle.hg_run.specs.Closed.{StepsEnd}
+use Rattle.hg_run.specs.Driven.{HasDrivenAll, HasDrivenOne, sessions_in}
 use Rattle.hg_run.specs.Reader.{list_with}
 use Rattle.hg_run.proofs.Opened.{log_else}
 use Rattle.hg_run.proofs.ToldRounds.{others, others_outside, told_rounds}
@@ -46,7 +45,7 @@ use Rattle.hg_run.proofs.ToldRounds.{others, others_outside, told_rounds}
 
 module _ (sessions more long : ℕ) (script : Script) (e : Engine) (before after : Collectors) (list : List Session) (lines : List Line) (totals : Totals)
     (many : (engine_sizes e).sessions ≡ more + sessions) (tables : (engine_sizes e).tables ≡ length script.tables)
-    (fresh : (kind : Kind) → pass (view_in kind before) ≡ new_pass) (t : EndsWith e list after totals) where
+    (fresh : (kind : Kind) → pass (view_in kind before) ≡ new_pass) (t : StepsEnd e list after totals) where
   abbrev z : Sizes
   z = engine_sizes e
 
@@ -60,6 +59,7 @@ module _ (sessions more long : ℕ) (script : Script) (e : Engine) (before after
     state = t.state;
     reached = subst (λ (c : CoreState). LeadsTo c t.state) starts t.reached;
     closed = λ j is. subst (Closes (logs j)) (λ i. sym t.logs i j) (closes j is);
+    passes = t.passes;
     reported = λ kind. has_reported kind long t.state (view_in kind before) (view_in kind after) (reports_in kind lines) (fresh kind)
         (subst (λ b. AreNoted kind long b (view_in kind before) (reports_in kind lines) (view_in kind after)) (sym t.buckets)
         (rounds_noted kind z long (view_in kind before) (view_in kind after) (reports_in kind lines) (made kind))) (t.noted kind);
@@ -70,7 +70,7 @@ module _ (sessions more long : ℕ) (script : Script) (e : Engine) (before after
 
 pub replay_one_run : (long : ℕ) (script : Script) (e : Engine) (before after : Collectors) (old new : List Session) (lines : List Line) (totals : Totals) →
     (engine_sizes e).sessions ≡ sessions_in script → (engine_sizes e).tables ≡ length script.tables → ((j : ℕ) → logs_of old j ≡ []) →
-    ((kind : Kind) → pass (view_in kind before) ≡ new_pass) → HasDrivenOne (engine_sizes e) long script.records old before lines new after → EndsWith e new after totals →
+    ((kind : Kind) → pass (view_in kind before) ≡ new_pass) → HasDrivenOne (engine_sizes e) long script.records old before lines new after → StepsEnd e new after totals →
     IsOneRun (sessions_in script) 0 (engine_sizes e).buckets (engine_sizes e).quota long script lines totals
 replay_one_run long script e before after old new lines totals many tables none fresh d t =
     let z = engine_sizes e in
@@ -85,7 +85,7 @@ replay_one_run long script e before after old new lines totals many tables none 
 module _ (more long rounds : ℕ) (script : Script) (e : Engine) (before after : Collectors) (old new ended : List Session) (all : List Line) (totals : Totals)
     (sizes : (engine_sizes e).sessions ≡ more + sessions_in script) (many : length old ≡ sessions_in script) (tables : (engine_sizes e).tables ≡ length script.tables)
     (none : (j : ℕ) → logs_of old j ≡ []) (fresh : (kind : Kind) → pass (view_in kind before) ≡ new_pass)
-    (d : HasDrivenAll (engine_sizes e) long rounds script.records old before all new after) (t : EndsWith e ended after totals)
+    (d : HasDrivenAll (engine_sizes e) long rounds script.records old before all new after) (t : StepsEnd e ended after totals)
     (same : (j : ℕ) → IsSession (sessions_in script) j → logs_of ended j ≡ logs_of new j) where
   abbrev sizes_of : Sizes
   sizes_of = engine_sizes e

@@ -1,18 +1,15 @@
 -- Where all sessions and all passes went to one pass, which settled and counted, one list of steps ends with what they had.
-use Rattle.std.proofs.Common.{◌≡◌, ℕ, ◌+◌, ◌-◌, ◌^◌, ◌<◌, List, [], ◌∷◌, ◌++◌, inl, inr, refl, sym, ap, ◌∙◌, subst, arith, append-nil}
+use Rattle.std.proofs.Common.{◌≡◌, ℕ, ◌+◌, ◌-◌, ◌^◌, ◌<◌, List, [], ◌∷◌, ◌++◌, refl, sym, ap, ◌∙◌, subst, arith, append-nil}
 use Rattle.hg_base.specs.declared.line.Totals.{Totals}
 use Rattle.hg_base.specs.declared.report.Kind.{Kind}
 use Rattle.hg_base.specs.declared.report.Kind.TheVariants.{Group, Table, Interval}
 use Rattle.hg_base.specs.declared.report.Report.{Report}
-use Rattle.hg_base.specs.declared.report.Sweep.{Sweep}
 use Rattle.hg_base.specs.Lists.{Each}
 use Rattle.hg_base.specs.Reports.{sweep_of}
-use Rattle.hg_core.specs.declared.journal.PassEntry.{PassEntry}
 use Rattle.hg_core.specs.declared.visit.Visit.{Visit}
 use Rattle.hg_core.specs.State.{CoreState}
-use Rattle.hg_headline.specs.OneRun.{pass_of}
+use Rattle.hg_headline.specs.OneRun.{pass_of, rounds_after, TriesBy}
 use Rattle.hg_rule.specs.declared.view.PassPart.{PassPart}
-use Rattle.hg_rule.specs.declared.view.Sight.{Sight}
 use Rattle.hg_rule.specs.declared.view.Sizes.{Sizes}
 use Rattle.hg_rule.specs.declared.view.View.{View}
 use Rattle.hg_rule.specs.Facts.{IsAmong, Known, StartsWith}
@@ -22,11 +19,11 @@ use Rattle.hg_rounds.specs.TableCollectors.{Cuts}
 use Rattle.hg_session.specs.declared.engine.Engine.{Engine}
 use Rattle.hg_session.specs.declared.session.Session.{Session}
 use Rattle.hg_session.specs.Engines.{engine_sizes}
-use Rattle.hg_session.specs.Ended.{logs_in, visits_in}
+use Rattle.hg_session.specs.Ended.{visits_in}
 use Rattle.hg_session.specs.OneRun.{journals_in}
 use Rattle.hg_session.specs.Settled.{KeepsOthers}
 use Rattle.hg_session.specs.Visited.{AreTotals}
-use Rattle.hg_session.proofs.Leaving.{logs_after}
+use Rattle.hg_session.proofs.Leaving.{logs_after, passes_after}
 use Rattle.hg_collectors.specs.declared.collectors.Collectors.{Collectors}
 use Rattle.hg_collectors.specs.Collecting.{view_in}
 use Rattle.hg_collectors.specs.Noted.{AreNoted, HasNoted}
@@ -34,9 +31,9 @@ use Rattle.hg_collectors.proofs.AllNoted.{rounds_noted}
 use Rattle.hg_collectors.proofs.Among.{by_kind, of_among}
 use Rattle.hg_collectors.proofs.Driving.{swept_of}
 use Rattle.hg_collectors.proofs.Meetings.{met_none}
-use Rattle.hg_run.specs.Closed.{AreAllThere, EndsWith}
+use Rattle.hg_run.specs.Closed.{AreAllThere, StepsEnd}
 use Rattle.hg_run.proofs.Begun.{each_among}
-use Rattle.hg_run.proofs.Brought.{brought_come, there_journals, there_logs, there_own, there_visits}
+use Rattle.hg_run.proofs.Brought.{brought_come, there_journals, there_logs, there_own, there_three, there_visits}
 
 module _ (e : Engine) (list : List Session) (collectors : Collectors) (x v : View) (report : Report) (there : AreAllThere e list collectors x) (has : HasPass x) (others : KeepsOthers x v)
     (cuts : Cuts (engine_sizes e) (2 ^ 64 - 1) x report v) (totals : Totals) (a : AreTotals (engine_sizes e) v totals) where
@@ -73,6 +70,7 @@ module _ (e : Engine) (list : List Session) (collectors : Collectors) (x v : Vie
   noted_else kind other visits journal = record {
     notes = [];
     begins = refl;
+    rule = tt;
     journal = journal_else (pass_of kind) other ∙ (journal ∙ sym (append-nil (pass (view_in kind collectors)).journal));
     visits = [];
     later = tt;
@@ -84,6 +82,7 @@ module _ (e : Engine) (list : List Session) (collectors : Collectors) (x v : Vie
   noted_table = record {
     notes = settled.notes;
     begins = settled.begins;
+    rule = subst (λ (p : PassPart). Each (TriesBy Table (2 ^ 64 - 1)) (rounds_after p.round settled.notes)) own.1 settled.rule;
     journal = a.run.journals 1 ∙ (ap (journals_in v) (sym own.0) ∙ (others.own_journal ∙ (settled.journal ∙ ap (λ (p : PassPart). p.journal ++ settled.notes) own.1)));
     visits = settled.visits;
     later = subst (λ (p : PassPart). Each (λ (y : Visit). p.round < y.round) settled.visits) own.1 settled.later;
@@ -91,12 +90,13 @@ module _ (e : Engine) (list : List Session) (collectors : Collectors) (x v : Vie
     seen = known Table;
   }
 
-  pub ends_with : EndsWith e list collectors totals
+  pub ends_with : StepsEnd e list collectors totals
   ends_with = record {
     state = s;
     reached = a.run.reached;
     buckets = a.run.sized.buckets;
     logs = a.run.logs ∙ (logs_after z x v (2 ^ 64 - 1) report has cuts ∙ there_logs e list collectors x there);
+    passes = a.run.passes ∙ (passes_after z x v (2 ^ 64 - 1) report has cuts ∙ there_three e list collectors x there);
     noted = by_kind (λ kind. HasNoted kind s (view_in kind collectors))
         (noted_else Group (λ q. absurd (omega (arith, q))) (λ i. there_visits e list collectors x there i 0) (λ i. there_journals e list collectors x there i 0))
         noted_table

@@ -62,11 +62,12 @@ pub record AreAllThere (e : Engine) (list : List Session) (collectors : Collecto
   pub many : length list ≡ (engine_sizes e).sessions
 
 -- One list of steps ends with the logs of these sessions, with all that the collectors noted, and with these totals.
-pub record EndsWith (e : Engine) (list : List Session) (collectors : Collectors) (totals : Totals) : Type 0 where
+pub record StepsEnd (e : Engine) (list : List Session) (collectors : Collectors) (totals : Totals) : Type 0 where
   pub state : CoreState
   pub reached : LeadsTo (new_state (engine_sizes e)) state
   pub buckets : state.buckets ≡ (engine_sizes e).buckets
   pub logs : state.log ≡ logs_of list
+  pub passes : state.passes ≡ 3
   pub noted : (kind : Kind) → HasNoted kind state (view_in kind collectors)
   pub counted : AreTotalsAt state totals
 
@@ -80,4 +81,4 @@ pub record IsClosedBy (e : Engine) (list : List Session) (collectors : Collector
   pub groups : (kind : Kind) (n : ℕ) → SawGroups n (view_in kind collectors).sights → n ≤ length history
   pub began : (kind : Kind) → Each (BeganIn (logs_of list)) (view_in kind collectors).events
   pub counted : AreTotalsBy (engine_sizes e).sessions history (logs_of list) (λ kind. removed_of kind collectors) totals
-  pub run : EndsWith e list collectors totals
+  pub run : StepsEnd e list collectors totals

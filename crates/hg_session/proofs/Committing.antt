@@ -90,6 +90,7 @@ module _ (v w u : View) (part : CommitPart) (own : HasPass v) (only : w.parts �
     sized = r.sized;
     logs = r.logs ∙ logs_come;
     history_is = r.history_is ∙ ap (λ (c : CommitPart). c.history.list) commit_comes;
+    passes = r.passes ∙ passes_come;
     visits = r.visits ∙ visits_come;
     journals = λ p. r.journals p ∙ journals_come p;
     seen = each_left (Known r.state) v.sights w.sights (subst (Each (Known r.state)) (ap (λ (t : View). t.sights) is) r.seen);

@@ -258,6 +258,7 @@ module _ (z : Sizes) (n : ℕ) (v : View) (k : IsBacked z n v) (ended : IsEnded 
     sized = k.sized;
     logs = logs_are;
     history_is = history_is;
+    passes = passes_are;
     visits = visits_are;
     journals = journals_are;
     seen = k.true_of.sights;

@@ -11,7 +11,7 @@ use Rattle.hg_rule.specs.declared.view.View.{View}
 use Rattle.hg_rule.specs.declared.view.Sizes.{Sizes}
 use Rattle.hg_rule.specs.Facts.{Known}
 use Rattle.hg_rule.specs.Keys.{pass_key}
-use Rattle.hg_rule.specs.Reading.{seek}
+use Rattle.hg_rule.specs.Reading.{seek, passes_in}
 use Rattle.hg_rule.specs.Rules.{IsSized, new_state}
 use Rattle.hg_rule.specs.Views.{pass_there}
 use Rattle.hg_session.specs.Ended.{logs_in, visits_in}
@@ -20,14 +20,15 @@ use Rattle.hg_session.specs.Ended.{logs_in, visits_in}
 abbrev pub journals_in : View → ℕ → List PassEntry
 journals_in v = λ p. (pass_there (seek (pass_key p) v.parts)).journal
 
--- There is one list of steps from a new board. It ends with this history and these totals, and with the logs, the visits and the journals
--- that the view has. What the view has seen is so at its end.
+-- There is one list of steps from a new board. It ends with this history and these totals, and with the logs, the passes, their visits and
+-- their journals that the view has. What the view has seen is so at its end.
 pub record EndsOneRun (z : Sizes) (v : View) (history : History) (totals : Totals) : Type 0 where
   pub state : CoreState
   pub reached : LeadsTo (new_state z) state
   pub sized : IsSized z state
   pub logs : state.log ≡ logs_in v
   pub history_is : state.history ≡ history
+  pub passes : state.passes ≡ passes_in v.parts
   pub visits : state.visits ≡ visits_in v
   pub journals : (p : ℕ) → (state.pass p).journal ≡ journals_in v p
   pub seen : Each (Known state) v.sights
