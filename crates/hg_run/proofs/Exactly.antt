@@ -14,7 +14,7 @@ use Rattle.hg_streams.specs.declared.limits.TheConstants.{MOST_AUDIT_BYTES}
 use Rattle.hg_streams.specs.declared.status.Status.{Status}
 use Rattle.hg_streams.specs.declared.status.Status.TheVariants.{Done, Usage, BadScript, ReadFault, WriteFault, TooLong, LongInput, NoMemory, Spent}
 use Rattle.hg_run.specs.Words.{AsksFor, IsMaking, IsReading, Task, audits, dumps, makes, reads, task_of}
-use Rattle.hg_streams.specs.Streams.{Change, FailsToRead, Gives, IsTooLong, ReadsAll, Took, WriteFailed}
+use Rattle.hg_streams.specs.Streams.{Change, Gives, IsTooLong, ReadsAll, Took, WriteFailed}
 use Rattle.hg_run.specs.Serving.{Answers, GivesLongInput, GivesLongScript, HoldsScript, IsScriptIn, Refuses, WritesAll, WritesExactly, WritesPart, Comes, IsUnlessNoMemory, most_bytes}
 use Rattle.hg_run.specs.Printing.{AreExact}
 use Rattle.hg_streams.specs.Parting.{AreParts}
